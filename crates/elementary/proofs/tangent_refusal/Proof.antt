@@ -1,0 +1,10 @@
+-- `elementary::tangent_refusal` meets its contract. Assumes nothing.
+use Rattle.double.specs.laws.Calls.{asks-nothing}
+use Rattle.elementary.proofs.tangent_refusal.Statement.{statement}
+use Rattle.elementary.proofs.tangent_refusal.Tie as tie
+
+returns : tie.Need-returns
+returns c = cc
+
+pub tangent-refusal-spec : {M : Type 1} → statement M
+tangent-refusal-spec = tie.close (tie.spec asks-nothing asks-nothing asks-nothing returns)

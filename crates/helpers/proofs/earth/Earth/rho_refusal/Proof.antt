@@ -1,0 +1,10 @@
+-- `helpers::earth::Earth::rho_refusal` meets its contract. Assumes nothing.
+use Rattle.double.specs.laws.Calls.{asks-nothing}
+use Rattle.helpers.proofs.earth.Earth.rho_refusal.Statement.{statement}
+use Rattle.helpers.proofs.earth.Earth.rho_refusal.Tie as tie
+
+returns : tie.Need-returns
+returns c = cc
+
+pub rho-refusal-spec : {M : Type 1} → statement M
+rho-refusal-spec = tie.close (tie.spec asks-nothing asks-nothing asks-nothing returns)
