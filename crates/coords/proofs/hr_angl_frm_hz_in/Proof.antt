@@ -1,0 +1,12 @@
+-- `coords::hr_angl_frm_hz_in` meets its contract. Assumes nothing.
+use Rattle.double.specs.laws.Calls.{asks-nothing}
+use Rattle.coords.specs.rules.Horizon.{hrAnglFrmHzIn}
+use Rattle.coords.proofs.hr_angl_frm_hz_in.Statement.{statement}
+use Rattle.coords.proofs.hr_angl_frm_hz_in.Tie as tie
+
+returns : tie.Need-returns
+unfolding hrAnglFrmHzIn
+returns c = cc
+
+pub hr-angl-frm-hz-in-spec : {M : Type 1} → statement M
+hr-angl-frm-hz-in-spec = tie.close (tie.spec asks-nothing asks-nothing asks-nothing asks-nothing asks-nothing asks-nothing asks-nothing asks-nothing asks-nothing returns)

@@ -1,0 +1,25 @@
+-- Refusals of a frame's arguments: the least number over all of them. A `steep` latitude goes into a tangent.
+use Prim.Native.Nat.{ℕ}
+use Rattle.quantity.specs.declared.Rad.{Rad}
+use Rattle.quantity.specs.rules.Refusal.{lower, angleRefusal, latitudeRefusal, steepRefusal}
+
+-- a longitude, a latitude and an obliquity
+abbrev pub frameRefusal : Rad → Rad → Rad → ℕ
+frameRefusal long lat oblq = lower (angleRefusal long) (lower (latitudeRefusal lat) (angleRefusal oblq))
+
+abbrev pub steepFrameRefusal : Rad → Rad → Rad → ℕ
+steepFrameRefusal long lat oblq = lower (angleRefusal long) (lower (steepRefusal lat) (angleRefusal oblq))
+
+-- an hour angle or an azimuth, a declination or an altitude, and the observer's latitude
+abbrev pub skyRefusal : Rad → Rad → Rad → ℕ
+skyRefusal long lat observer = lower (angleRefusal long) (lower (latitudeRefusal lat) (latitudeRefusal observer))
+
+abbrev pub steepSkyRefusal : Rad → Rad → Rad → ℕ
+steepSkyRefusal long lat observer = lower (angleRefusal long) (lower (steepRefusal lat) (latitudeRefusal observer))
+
+-- a longitude and a latitude
+abbrev pub placeRefusal : Rad → Rad → ℕ
+placeRefusal long lat = lower (angleRefusal long) (latitudeRefusal lat)
+
+abbrev pub steepPlaceRefusal : Rad → Rad → ℕ
+steepPlaceRefusal long lat = lower (angleRefusal long) (steepRefusal lat)

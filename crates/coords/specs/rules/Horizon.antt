@@ -1,0 +1,42 @@
+-- Equatorial and horizontal coordinates (Meeus, chapter 13): hour angle h, declination d, azimuth z, altitude a, observer's latitude p.
+use lib.Ieee.{Float}
+use Rattle.double.specs.rules.Operations.{_⊕_, _⊖_, _⊗_}
+use Rattle.quantity.specs.declared.Rad.{Rad}
+use Rattle.quantity.specs.rules.Answer.{Answer, unless}
+use Rattle.elementary.specs.rules.Sine.{sineOf, cosineOf, tangentOf}
+use Rattle.elementary.specs.rules.Arctangent.{arctangentIn}
+use Rattle.elementary.specs.rules.Arcsine.{arcsineIn}
+use Rattle.coords.specs.rules.Arguments.{skyRefusal, steepSkyRefusal}
+
+-- the arctangent's second argument: south is where it bears no minus sign
+abbrev pub southward : Rad → Rad → Rad → Float
+southward h d p = cosineOf h ⊗ sineOf p ⊖ tangentOf d ⊗ cosineOf p
+
+unfoldable pub azimuthIn : Rad → Rad → Rad → Answer Float
+azimuthIn h d p = arctangentIn (sineOf h) (southward h d p)
+
+abbrev pub azFrmEqRule : Rad → Rad → Rad → Answer Float
+azFrmEqRule h d p = unless (steepSkyRefusal h d p) (azimuthIn h d p)
+
+-- the sine of the altitude
+abbrev pub upward : Rad → Rad → Rad → Float
+upward h d p = sineOf p ⊗ sineOf d ⊕ (cosineOf p ⊗ cosineOf d) ⊗ cosineOf h
+
+unfoldable pub altitudeIn : Rad → Rad → Rad → Answer Float
+altitudeIn h d p = arcsineIn (upward h d p)
+
+abbrev pub altFrmEqRule : Rad → Rad → Rad → Answer Float
+altFrmEqRule h d p = unless (skyRefusal h d p) (altitudeIn h d p)
+
+unfoldable pub hrAnglFrmHzIn : Rad → Rad → Rad → Answer Float
+hrAnglFrmHzIn z a p = arctangentIn (sineOf z) (cosineOf z ⊗ sineOf p ⊕ tangentOf a ⊗ cosineOf p)
+
+abbrev pub hrAnglFrmHzRule : Rad → Rad → Rad → Answer Float
+hrAnglFrmHzRule z a p = unless (steepSkyRefusal z a p) (hrAnglFrmHzIn z a p)
+
+-- cos z twice, as in the crate
+unfoldable pub decFrmHzIn : Rad → Rad → Rad → Answer Float
+decFrmHzIn z a p = arcsineIn (sineOf p ⊗ sineOf a ⊖ cosineOf p ⊗ cosineOf z ⊗ cosineOf z)
+
+abbrev pub decFrmHzRule : Rad → Rad → Rad → Answer Float
+decFrmHzRule z a p = unless (skyRefusal z a p) (decFrmHzIn z a p)
