@@ -1,0 +1,10 @@
+-- What is proved of the root, for callers to cite. Theorems only.
+pub mod Numbers
+pub mod Doubles
+pub mod Patterns
+pub mod Whole
+pub mod Normal
+pub mod Unique
+pub mod Nearest
+pub mod Root
+pub mod Cases

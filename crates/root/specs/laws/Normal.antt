@@ -1,0 +1,111 @@
+-- The square of twice a root in normal form, d·2^54·4^e with d of 53 or 54 digits, and what `rootPattern` makes of it. Assumes nothing.
+use mathlib.Core.Path.{_≡_, refl, sym, ap, _∙_, subst}
+use mathlib.Core.Logic.{_⊎_, inl, inr}
+use mathlib.Core.Bool.{true}
+use Prim.Native.Nat.{ℕ, suc, _+_, _-_, _*_, _/_, _%_, _^_, _≤_, _<_}
+use native.Mathlib.Nat.{le-trans, le-of-eq, le-of-lt, lt-of-lt-of-le, lt-of-le-of-lt, mul-assoc, mul-comm, mul-left-comm, mul-div-cancel, mul-le-mul-left, mul-le-mul-right, mul-lt-mul-of-pos-right, mod-eq-of-lt}
+use native.Mathlib.Omega.{arith}
+use lib.Pow.{pow-add, pow-pos, pow-mono}
+use lib.Count.{leadingZeros}
+use lib.Dec.{T}
+use lib.Ieee.{Float, binary64, fits, size, lt, toBits}
+use lib.Ieee.Bits.{ofBits-toBits}
+use lib.Ieee.Digits.{size-lt, size-le}
+use Rattle.double.specs.rules.Operations.{bits}
+use Rattle.double.specs.rules.Operations as operations
+use Rattle.double.specs.rules.Sign.{isFinite}
+use Rattle.root.specs.rules.Count.{count}
+use Rattle.root.specs.rules.Nearest.{twiceRootSquared}
+use Rattle.root.specs.rules.Whole.{wholeRoot}
+use Rattle.root.specs.rules.Root.{rootPattern}
+use Rattle.root.specs.laws.Numbers.{less-or-not, pow-le-back}
+use Rattle.root.specs.laws.Patterns.{count-low, count-high, above-zero-pattern, Raised, raised}
+
+pub record Normal (w d e : ℕ) : Type 0 where
+  pub is : w ≡ d * 2 ^ 54 * 2 ^ (2 * e)
+  pub least : 2 ^ 52 ≤ d
+  pub most : d < 2 ^ 54 - 1
+  pub room : e < 2045
+
+-- ---- the exponent's half: an odd two goes to the digits
+
+pub normal : (d f : ℕ) → 2 ^ 52 ≤ d → d < 2 ^ 53 → 972 ≤ f → f < 3070 → Normal (d * 2 ^ (f + 52)) (d * 2 ^ (f % 2)) (f / 2 - 1)
+normal d f lo hi l h =
+    let k = f / 2 - 1 in
+    let once : 2 ^ (f % 2) ≤ 2 ^ 1 = pow-mono {i = f % 2} {j = 1} (omega arith) in
+    let least : d * 1 ≤ d * 2 ^ (f % 2) = mul-le-mul-left d (pow-pos (f % 2)) in
+    let most : d * 2 ^ (f % 2) ≤ d * 2 = mul-le-mul-left d once in
+    record {
+      is =
+          ap (λ (x : ℕ). d * 2 ^ x) (omega arith)
+          ∙ ap (λ (x : ℕ). d * x) (pow-add 2 (f % 2) (54 + 2 * k))
+          ∙ sym (mul-assoc d (2 ^ (f % 2)) (2 ^ (54 + 2 * k)))
+          ∙ ap (λ (x : ℕ). d * 2 ^ (f % 2) * x) (pow-add 2 54 (2 * k))
+          ∙ sym (mul-assoc (d * 2 ^ (f % 2)) (2 ^ 54) (2 ^ (2 * k)));
+      least = omega arith;
+      most = omega arith;
+      room = omega arith;
+    }
+
+-- ---- what the digits and the exponent of a pattern b stand for
+
+pub low-square : (b z : ℕ) → b < 2 ^ 52 → Raised b z → b * 2 ^ (z - 11) * 2 ^ (1024 - (z - 11) + 52) ≡ twiceRootSquared (bits b)
+low-square b z h r =
+    join b (z - 11) (1024 - (z - 11) + 52) 1076 (omega (arith, r .few)) ∙ ap (λ (x : ℕ). 2 ^ 1076 * x) (sym (count-low b h))
+  where
+    join : (d i j k : ℕ) → i + j ≡ k → d * 2 ^ i * 2 ^ j ≡ 2 ^ k * d
+    join d i j k e = mul-assoc d (2 ^ i) (2 ^ j) ∙ ap (λ (x : ℕ). d * x) (sym (pow-add 2 i j) ∙ ap (λ (x : ℕ). 2 ^ x) e) ∙ mul-comm d (2 ^ k)
+
+pub high-square : (b : ℕ) → 2 ^ 52 ≤ b → b < 2047 * 2 ^ 52 → (2 ^ 52 + b % 2 ^ 52) * 2 ^ (b / 2 ^ 52 + 1023 + 52) ≡ twiceRootSquared (bits b)
+high-square b l h =
+    let x = b / 2 ^ 52 in
+    let d = 2 ^ 52 + b % 2 ^ 52 in
+    ap (λ (k : ℕ). d * 2 ^ k) (split x (omega arith))
+    ∙ ap (λ (y : ℕ). d * y) (pow-add 2 1076 (x - 1))
+    ∙ mul-left-comm d (2 ^ 1076) (2 ^ (x - 1))
+    ∙ ap (λ (y : ℕ). 2 ^ 1076 * y) (sym (count-high b l h))
+  where
+    split : (x : ℕ) → 0 < x → x + 1023 + 52 ≡ 1076 + (x - 1)
+    split x n = omega arith
+
+-- every finite double above zero has the form
+has-normal : (b : ℕ) → 0 < b → b < 2047 * 2 ^ 52 → (d : ℕ) × (e : ℕ) × Normal (twiceRootSquared (bits b)) d e
+has-normal b p h = go (less-or-not b (2 ^ 52))
+  where
+    go : (b < 2 ^ 52) ⊎ (2 ^ 52 ≤ b) → (d : ℕ) × (e : ℕ) × Normal (twiceRootSquared (bits b)) d e
+    go (inl l) =
+        let z = leadingZeros 64 b in
+        let r : Raised b z = raised b p l in
+        (_, _, rw (low-square b z l r) at (normal (b * 2 ^ (z - 11)) (1024 - (z - 11)) (r .least) (r .most) (omega arith) (omega arith)))
+    go (inr l) = (_, _, rw (high-square b l h) at (normal (2 ^ 52 + b % 2 ^ 52) (b / 2 ^ 52 + 1023) (omega arith) (omega arith) (omega arith) (omega arith)))
+
+pub above-zero-normal : (x : Float) → T (fits binary64 x) → isFinite x ≡ true → lt operations.zero x ≡ true → (d : ℕ) × (e : ℕ) × Normal (twiceRootSquared x) d e
+above-zero-normal x f i l =
+    let p = above-zero-pattern x f i l in
+    rw (ofBits-toBits binary64 x f) at (has-normal (toBits binary64 x) (p .0) (p .1))
+
+-- ---- the pattern
+
+module _ {w d e : ℕ} (n : Normal w d e) where
+  places : (size w - 107) / 2 ≡ e
+  places =
+      let p = 2 ^ (2 * e) in
+      let below-top : d * 2 ^ 54 < 2 ^ 108 = omega (arith, n .most) in
+      let lo : 2 ^ (106 + 2 * e) ≤ w = le-trans (le-of-eq (pow-add 2 106 (2 * e))) (le-trans (mul-le-mul-right p (mul-le-mul-right (2 ^ 54) (n .least))) (le-of-eq (sym (n .is)))) in
+      let hi : w < 2 ^ (108 + 2 * e) = lt-of-le-of-lt (le-of-eq (n .is)) (lt-of-lt-of-le (mul-lt-mul-of-pos-right below-top (pow-pos (2 * e))) (le-of-eq (sym (pow-add 2 108 (2 * e))))) in
+      let most : size w ≤ 108 + 2 * e = size-le w (108 + 2 * e) hi in
+      let least : 106 + 2 * e < size w = pow-lt-back (106 + 2 * e) (size w) (lt-of-le-of-lt lo (size-lt w)) in
+      omega arith
+    where
+      pow-lt-back : (a l : ℕ) → 2 ^ a < 2 ^ l → a < l
+      pow-lt-back a l h = go (less-or-not a l)
+        where
+          go : (a < l) ⊎ (l ≤ a) → a < l
+          go (inl q) = q
+          go (inr q) = let g : 2 ^ l ≤ 2 ^ a = pow-mono q in omega arith
+
+  pub pattern-is : rootPattern w ≡ e * 2 ^ 52 + (wholeRoot 54 (d * 2 ^ 54) + 1) / 2
+  unfolding rootPattern
+  pattern-is =
+      ap (λ (k : ℕ). k * 2 ^ 52 + (wholeRoot 54 (w / 2 ^ (2 * k)) + 1) / 2) places
+      ∙ ap (λ (x : ℕ). e * 2 ^ 52 + (wholeRoot 54 x + 1) / 2) (ap (λ (x : ℕ). x / 2 ^ (2 * e)) (n .is) ∙ mul-div-cancel (d * 2 ^ 54) (pow-pos (2 * e)))

@@ -1,0 +1,27 @@
+-- The root of a double.
+use mathlib.Core.Bool.{cond}
+use Prim.Native.Nat.{ℕ, _+_, _-_, _*_, _/_, _^_}
+use lib.Ieee.{Float, size, lt}
+use Rattle.double.specs.rules.Operations.{bits, zero}
+use Rattle.double.specs.rules.Sign.{isFinite}
+use Rattle.quantity.specs.rules.Answer.{Answer, answered, unless}
+use Rattle.root.specs.rules.Nearest.{twiceRootSquared}
+use Rattle.root.specs.rules.Whole.{wholeRoot}
+
+-- The bit pattern of the root, by the square w of twice the root. Cut to an even number of places, w has 107 or 108 binary digits
+-- and its root 54: the last one rounds. The 53 that are left lose their leading one to the exponent's field.
+unfoldable pub rootPattern : ℕ → ℕ
+rootPattern w =
+    let places = (size w - 107) / 2 in
+    places * 2 ^ 52 + (wholeRoot 54 (w / 2 ^ (2 * places)) + 1) / 2
+
+-- of a finite double above zero; a zero is its own root, sign and all
+unfoldable pub rootOf : Float → Float
+rootOf x = cond (lt zero x) (cond (isFinite x) (bits (rootPattern (twiceRootSquared x))) x) x
+
+-- 5 below zero, where −0 is not
+abbrev pub rootRefusal : Float → ℕ
+rootRefusal x = cond (isFinite x) (cond (lt x zero) 5 0) 1
+
+unfoldable pub rootRule : Float → Answer Float
+rootRule x = unless (rootRefusal x) (answered (rootOf x))
