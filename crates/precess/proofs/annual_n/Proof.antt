@@ -1,0 +1,12 @@
+-- `precess::annual_n` meets its contract. Assumes nothing.
+use mathlib.Core.Path.{refl}
+use Rattle.precess.specs.rules.Annual.{annualN}
+use Rattle.precess.proofs.annual_n.Statement.{statement}
+use Rattle.precess.proofs.annual_n.Tie as tie
+
+returns : tie.Need-returns
+unfolding annualN
+returns c = refl
+
+pub annual-n-spec : {M : Type 1} → statement M
+annual-n-spec = tie.close (tie.spec returns)

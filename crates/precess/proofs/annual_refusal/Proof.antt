@@ -1,0 +1,10 @@
+-- `precess::annual_refusal` meets its contract. Assumes nothing.
+use Rattle.double.specs.laws.Calls.{asks-nothing}
+use Rattle.precess.proofs.annual_refusal.Statement.{statement}
+use Rattle.precess.proofs.annual_refusal.Tie as tie
+
+returns : tie.Need-returns
+returns c = cc
+
+pub annual-refusal-spec : {M : Type 1} → statement M
+annual-refusal-spec = tie.close (tie.spec asks-nothing asks-nothing asks-nothing asks-nothing asks-nothing returns)

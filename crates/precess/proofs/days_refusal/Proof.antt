@@ -1,0 +1,12 @@
+-- `precess::days_refusal` meets its contract. Assumes nothing.
+use Rattle.double.specs.laws.Calls.{asks-nothing}
+use Rattle.precess.specs.rules.Days.{daysRefusal}
+use Rattle.precess.proofs.days_refusal.Statement.{statement}
+use Rattle.precess.proofs.days_refusal.Tie as tie
+
+returns : tie.Need-returns
+unfolding daysRefusal
+returns c = cc
+
+pub days-refusal-spec : {M : Type 1} → statement M
+days-refusal-spec = tie.close (tie.spec asks-nothing asks-nothing asks-nothing returns)

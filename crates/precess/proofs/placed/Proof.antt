@@ -1,0 +1,12 @@
+-- `precess::placed` meets its contract. Assumes nothing.
+use Rattle.double.specs.laws.Calls.{asks-nothing}
+use Rattle.precess.specs.rules.Equatorial.{placed}
+use Rattle.precess.proofs.placed.Statement.{statement}
+use Rattle.precess.proofs.placed.Tie as tie
+
+returns : tie.Need-returns
+unfolding placed
+returns c = cc
+
+pub placed-spec : {M : Type 1} → statement M
+placed-spec = tie.close (tie.spec asks-nothing asks-nothing asks-nothing asks-nothing asks-nothing asks-nothing asks-nothing asks-nothing returns)

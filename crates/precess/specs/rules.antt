@@ -1,0 +1,8 @@
+-- What a reader must believe of precession (section 4), in the crate's order. Definitions only.
+pub mod Numbers
+pub mod Days
+pub mod Annual
+pub mod Equatorial
+pub mod Fk4
+pub mod Ecliptic
+pub mod Orbit

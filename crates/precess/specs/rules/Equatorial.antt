@@ -1,0 +1,63 @@
+-- Precession of equatorial coordinates (Meeus 21.2 to 21.4, with the crate's signs):
+-- c is the century of the first day, t the span of centuries from the first day to the second.
+use lib.Ieee.{Float}
+use Rattle.double.specs.rules.Operations.{_⊕_, _⊖_, _⊗_}
+use Rattle.quantity.specs.declared.Deg.{Deg}
+use Rattle.quantity.specs.declared.Rad.{Rad}
+use Rattle.quantity.specs.rules.Answer.{Answer, Pair, unless, plus, both}
+use Rattle.elementary.specs.declared.Folded.{Folded}
+use Rattle.elementary.specs.rules.Fold.{fold}
+use Rattle.elementary.specs.rules.Sine.{foldedSine, foldedCosine, sineOf, cosineOf}
+use Rattle.elementary.specs.rules.Arctangent.{arctangentIn}
+use Rattle.elementary.specs.rules.Arcsine.{arcsineIn}
+use Rattle.helpers.specs.rules.Angle.{arc, radiansOf}
+use Rattle.helpers.specs.rules.Time.{centuryOf}
+use Rattle.precess.specs.declared.EqTurns.{EqTurns}
+use Rattle.precess.specs.rules.Numbers.{n2306·2181, n1·39656, n0·000139, n0·30188, n0·000344, n0·017998, n1·09468, n0·000066, n0·018203, n0·000217, n2004·3109, n0·8533, n0·42665, n0·041833}
+use Rattle.precess.specs.rules.Days.{spanOf, placeRefusal}
+
+-- what the first two angles share
+abbrev pub eqShared : Float → Float → Float
+eqShared c t = t ⊗ (arc n2306·2181 ⊕ c ⊗ (arc n1·39656 ⊖ c ⊗ arc n0·000139))
+
+unfoldable pub eqXi : Float → Float → Deg
+eqXi c t = record { 0 = eqShared c t ⊕ t ⊗ t ⊗ ((arc n0·30188 ⊖ c ⊗ arc n0·000344) ⊕ t ⊗ arc n0·017998) }
+
+-- −0.000066 where Meeus has +0.000066
+unfoldable pub eqZeta : Float → Float → Deg
+eqZeta c t = record { 0 = eqShared c t ⊕ t ⊗ t ⊗ ((arc n1·09468 ⊖ c ⊗ arc n0·000066) ⊕ t ⊗ arc n0·018203) }
+
+-- +0.8533 where Meeus has −0.85330
+unfoldable pub eqTheta : Float → Float → Deg
+eqTheta c t =
+    let y = c ⊗ arc n0·000217 in
+    record
+    { 0 = t ⊗ (arc n2004·3109 ⊕ c ⊗ (arc n0·8533 ⊖ y) ⊖ t ⊗ ((arc n0·42665 ⊕ y) ⊕ t ⊗ arc n0·041833)) }
+
+-- what two days fix, from the three angles
+unfoldable pub turnsOf : Rad → Rad → Rad → EqTurns
+turnsOf xi zeta theta = record { xi = xi .0; zeta = zeta .0; sine = sineOf theta; cosine = cosineOf theta }
+
+unfoldable pub eqTurnsOf : Float → Float → EqTurns
+eqTurnsOf day1 day2 =
+    let c = centuryOf day1 in
+    let t = spanOf day1 day2 in
+    turnsOf (radiansOf (eqXi c t)) (radiansOf (eqZeta c t)) (radiansOf (eqTheta c t))
+
+-- a place after the turns: a is its right ascension with xi added, d its declination
+unfoldable pub placed : Folded → Folded → EqTurns → Answer Pair
+placed a d turns =
+    let sa = foldedSine a in
+    let ca = foldedCosine a in
+    let sd = foldedSine d in
+    let cd = foldedCosine d in
+    both
+    (plus (arctangentIn (cd ⊗ sa) (turns .cosine ⊗ cd ⊗ ca ⊖ turns .sine ⊗ sd)) (turns .zeta))
+    (arcsineIn (turns .sine ⊗ cd ⊗ ca ⊕ turns .cosine ⊗ sd))
+
+unfoldable pub turnedIn : Rad → Rad → EqTurns → Answer Pair
+turnedIn asc dec turns = placed (fold (record { 0 = asc .0 ⊕ turns .xi })) (fold dec) turns
+
+abbrev pub precessEqCoordsRule : Rad → Rad → Float → Float → Answer Pair
+precessEqCoordsRule asc dec day1 day2 =
+    unless (placeRefusal asc dec day1 day2) (turnedIn asc dec (eqTurnsOf day1 day2))

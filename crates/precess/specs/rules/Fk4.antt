@@ -1,0 +1,43 @@
+-- Precession of equatorial coordinates of the FK4 system: the crate's `precess_eq_coords_FK5`,
+-- which takes its three counts of degrees for radians. c and t are tropical centuries.
+use lib.Ieee.{Float}
+use Rattle.double.specs.rules.Operations.{_⊕_, _⊖_, _⊗_, _⊘_}
+use Rattle.quantity.specs.declared.Deg.{Deg}
+use Rattle.quantity.specs.declared.Rad.{Rad}
+use Rattle.quantity.specs.rules.Answer.{Answer, Pair, unless}
+use Rattle.helpers.specs.rules.Angle.{arc}
+use Rattle.precess.specs.declared.EqTurns.{EqTurns}
+use Rattle.precess.specs.rules.Numbers.{n2415020·3135, n36524·2199, n2304·25, n1·396, n0·302, n0·018, n0·791, n0·001, n2004·682, n0·853, n0·426, n0·042}
+use Rattle.precess.specs.rules.Days.{placeRefusal}
+use Rattle.precess.specs.rules.Equatorial.{turnsOf, turnedIn}
+
+abbrev pub fk4Century : Float → Float
+fk4Century day = (day ⊖ n2415020·3135) ⊘ n36524·2199
+
+abbrev pub fk4Span : Float → Float → Float
+fk4Span day1 day2 = (day2 ⊖ day1) ⊘ n36524·2199
+
+unfoldable pub fk4Xi : Float → Float → Deg
+fk4Xi c t =
+    record { 0 = t ⊗ (arc n2304·25 ⊕ c ⊗ arc n1·396 ⊕ t ⊗ (arc n0·302 ⊕ t ⊗ arc n0·018)) }
+
+unfoldable pub fk4Zeta : Deg → Float → Deg
+fk4Zeta xi t = record { 0 = xi .0 ⊕ t ⊗ t ⊗ (arc n0·791 ⊕ t ⊗ arc n0·001) }
+
+unfoldable pub fk4Theta : Float → Float → Deg
+fk4Theta c t =
+    record { 0 = t ⊗ (arc n2004·682 ⊖ c ⊗ arc n0·853 ⊖ t ⊗ (arc n0·426 ⊕ t ⊗ arc n0·042)) }
+
+-- a count of degrees taken for radians: here and nowhere else
+unfoldable pub degreesAsRadians : Deg → Rad
+degreesAsRadians x = record { 0 = x .0 }
+
+unfoldable pub fk4TurnsOf : Float → Float → EqTurns
+fk4TurnsOf day1 day2 =
+    let c = fk4Century day1 in
+    let t = fk4Span day1 day2 in
+    turnsOf (degreesAsRadians (fk4Xi c t)) (degreesAsRadians (fk4Zeta (fk4Xi c t) t)) (degreesAsRadians (fk4Theta c t))
+
+abbrev pub precessEqCoordsFK5Rule : Rad → Rad → Float → Float → Answer Pair
+precessEqCoordsFK5Rule asc dec day1 day2 =
+    unless (placeRefusal asc dec day1 day2) (turnedIn asc dec (fk4TurnsOf day1 day2))

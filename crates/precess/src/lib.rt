@@ -1,0 +1,513 @@
+// Precession (section 4), with the crate's grouping and the crate's signs. Angles are in radians.
+// Rules: specs/rules, in reading order in specs/rules.antt.
+ghost use mathlib.Core.Path.{_≡_};
+ghost use Rattle.quantity.specs.rules.Answer.{shown, shownTwo, shownThree};
+ghost use Rattle.precess.specs.rules.Days.{spanOf, daysRefusal, placeRefusal};
+ghost use Rattle.precess.specs.rules.Annual.{annualM, annualN, annualAt, annualIn, annualRefusal, annualPrecessRule};
+ghost use Rattle.precess.specs.rules.Equatorial.{eqXi, eqZeta, eqTheta, turnsOf, eqTurnsOf, placed, turnedIn, precessEqCoordsRule};
+ghost use Rattle.precess.specs.rules.Fk4.{fk4Century, fk4Span, fk4Xi, fk4Zeta, fk4Theta, degreesAsRadians, fk4TurnsOf, precessEqCoordsFK5Rule};
+ghost use Rattle.precess.specs.rules.Ecliptic.{eclNu, eclPi, eclRho, eclTurned, eclTurnsOf, eclPlaced, eclTurnedIn, precessEclCoordsRule};
+ghost use Rattle.precess.specs.rules.Orbit.{leanedOf, newInclination, newNode, nodeAndPerihelion, orbitFrom, orbitIn, orbitRefusal, precessOrbElementsRule};
+use elementary::Folded;
+use helpers::angle;
+use helpers::time;
+use quantity::Deg;
+use quantity::One;
+use quantity::Rad;
+use quantity::Three;
+use quantity::Two;
+
+// ---- the days
+
+// Centuries from the first day to the second.
+fn span(day1: f64, day2: f64) -> f64
+    ensures { λ r. ⌜ r ≡ spanOf day1 day2 ⌝ }
+{
+    (day2 - day1) / 36525.0
+}
+
+// Refusals of two days: 1; 2.
+pub fn days_refusal(day1: f64, day2: f64) -> u8
+    ensures { λ r. ⌜ r ≡ daysRefusal day1 day2 ⌝ }
+{
+    quantity::lower(quantity::day_refusal(day1), quantity::day_refusal(day2))
+}
+
+// Refusals of a longitude, a latitude and two days: 1; 2; 3.
+fn place_refusal(long: Rad, lat: Rad, day1: f64, day2: f64) -> u8
+    ensures { λ r. ⌜ r ≡ placeRefusal long lat day1 day2 ⌝ }
+{
+    quantity::lower(
+        quantity::lower(
+            quantity::angle_refusal(long),
+            quantity::latitude_refusal(lat),
+        ),
+        days_refusal(day1, day2),
+    )
+}
+
+// ---- annual precession (Meeus, chapter 21)
+
+// m at a century.
+fn annual_m(c: f64) -> Deg
+    ensures { λ r. ⌜ r ≡ annualM c ⌝ }
+{
+    Deg(15.0 * (3.07496 / 3600.0) + 15.0 * (0.00186 / 3600.0) * c)
+}
+
+// n at a century.
+fn annual_n(c: f64) -> Deg
+    ensures { λ r. ⌜ r ≡ annualN c ⌝ }
+{
+    Deg(15.0 * (1.33621 / 3600.0) - 15.0 * (0.00057 / 3600.0) * c)
+}
+
+// The yearly change of a place, from m and n.
+fn annual_at(m: Rad, n: Rad, a: Folded, d: Folded) -> Two
+    ensures { λ r. ⌜ shownTwo r ≡ annualAt m n a d ⌝ }
+{
+    Two::Are(m.0 + n.0 * a.sine() * d.tangent(), n.0 * a.cosine())
+}
+
+// The yearly change of arguments that are not refused.
+fn annual_in(asc: Rad, dec: Rad, day: f64) -> Two
+    ensures { λ r. ⌜ shownTwo r ≡ annualIn asc dec day ⌝ }
+{
+    let c = time::century(day);
+    annual_at(
+        angle::radians(annual_m(c)),
+        angle::radians(annual_n(c)),
+        elementary::fold(asc),
+        elementary::fold(dec),
+    )
+}
+
+// Refusals of a right ascension, a declination and a day: 1; 2; 3; 4.
+fn annual_refusal(asc: Rad, dec: Rad, day: f64) -> u8
+    ensures { λ r. ⌜ r ≡ annualRefusal asc dec day ⌝ }
+{
+    quantity::lower(
+        quantity::lower(quantity::angle_refusal(asc), quantity::steep_refusal(dec)),
+        quantity::day_refusal(day),
+    )
+}
+
+// The annual precession in right ascension and declination towards a day. Refusals: 1; 2; 3; 4 past 1.57 for declination.
+pub fn annual_precess(asc: Rad, dec: Rad, day: f64) -> Two
+    ensures { λ r. ⌜ shownTwo r ≡ annualPrecessRule asc dec day ⌝ }
+{
+    let no = annual_refusal(asc, dec, day);
+    if no != 0 {
+        return Two::Refused(no);
+    }
+    annual_in(asc, dec, day)
+}
+
+// ---- equatorial coordinates (Meeus 21.2 to 21.4, with the crate's signs)
+
+// What two days fix of equatorial precession: two angles, and the sine and cosine of the third.
+pub struct EqTurns {
+    pub xi: f64,
+    pub zeta: f64,
+    pub sine: f64,
+    pub cosine: f64,
+}
+
+// The first angle, at the first day's century and the span.
+fn eq_xi(c: f64, t: f64) -> Deg
+    ensures { λ r. ⌜ r ≡ eqXi c t ⌝ }
+{
+    let x = t * (2306.2181 / 3600.0 + c * (1.39656 / 3600.0 - c * (0.000139 / 3600.0)));
+    Deg(x + t * t * ((0.30188 / 3600.0 - c * (0.000344 / 3600.0)) + t * (0.017998 / 3600.0)))
+}
+
+// The second angle.
+fn eq_zeta(c: f64, t: f64) -> Deg
+    ensures { λ r. ⌜ r ≡ eqZeta c t ⌝ }
+{
+    let x = t * (2306.2181 / 3600.0 + c * (1.39656 / 3600.0 - c * (0.000139 / 3600.0)));
+    Deg(x + t * t * ((1.09468 / 3600.0 - c * (0.000066 / 3600.0)) + t * (0.018203 / 3600.0)))
+}
+
+// The third angle.
+fn eq_theta(c: f64, t: f64) -> Deg
+    ensures { λ r. ⌜ r ≡ eqTheta c t ⌝ }
+{
+    let y = c * (0.000217 / 3600.0);
+    Deg(
+        t
+            * (2004.3109 / 3600.0 + c * (0.8533 / 3600.0 - y)
+                - t * ((0.42665 / 3600.0 + y) + t * (0.041833 / 3600.0))),
+    )
+}
+
+// The turns of three angles.
+fn turns_of(xi: Rad, zeta: Rad, theta: Rad) -> EqTurns
+    ensures { λ r. ⌜ r ≡ turnsOf xi zeta theta ⌝ }
+{
+    let f = elementary::fold(theta);
+    EqTurns {
+        xi: xi.0,
+        zeta: zeta.0,
+        sine: f.sine(),
+        cosine: f.cosine(),
+    }
+}
+
+// The turns from the first day to the second.
+pub fn eq_turns(day1: f64, day2: f64) -> EqTurns
+    ensures { λ r. ⌜ r ≡ eqTurnsOf day1 day2 ⌝ }
+{
+    let c = time::century(day1);
+    let t = span(day1, day2);
+    turns_of(
+        angle::radians(eq_xi(c, t)),
+        angle::radians(eq_zeta(c, t)),
+        angle::radians(eq_theta(c, t)),
+    )
+}
+
+// A place after the turns: a is its right ascension with xi added, d its declination. Refusals: 7.
+fn placed(a: Folded, d: Folded, turns: EqTurns) -> Two
+    ensures { λ r. ⌜ shownTwo r ≡ placed a d turns ⌝ }
+{
+    let sa = a.sine();
+    let ca = a.cosine();
+    let sd = d.sine();
+    let cd = d.cosine();
+    quantity::both(
+        quantity::plus(
+            elementary::arctangent_in(cd * sa, turns.cosine * cd * ca - turns.sine * sd),
+            turns.zeta,
+        ),
+        elementary::arcsine_in(turns.sine * cd * ca + turns.cosine * sd),
+    )
+}
+
+// A place under the turns of a night, of arguments that are not refused. Refusals: 7.
+pub fn turned_in(asc: Rad, dec: Rad, turns: EqTurns) -> Two
+    ensures { λ r. ⌜ shownTwo r ≡ turnedIn asc dec turns ⌝ }
+{
+    placed(
+        elementary::fold(Rad(asc.0 + turns.xi)),
+        elementary::fold(dec),
+        turns,
+    )
+}
+
+// Equatorial coordinates reduced from the first day to the second. Refusals: 1; 2; 3; then 7.
+pub fn precess_eq_coords(old_asc: Rad, old_dec: Rad, day1: f64, day2: f64) -> Two
+    ensures { λ r. ⌜ shownTwo r ≡ precessEqCoordsRule «old_asc» «old_dec» day1 day2 ⌝ }
+{
+    let no = place_refusal(old_asc, old_dec, day1, day2);
+    if no != 0 {
+        return Two::Refused(no);
+    }
+    turned_in(old_asc, old_dec, eq_turns(day1, day2))
+}
+
+// ---- equatorial coordinates of the FK4 system
+
+// Tropical centuries from 1900.0 to a day.
+fn fk4_century(day: f64) -> f64
+    ensures { λ r. ⌜ r ≡ fk4Century day ⌝ }
+{
+    (day - 2415020.3135) / 36524.2199
+}
+
+// Tropical centuries from the first day to the second.
+fn fk4_span(day1: f64, day2: f64) -> f64
+    ensures { λ r. ⌜ r ≡ fk4Span day1 day2 ⌝ }
+{
+    (day2 - day1) / 36524.2199
+}
+
+// The first angle.
+fn fk4_xi(c: f64, t: f64) -> Deg
+    ensures { λ r. ⌜ r ≡ fk4Xi c t ⌝ }
+{
+    Deg(t * (2304.25 / 3600.0 + c * (1.396 / 3600.0) + t * (0.302 / 3600.0 + t * (0.018 / 3600.0))))
+}
+
+// The second angle, from the first.
+fn fk4_zeta(xi: Deg, t: f64) -> Deg
+    ensures { λ r. ⌜ r ≡ fk4Zeta xi t ⌝ }
+{
+    Deg(xi.0 + t * t * (0.791 / 3600.0 + t * (0.001 / 3600.0)))
+}
+
+// The third angle.
+fn fk4_theta(c: f64, t: f64) -> Deg
+    ensures { λ r. ⌜ r ≡ fk4Theta c t ⌝ }
+{
+    Deg(
+        t
+            * (2004.682 / 3600.0
+                - c * (0.853 / 3600.0)
+                - t * (0.426 / 3600.0 + t * (0.042 / 3600.0))),
+    )
+}
+
+// A count of degrees taken for radians, as the crate takes it in `precess_eq_coords_FK5` and nowhere else.
+fn degrees_as_radians(x: Deg) -> Rad
+    ensures { λ r. ⌜ r ≡ degreesAsRadians x ⌝ }
+{
+    Rad(x.0)
+}
+
+// The turns from the first day to the second.
+fn fk4_turns(day1: f64, day2: f64) -> EqTurns
+    ensures { λ r. ⌜ r ≡ fk4TurnsOf day1 day2 ⌝ }
+{
+    let c = fk4_century(day1);
+    let t = fk4_span(day1, day2);
+    let xi = fk4_xi(c, t);
+    turns_of(
+        degrees_as_radians(xi),
+        degrees_as_radians(fk4_zeta(xi, t)),
+        degrees_as_radians(fk4_theta(c, t)),
+    )
+}
+
+// Equatorial coordinates of the FK4 system reduced from the first day to the second. Refusals: 1; 2; 3; then 7.
+pub fn precess_eq_coords_FK5(old_asc: Rad, old_dec: Rad, day1: f64, day2: f64) -> Two
+    ensures { λ r. ⌜ shownTwo r ≡ precessEqCoordsFK5Rule «old_asc» «old_dec» day1 day2 ⌝ }
+{
+    let no = place_refusal(old_asc, old_dec, day1, day2);
+    if no != 0 {
+        return Two::Refused(no);
+    }
+    turned_in(old_asc, old_dec, fk4_turns(day1, day2))
+}
+
+// ---- ecliptic coordinates (Meeus 21.5 to 21.7)
+
+// What two days fix of ecliptic precession: nu with its sine and cosine, Pi and rho.
+pub struct EclTurns {
+    pub nu: f64,
+    pub sine: f64,
+    pub cosine: f64,
+    pub pi: f64,
+    pub rho: f64,
+}
+
+// The angle nu between the two ecliptics.
+fn ecl_nu(c: f64, t: f64) -> Deg
+    ensures { λ r. ⌜ r ≡ eclNu c t ⌝ }
+{
+    let x = c * (0.000598 / 3600.0);
+    Deg(
+        t
+            * (47.0029 / 3600.0 - c * (0.06603 / 3600.0 - x)
+                + t * ((BACK / 3600.0 + x) + t * (0.00006 / 3600.0))),
+    )
+}
+
+const BACK: f64 = -0.03302;
+
+// The longitude Pi of their node.
+fn ecl_pi(c: f64, t: f64) -> Deg
+    ensures { λ r. ⌜ r ≡ eclPi c t ⌝ }
+{
+    Deg(
+        174.876384 + c * (3289.4789 / 3600.0 + c * (0.60622 / 3600.0))
+            - t * ((869.8089 / 3600.0 + c * (0.50491 / 3600.0)) - t * (0.03536 / 3600.0)),
+    )
+}
+
+// The general precession rho.
+fn ecl_rho(c: f64, t: f64) -> Deg
+    ensures { λ r. ⌜ r ≡ eclRho c t ⌝ }
+{
+    let y = c * (0.000042 / 3600.0);
+    Deg(
+        t
+            * (5029.0966 / 3600.0
+                + c * (2.22226 / 3600.0 - y)
+                + t * ((1.11113 / 3600.0 - y) - t * (0.000006 / 3600.0))),
+    )
+}
+
+// The turns of three angles.
+fn ecl_turned(nu: Rad, pi: Rad, rho: Rad) -> EclTurns
+    ensures { λ r. ⌜ r ≡ eclTurned nu pi rho ⌝ }
+{
+    let f = elementary::fold(nu);
+    EclTurns {
+        nu: nu.0,
+        sine: f.sine(),
+        cosine: f.cosine(),
+        pi: pi.0,
+        rho: rho.0,
+    }
+}
+
+// The turns from the first day to the second.
+fn ecl_turns(day1: f64, day2: f64) -> EclTurns
+    ensures { λ r. ⌜ r ≡ eclTurnsOf day1 day2 ⌝ }
+{
+    let c = time::century(day1);
+    let t = span(day1, day2);
+    ecl_turned(
+        angle::radians(ecl_nu(c, t)),
+        angle::radians(ecl_pi(c, t)),
+        angle::radians(ecl_rho(c, t)),
+    )
+}
+
+// A place after the turns: p is Pi less its longitude, b its latitude. Refusals: 7.
+fn ecl_placed(p: Folded, b: Folded, turns: EclTurns) -> Two
+    ensures { λ r. ⌜ shownTwo r ≡ eclPlaced p b turns ⌝ }
+{
+    let sp = p.sine();
+    let cp = p.cosine();
+    let sb = b.sine();
+    let cb = b.cosine();
+    quantity::both(
+        quantity::taken_from(
+            turns.rho + turns.pi,
+            elementary::arctangent_in(turns.cosine * cb * sp - turns.sine * sb, cb * cp),
+        ),
+        elementary::arcsine_in(turns.cosine * sb + turns.sine * cb * sp),
+    )
+}
+
+// A place under the turns of two days, of arguments that are not refused. Refusals: 7.
+fn ecl_turned_in(long: Rad, lat: Rad, turns: EclTurns) -> Two
+    ensures { λ r. ⌜ shownTwo r ≡ eclTurnedIn long lat turns ⌝ }
+{
+    ecl_placed(
+        elementary::fold(Rad(turns.pi - long.0)),
+        elementary::fold(lat),
+        turns,
+    )
+}
+
+// Ecliptic coordinates reduced from the first day to the second. Refusals: 1; 2; 3; then 7.
+pub fn precess_ecl_coords(old_long: Rad, old_lat: Rad, day1: f64, day2: f64) -> Two
+    ensures { λ r. ⌜ shownTwo r ≡ precessEclCoordsRule «old_long» «old_lat» day1 day2 ⌝ }
+{
+    let no = place_refusal(old_long, old_lat, day1, day2);
+    if no != 0 {
+        return Two::Refused(no);
+    }
+    ecl_turned_in(old_long, old_lat, ecl_turns(day1, day2))
+}
+
+// ---- orbital elements (Meeus, chapter 24)
+
+// A and B of the crate: the new inclination's sine along and across the old node.
+struct Leaned {
+    a: f64,
+    b: f64,
+}
+
+// A and B, from the inclination i and the node less Pi.
+fn lean(i: Folded, n: Folded, turns: EclTurns) -> Leaned
+    ensures { λ r. ⌜ r ≡ leanedOf i n turns ⌝ }
+{
+    let si = i.sine();
+    Leaned {
+        a: si * n.sine(),
+        b: -turns.sine * i.cosine() + turns.cosine * si * n.cosine(),
+    }
+}
+
+// The new inclination; nu where the old one is zero, of either sign. Refusals: 7.
+fn new_inclination(inc: Rad, l: Leaned, turns: EclTurns) -> One
+    ensures { λ r. ⌜ shown r ≡ newInclination inc l turns ⌝ }
+{
+    if inc.0 == 0.0 {
+        return One::Is(turns.nu);
+    }
+    match root::square_root(l.a * l.a + l.b * l.b) {
+        One::Is(s) => elementary::arcsine_in(s),
+        One::Refused(n) => One::Refused(n),
+    }
+}
+
+// The new node; half a turn on where the old inclination is zero.
+fn new_node(inc: Rad, l: Leaned, turns: EclTurns) -> One
+    ensures { λ r. ⌜ shown r ≡ newNode inc l turns ⌝ }
+{
+    let phi = turns.pi + turns.rho;
+    if inc.0 == 0.0 {
+        return One::Is(phi + quantity::PI);
+    }
+    quantity::added_to(phi, elementary::arctangent_in(l.a, l.b))
+}
+
+// The new node and perihelion, where the new inclination's sine s is not zero. Refusals: 7.
+fn node_and_perihelion(s: f64, node: One, perih: Rad, n: Folded, turns: EclTurns) -> Two
+    ensures { λ r. ⌜ shownTwo r ≡ nodeAndPerihelion s (shown node) perih n turns ⌝ }
+{
+    quantity::both(
+        node,
+        quantity::added_to(perih.0, elementary::arcsine_in(-turns.sine * n.sine() / s)),
+    )
+}
+
+// The elements with their new inclination i. Refusals: 6 where its sine is zero; 7.
+fn orbit_from(i: f64, node: One, perih: Rad, n: Folded, turns: EclTurns) -> Three
+    ensures { λ r. ⌜ shownThree r ≡ orbitFrom i (shown node) perih n turns ⌝ }
+{
+    let s = elementary::fold(Rad(i)).sine();
+    if s == 0.0 {
+        return Three::Refused(6);
+    }
+    match node_and_perihelion(s, node, perih, n, turns) {
+        Two::Are(x, w) => Three::Are(i, w, x),
+        Two::Refused(k) => Three::Refused(k),
+    }
+}
+
+// The elements of arguments that are not refused. Refusals: 7; 6; 7.
+fn orbit_in(inc: Rad, perih: Rad, node: Rad, turns: EclTurns) -> Three
+    ensures { λ r. ⌜ shownThree r ≡ orbitIn inc perih node turns ⌝ }
+{
+    let n = elementary::fold(Rad(node.0 - turns.pi));
+    let l = lean(elementary::fold(inc), n, turns);
+    match new_inclination(inc, l, turns) {
+        One::Is(i) => orbit_from(i, new_node(inc, l, turns), perih, n, turns),
+        One::Refused(k) => Three::Refused(k),
+    }
+}
+
+// Refusals of three angles and two days: 1; 2; 3.
+fn orbit_refusal(inc: Rad, perih: Rad, node: Rad, day1: f64, day2: f64) -> u8
+    ensures { λ r. ⌜ r ≡ orbitRefusal inc perih node day1 day2 ⌝ }
+{
+    quantity::lower(
+        quantity::lower(
+            quantity::angle_refusal(inc),
+            quantity::lower(
+                quantity::angle_refusal(perih),
+                quantity::angle_refusal(node),
+            ),
+        ),
+        days_refusal(day1, day2),
+    )
+}
+
+// Inclination, argument of perihelion and ascending node reduced from the first day to the second.
+// Refusals: 1; 2; 3; then 7 for the new inclination; 6 where its sine is zero; 7 for the perihelion.
+pub fn precess_orb_elements(
+    old_inc: Rad,
+    old_arg_perih: Rad,
+    old_long_ascend_node: Rad,
+    day1: f64,
+    day2: f64,
+) -> Three
+    ensures { λ r. ⌜ shownThree r ≡ precessOrbElementsRule «old_inc» «old_arg_perih» «old_long_ascend_node» day1 day2 ⌝ }
+{
+    let no = orbit_refusal(old_inc, old_arg_perih, old_long_ascend_node, day1, day2);
+    if no != 0 {
+        return Three::Refused(no);
+    }
+    orbit_in(
+        old_inc,
+        old_arg_perih,
+        old_long_ascend_node,
+        ecl_turns(day1, day2),
+    )
+}
