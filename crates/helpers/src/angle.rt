@@ -1,7 +1,7 @@
 // Degrees, radians and seconds, and folding into one turn. Each takes every finite number and refuses the rest by 1.
 ghost use mathlib.Core.Path.{_≡_};
 ghost use Rattle.quantity.specs.rules.Answer.{shownDegrees, shownRadians};
-ghost use Rattle.helpers.specs.rules.Angle.{radiansOf, remainder, limited, fullTurn, degFrmDmsRule, degFrmHmsRule, toRadiansRule, limitTo360Rule, limitToTwoPIRule};
+ghost use Rattle.helpers.specs.rules.Angle.{radiansOf, remainder, limited, within360, withinTwoPI, degFrmDmsRule, degFrmHmsRule, toRadiansRule, limitTo360Rule, limitToTwoPIRule};
 use quantity::Deg;
 use quantity::Degrees;
 use quantity::Rad;
@@ -32,9 +32,16 @@ fn limited(x: f64, full: f64) -> f64
     if r < 0.0 { r + full } else { r }
 }
 
-// x folded into one turn in radians.
-pub fn full_turn(x: Rad) -> Rad
-    ensures { λ r. ⌜ r ≡ fullTurn x ⌝ }
+// Degrees folded into 0 to 360.
+pub fn within_360(x: Deg) -> Deg
+    ensures { λ r. ⌜ r ≡ within360 x ⌝ }
+{
+    Deg(limited(x.0, 360.0))
+}
+
+// Radians folded into 0 to 2·PI.
+pub fn within_two_PI(x: Rad) -> Rad
+    ensures { λ r. ⌜ r ≡ withinTwoPI x ⌝ }
 {
     Rad(limited(x.0, 6.283185307179586))
 }
@@ -72,7 +79,7 @@ pub fn to_radians(x: Deg) -> Radians
     Radians::Are(radians(x))
 }
 
-// Degrees folded into 0 to 360. Refusals: 1.
+// Degrees folded into one turn. Refusals: 1.
 pub fn limit_to_360(x: Deg) -> Degrees
     ensures { λ r. ⌜ shownDegrees r ≡ limitTo360Rule x ⌝ }
 {
@@ -80,10 +87,10 @@ pub fn limit_to_360(x: Deg) -> Degrees
     if no != 0 {
         return Degrees::Refused(no);
     }
-    Degrees::Are(Deg(limited(x.0, 360.0)))
+    Degrees::Are(within_360(x))
 }
 
-// Radians folded into 0 to 2·PI. Refusals: 1.
+// Radians folded into one turn. Refusals: 1.
 pub fn limit_to_two_PI(x: Rad) -> Radians
     ensures { λ r. ⌜ shownRadians r ≡ limitToTwoPIRule x ⌝ }
 {
@@ -91,5 +98,5 @@ pub fn limit_to_two_PI(x: Rad) -> Radians
     if no != 0 {
         return Radians::Refused(no);
     }
-    Radians::Are(full_turn(x))
+    Radians::Are(within_two_PI(x))
 }

@@ -56,11 +56,14 @@ turnInDegrees = bits 0x4076800000000000
 abbrev pub turnInRadians : Float
 turnInRadians = bits 0x401921fb54442d18
 
-abbrev pub fullTurn : Rad → Rad
-fullTurn x = record { 0 = limited (x .0) turnInRadians }
+abbrev pub within360 : Deg → Deg
+within360 x = record { 0 = limited (x .0) turnInDegrees }
+
+abbrev pub withinTwoPI : Rad → Rad
+withinTwoPI x = record { 0 = limited (x .0) turnInRadians }
 
 abbrev pub limitTo360Rule : Deg → Answer Deg
-limitTo360Rule x = unless (numberRefusal (x .0)) (answered (record { 0 = limited (x .0) turnInDegrees }))
+limitTo360Rule x = unless (numberRefusal (x .0)) (answered (within360 x))
 
 abbrev pub limitToTwoPIRule : Rad → Answer Rad
-limitToTwoPIRule x = unless (numberRefusal (x .0)) (answered (fullTurn x))
+limitToTwoPIRule x = unless (numberRefusal (x .0)) (answered (withinTwoPI x))

@@ -1,0 +1,12 @@
+-- `elementary::toward` meets its contract. Assumes nothing.
+use Rattle.double.specs.laws.Calls.{asks-nothing}
+use Rattle.elementary.specs.rules.Direction.{directionOf}
+use Rattle.elementary.proofs.toward.Statement.{statement}
+use Rattle.elementary.proofs.toward.Tie as tie
+
+returns : tie.Need-returns
+unfolding directionOf
+returns c = cc
+
+pub toward-spec : {M : Type 1} → statement M
+toward-spec = tie.close (tie.spec asks-nothing asks-nothing asks-nothing asks-nothing asks-nothing asks-nothing returns)
