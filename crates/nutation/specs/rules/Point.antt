@@ -1,0 +1,36 @@
+-- Nutation of a point (Meeus 23.1).
+use Prim.Native.Nat.{ℕ}
+use lib.Ieee.{Float}
+use Rattle.double.specs.rules.Operations.{_⊕_, _⊖_, _⊗_, _⊘_}
+use Rattle.quantity.specs.declared.Rad.{Rad}
+use Rattle.quantity.specs.declared.EqPoint.{EqPoint}
+use Rattle.quantity.specs.declared.Shift.{Shift}
+use Rattle.quantity.specs.rules.Answer.{Answer, answered, pair, Pair, unless}
+use Rattle.quantity.specs.rules.Refusal.{lower, angleRefusal, steepRefusal}
+use Rattle.elementary.specs.declared.Direction.{Direction}
+use Rattle.elementary.specs.rules.Sine.{sineOf, cosineOf}
+use Rattle.elementary.specs.rules.Direction.{directionOf}
+use Rattle.nutation.specs.declared.Nutations.{Nutations}
+
+-- of a direction, from the sine s and the cosine c of the obliquity
+unfoldable pub nutationAt : Direction → Nutations → Float → Float → Shift
+nutationAt d n s c =
+    let tan = d .«sin_dec» ⊘ d .«cos_dec» in
+    record {
+      asc = n .long ⊗ (c ⊕ s ⊗ d .«sin_asc» ⊗ tan) ⊖ d .«cos_asc» ⊗ tan ⊗ n .oblq;
+      dec = s ⊗ d .«cos_asc» ⊗ n .long ⊕ d .«sin_asc» ⊗ n .oblq;
+    }
+
+abbrev pub nutationInRefusal : EqPoint → Rad → Rad → Rad → ℕ
+nutationInRefusal p long oblq tru =
+    lower (lower (angleRefusal (record { 0 = p .asc })) (steepRefusal (record { 0 = p .dec })))
+    (lower (angleRefusal long) (lower (angleRefusal oblq) (angleRefusal tru)))
+
+unfoldable pub nutationInEqCoordsIn : EqPoint → Rad → Rad → Rad → Shift
+nutationInEqCoordsIn p long oblq tru =
+    nutationAt (directionOf p) (record { long = long .0; oblq = oblq .0 }) (sineOf tru) (cosineOf tru)
+
+unfoldable pub nutationInEqCoordsRule : EqPoint → Rad → Rad → Rad → Answer Pair
+nutationInEqCoordsRule p long oblq tru =
+    unless (nutationInRefusal p long oblq tru)
+    (answered (pair (nutationInEqCoordsIn p long oblq tru .asc) (nutationInEqCoordsIn p long oblq tru .dec)))
