@@ -22,7 +22,7 @@ shl-digits : tie.Need-shl-digits
 shl-digits c = search needs
 
 digits-requires : tie.Need-digits-requires
-digits-requires c κs = omega (arith, form c .most)
+digits-requires c κs = omega (arith, form c .least, form c .most)
 
 add-result : tie.Need-add-result
 add-result c = omega (arith, found c, root-digits-most (form (c .before)))

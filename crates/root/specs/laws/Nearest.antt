@@ -16,10 +16,10 @@ use Rattle.root.specs.rules.Count.{isDoubleFromZero, count}
 use Rattle.root.specs.rules.Nearest.{twiceRootSquared, IsRoot}
 use Rattle.root.specs.rules.Whole.{IsWholeRoot, wholeRoot}
 use Rattle.root.specs.rules.Root.{rootPattern, rootOf}
-use Rattle.root.specs.laws.Numbers.{less-or-not, square-lt, square-lt-back}
+use Rattle.root.specs.laws.Numbers.{less-or-not, square-lt}
 use Rattle.root.specs.laws.Doubles.{Short, double-short, from-zero-fits}
 use Rattle.root.specs.laws.Patterns.{pattern-from-zero, count-high}
-use Rattle.root.specs.laws.Whole.{whole-root}
+use Rattle.root.specs.laws.Whole.{whole-root, whole-root-least, whole-root-most}
 use Rattle.root.specs.laws.Normal.{Normal, above-zero-normal, pattern-is}
 
 -- ---- no double a·2^j, a below 2^53, lies nearer than q·2^e, q of 53 digits, if the root lies within half of 2^e of that
@@ -99,12 +99,10 @@ module _ {w d e : ℕ} (n : Normal w d e) where
   whole = whole-root 54 (d * 2 ^ 54) (omega (arith, n .most))
 
   s-least : 2 ^ 53 ≤ s
-  s-least =
-      let h : 2 ^ 53 < s + 1 = square-lt-back (2 ^ 53) (s + 1) (lt-of-le-of-lt (mul-le-mul-right (2 ^ 54) (n .least)) (whole .over)) in
-      omega arith
+  s-least = whole-root-least (2 ^ 53) whole (mul-le-mul-right (2 ^ 54) (n .least))
 
   pub root-digits-most : s < 2 ^ 54 - 1
-  root-digits-most = square-lt-back s (2 ^ 54 - 1) (lt-of-le-of-lt (whole .under) (omega (arith, n .most)))
+  root-digits-most = whole-root-most (2 ^ 54 - 1) whole (omega (arith, n .most))
 
   q-above : d * 2 ^ 54 < (2 * q + 1) * (2 * q + 1)
   q-above = lt-of-lt-of-le (whole .over) (mul-le-mul {n₁ = s + 1} {m₁ = s + 1} (omega arith) (omega arith))
