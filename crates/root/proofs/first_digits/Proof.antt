@@ -1,9 +1,8 @@
 -- `root::first_digits` meets its contract: each root is that of the next one's number without its last digits. Assumes nothing.
 use borrow.Author.Needs.{needs}
-use Prim.Native.Nat.{ℕ, _+_, _*_, _/_, _^_, _≤_, _<_}
+use Prim.Native.Nat.{_^_}
 use native.Mathlib.Nat.{div-div-eq-div-mul}
 use native.Mathlib.Omega.{arith}
-use Rattle.root.specs.rules.Whole.{IsWholeRoot}
 use Rattle.root.specs.laws.Whole.{whole-root-least}
 use Rattle.root.proofs.first_digits.Statement.{statement}
 use Rattle.root.proofs.first_digits.Tie as tie

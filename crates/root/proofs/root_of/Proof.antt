@@ -1,12 +1,11 @@
 -- `root::root_of` meets its contract: a finite double above zero has a pattern below that of infinity, and so has its root.
 -- Assumes nothing.
-use mathlib.Core.Path.{_≡_, sym, ap, _∙_, subst}
+use mathlib.Core.Path.{sym, _∙_, subst}
 use lib.Dec.{T}
 use lib.Ieee.{binary64, fits}
 use lib.Ieee.Bits.{ofBits-toBits}
-use Rattle.double.specs.rules.Operations.{bits}
 use Rattle.double.specs.laws.Calls.{asks-nothing}
-use Rattle.root.specs.rules.Root.{rootOf, rootPattern}
+use Rattle.root.specs.rules.Root.{rootOf}
 use Rattle.root.specs.laws.Patterns.{above-zero-pattern, finite-no-nan, pattern-no-nan}
 use Rattle.root.specs.laws.Normal.{above-zero-normal}
 use Rattle.root.specs.laws.Nearest.{pattern-finite}

@@ -1,7 +1,7 @@
 -- `root::root_pattern` meets its contract: a subnormal's digits are `Raised` by its leading zeros. Assumes nothing.
 use borrow.Author.Needs.{needs}
 use mathlib.Core.Path.{ap, _∙_}
-use Prim.Native.Nat.{ℕ, _+_, _-_, _*_, _^_, _<_}
+use Prim.Native.Nat.{ℕ, _+_, _-_, _*_, _^_}
 use native.Mathlib.Omega.{arith}
 use lib.Count.{leadingZeros}
 use Rattle.root.specs.rules.Root.{rootPattern}

@@ -1,6 +1,6 @@
 -- Doubles from zero on as whole numbers: each is its count, and its count has at most 53 digits before its zeros. Assumes nothing.
-use mathlib.Core.Path.{_≡_, refl, sym, ap, _∙_, subst}
-use mathlib.Core.Bool.{Bool, true, false, not, _&&_}
+use mathlib.Core.Path.{_≡_, refl, sym, ap, _∙_}
+use mathlib.Core.Bool.{Bool, true, false, not, _&&_, true≢false}
 use Prim.Native.Nat.{ℕ, zero, suc, _+_, _-_, _*_, _/_, _%_, _^_, _≤_, _<_}
 use native.Mathlib.Nat.{zero-mul, zero-div, mul-one, mul-assoc, div-one, mul-div-cancel}
 use native.Mathlib.Omega.{arith}
@@ -83,14 +83,8 @@ double-short (fin s m e) f = fits-short s m e f
 
 bits-by-count : (r : Float) → isFinite r ≡ true → bearsMinus r ≡ false → toBits binary64 r ≡ (size (count r) - 53) * 2 ^ 52 + count r / 2 ^ (size (count r) - 53)
 unfolding isFinite bearsMinus count toBits
-bits-by-count nan i s = let z : false ≡ true = i in absurd (no-such z)
-  where
-    no-such : false ≡ true → ⊥
-    no-such e = let z : _≡_ {A = ℕ} 0 1 = cc in omega arith
-bits-by-count (inf t) i s = let z : false ≡ true = i in absurd (no-such z)
-  where
-    no-such : false ≡ true → ⊥
-    no-such e = let z : _≡_ {A = ℕ} 0 1 = cc in omega arith
+bits-by-count nan i s = absurd (true≢false (sym i))
+bits-by-count (inf t) i s = absurd (true≢false (sym i))
 bits-by-count (fin t m e) i s = rw s (none _ _)
   where
     none : (a b : ℕ) → 0 + a + b ≡ a + b

@@ -1,7 +1,7 @@
 -- The root of the rule is the nearest double: IEEE 754's squareRoot to nearest. Assumes nothing.
 use mathlib.Core.Path.{_≡_, refl, sym, ap, _∙_, subst}
 use mathlib.Core.Logic.{_⊎_, inl, inr}
-use mathlib.Core.Bool.{Bool, true}
+use mathlib.Core.Bool.{true}
 use Prim.Native.Nat.{ℕ, zero, suc, _+_, _-_, _*_, _/_, _%_, _^_, _≤_, _<_}
 use native.Mathlib.Nat.{le-trans, le-of-eq, le-of-lt, lt-of-lt-of-le, lt-of-le-of-lt, eq-or-lt-of-le, add-mul, mul-pos, mul-assoc, mul-le-mul, mul-le-mul-left, mul-le-mul-right, mul-lt-mul-of-pos-right, lt-of-mul-lt-mul-right, mul-mul-mul-comm, pow-succ'}
 use native.Mathlib.Omega.{arith}
@@ -12,7 +12,7 @@ use lib.Ieee.Digits.{back}
 use Rattle.double.specs.rules.Operations.{bits}
 use Rattle.double.specs.rules.Operations as operations
 use Rattle.double.specs.rules.Sign.{isFinite}
-use Rattle.root.specs.rules.Count.{isDoubleFromZero, count}
+use Rattle.root.specs.rules.Count.{count}
 use Rattle.root.specs.rules.Nearest.{twiceRootSquared, IsRoot}
 use Rattle.root.specs.rules.Whole.{IsWholeRoot, wholeRoot}
 use Rattle.root.specs.rules.Root.{rootPattern, rootOf}

@@ -1,9 +1,9 @@
 -- The square of twice a root in normal form, d·2^54·4^e with d of 53 or 54 digits, and what `rootPattern` makes of it. Assumes nothing.
-use mathlib.Core.Path.{_≡_, refl, sym, ap, _∙_, subst}
+use mathlib.Core.Path.{_≡_, sym, ap, _∙_}
 use mathlib.Core.Logic.{_⊎_, inl, inr}
 use mathlib.Core.Bool.{true}
-use Prim.Native.Nat.{ℕ, suc, _+_, _-_, _*_, _/_, _%_, _^_, _≤_, _<_}
-use native.Mathlib.Nat.{le-trans, le-of-eq, le-of-lt, lt-of-lt-of-le, lt-of-le-of-lt, mul-assoc, mul-comm, mul-left-comm, mul-div-cancel, mul-le-mul-left, mul-le-mul-right, mul-lt-mul-of-pos-right, mod-eq-of-lt}
+use Prim.Native.Nat.{ℕ, _+_, _-_, _*_, _/_, _%_, _^_, _≤_, _<_}
+use native.Mathlib.Nat.{le-trans, le-of-eq, lt-of-lt-of-le, lt-of-le-of-lt, mul-assoc, mul-comm, mul-left-comm, mul-div-cancel, mul-le-mul-left, mul-le-mul-right, mul-lt-mul-of-pos-right}
 use native.Mathlib.Omega.{arith}
 use lib.Pow.{pow-add, pow-pos, pow-mono}
 use lib.Count.{leadingZeros}
@@ -14,11 +14,10 @@ use lib.Ieee.Digits.{size-lt, size-le}
 use Rattle.double.specs.rules.Operations.{bits}
 use Rattle.double.specs.rules.Operations as operations
 use Rattle.double.specs.rules.Sign.{isFinite}
-use Rattle.root.specs.rules.Count.{count}
 use Rattle.root.specs.rules.Nearest.{twiceRootSquared}
 use Rattle.root.specs.rules.Whole.{wholeRoot}
 use Rattle.root.specs.rules.Root.{rootPattern}
-use Rattle.root.specs.laws.Numbers.{less-or-not, pow-le-back}
+use Rattle.root.specs.laws.Numbers.{less-or-not, pow-lt-back}
 use Rattle.root.specs.laws.Patterns.{count-low, count-high, above-zero-pattern, Raised, raised}
 
 pub record Normal (w d e : ℕ) : Type 0 where
@@ -96,13 +95,6 @@ module _ {w d e : ℕ} (n : Normal w d e) where
       let most : size w ≤ 108 + 2 * e = size-le w (108 + 2 * e) hi in
       let least : 106 + 2 * e < size w = pow-lt-back (106 + 2 * e) (size w) (lt-of-le-of-lt lo (size-lt w)) in
       omega arith
-    where
-      pow-lt-back : (a l : ℕ) → 2 ^ a < 2 ^ l → a < l
-      pow-lt-back a l h = go (less-or-not a l)
-        where
-          go : (a < l) ⊎ (l ≤ a) → a < l
-          go (inl q) = q
-          go (inr q) = let g : 2 ^ l ≤ 2 ^ a = pow-mono q in omega arith
 
   pub pattern-is : rootPattern w ≡ e * 2 ^ 52 + (wholeRoot 54 (d * 2 ^ 54) + 1) / 2
   unfolding rootPattern

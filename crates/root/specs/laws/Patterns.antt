@@ -10,13 +10,12 @@ use lib.Dec.{T, leb, ltb, eqb}
 use lib.Pow.{pow-add, pow-pos, pow-mono}
 use lib.Count.{leadingZeros, leading-top}
 use lib.Ieee.{Float, nan, inf, fin, binary64, fits, up, down, odd, ofFields, ofBits, toBits, nanBits, isNan, lt}
-use lib.Ieee.Bits.{ofBits-toBits, ofBits-fits, toBits-lt, nanBits-is}
+use lib.Ieee.Bits.{ofBits-toBits, ofBits-fits, nanBits-is}
 use lib.Ieee.Exact.{HasValue, odd-sign}
-use lib.Ieee.Fits.{up-pos}
 use borrow.Author.Tests.{lt-ltb, le-ltb, ltb-true, lt-leb, leb-false, ne-eqb}
 use Rattle.double.specs.rules.Operations.{bits}
 use Rattle.double.specs.rules.Operations as operations
-use Rattle.double.specs.rules.Sign.{bearsMinus, isFinite}
+use Rattle.double.specs.rules.Sign.{isFinite}
 use Rattle.root.specs.rules.Count.{isDoubleFromZero, count}
 use Rattle.root.specs.laws.Numbers.{less-or-not}
 use Rattle.root.specs.laws.Doubles.{value-count, value-from-zero}

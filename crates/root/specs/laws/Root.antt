@@ -1,7 +1,7 @@
 -- Roots of doubles from zero on are such doubles, and are not refused. Assumes nothing.
 use mathlib.Core.Path.{_≡_, refl, sym}
 use mathlib.Core.Bool.{Bool, true, false, cond, true≢false}
-use Prim.Native.Nat.{ℕ, zero, _*_, zero-le}
+use Prim.Native.Nat.{zero, _*_, zero-le}
 use native.Mathlib.Nat.{zero-mul}
 use lib.IntN.{pos}
 use lib.Dec.{T}
@@ -10,9 +10,10 @@ use borrow.Author.Tests.{le-ltb}
 use Rattle.double.specs.rules.Operations as operations
 use Rattle.double.specs.rules.Operations.{bits}
 use Rattle.double.specs.rules.Sign.{bearsMinus, isFinite}
+use Rattle.quantity.specs.rules.Answer.{answered}
 use Rattle.root.specs.rules.Count.{isDoubleFromZero}
 use Rattle.root.specs.rules.Nearest.{twiceRootSquared}
-use Rattle.root.specs.rules.Root.{rootPattern, rootOf, rootRefusal}
+use Rattle.root.specs.rules.Root.{rootPattern, rootOf, rootRefusal, rootRule}
 use Rattle.root.specs.laws.Doubles.{from-zero-fits, from-zero-finite}
 use Rattle.root.specs.laws.Patterns.{pattern-from-zero}
 use Rattle.root.specs.laws.Normal.{above-zero-normal}
@@ -41,3 +42,7 @@ root-not-refused nan i s = absurd (true≢false (sym i))
 root-not-refused (inf t) i s = absurd (true≢false (sym i))
 root-not-refused (fin true m e) i s = absurd (true≢false s)
 root-not-refused (fin false m e) i s = simp (zero-mul, le-ltb (m * up e * 1) 0 zero-le)
+
+pub root-answered : (x : Float) → isFinite x ≡ true → bearsMinus x ≡ false → rootRule x ≡ answered (rootOf x)
+unfolding rootRule
+root-answered x i s = rw (root-not-refused x i s)

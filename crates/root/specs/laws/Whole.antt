@@ -1,6 +1,5 @@
 -- `wholeRoot` finds the whole part of a root, and there is one only. Assumes nothing.
-use mathlib.Core.Path.{_≡_, refl, sym, ap, _∙_}
-use mathlib.Core.Logic.{_⊎_, inl, inr}
+use mathlib.Core.Path.{_≡_, refl}
 use mathlib.Core.Bool.{Bool, true, false, cond}
 use Prim.Native.Nat.{ℕ, zero, suc, _+_, _-_, _*_, _/_, _%_, _^_, _≤_, _<_}
 use native.Mathlib.Nat.{le-trans, le-of-eq, lt-of-lt-of-le, lt-of-le-of-lt, lt-of-mul-lt-mul-left, le-antisymm, le-div-iff-mul-le, div-lt-iff-lt-mul, div-add-mod, mod-lt, add-mul, mul-pos, mul-le-mul, mul-le-mul-right, mul-mul-mul-comm, pow-succ'}
