@@ -5,6 +5,7 @@ pub mod Patterns
 pub mod Whole
 pub mod Normal
 pub mod Unique
+pub mod Midpoint
 pub mod Nearest
 pub mod Root
 pub mod Cases

@@ -70,14 +70,15 @@ rem-mended c = omega (arith, whole-root-least (2 ^ 26) (c .first-digits .ensures
 
 mended-requires : tie.Need-mended-requires
 mended-requires c κs =
-    let r = c .first-digits .ensures in (
-      omega (arith, whole-root-most (2 ^ 27) r (c .before .pre .1)),
-      le-trans (digits-most (following (c .before .args .d) (c .first-digits .result) _ r (c .before .pre .0) (c .before .pre .1) refl)) (pow-mono {i = 27} {j = 28} (omega arith)),
-    )
+    let r = c .first-digits .ensures in
+    let n = following (c .before .args .d) (c .first-digits .result) _ r (c .before .pre .0) (c .before .pre .1) refl in
+    (omega (arith, whole-root-most (2 ^ 27) r (c .before .pre .1)), le-trans (digits-most n) (pow-mono {i = 27} {j = 28} (omega arith)))
 
 returns : tie.Need-returns
 returns c =
-    found (c .before .before .args .d) (c .before .first-digits .result) _ (c .before .first-digits .ensures) (c .before .before .pre .0) (c .before .before .pre .1) refl (c .mended .result) (c .mended .ensures)
+    let s = c .before .before in
+    let q = c .before .first-digits in
+    found (s .args .d) (q .result) _ (q .ensures) (s .pre .0) (s .pre .1) refl (c .mended .result) (c .mended .ensures)
 
 pub digits-spec : {M : Type 1} → statement M
 digits-spec =

@@ -2,7 +2,8 @@
 use mathlib.Core.Path.{_≡_, refl}
 use mathlib.Core.Bool.{Bool, true, false, cond}
 use Prim.Native.Nat.{ℕ, zero, suc, _+_, _-_, _*_, _/_, _%_, _^_, _≤_, _<_}
-use native.Mathlib.Nat.{le-trans, le-of-eq, lt-of-lt-of-le, lt-of-le-of-lt, lt-of-mul-lt-mul-left, le-antisymm, le-div-iff-mul-le, div-lt-iff-lt-mul, div-add-mod, mod-lt, add-mul, mul-pos, mul-le-mul, mul-le-mul-right, mul-mul-mul-comm, pow-succ'}
+use native.Mathlib.Nat.{le-trans, le-of-eq, lt-of-lt-of-le, lt-of-le-of-lt, lt-of-mul-lt-mul-left, le-antisymm, le-div-iff-mul-le, div-lt-iff-lt-mul, div-add-mod}
+use native.Mathlib.Nat.{mod-lt, add-mul, mul-pos, mul-le-mul, mul-le-mul-right, mul-mul-mul-comm, pow-succ'}
 use native.Mathlib.Omega.{arith}
 use lib.Dec.{leb, ltb}
 use borrow.Author.Tests.{leb-true, leb-false, ltb-true, ltb-false}
@@ -18,7 +19,8 @@ longer-is n s r = go (leb ((2 * s + 1) * (2 * s + 1)) n) (leb-true _ n) (leb-fal
     down : 4 * (s * s) ≤ n
     down = omega arith
 
-    go : (t : Bool) → (t ≡ true → (2 * s + 1) * (2 * s + 1) ≤ n) → (t ≡ false → n < (2 * s + 1) * (2 * s + 1)) → IsWholeRoot n (cond t (2 * s + 1) (2 * s))
+    go : (t : Bool) → (t ≡ true → (2 * s + 1) * (2 * s + 1) ≤ n) → (t ≡ false → n < (2 * s + 1) * (2 * s + 1))
+        → IsWholeRoot n (cond t (2 * s + 1) (2 * s))
     go true h k = record { under = h refl; over = omega arith }
     go false h k = record { under = omega arith; over = k refl }
 
