@@ -2,6 +2,7 @@
 pub mod Numbers
 pub mod Doubles
 pub mod Patterns
+pub mod Raised
 pub mod Whole
 pub mod Normal
 pub mod Unique

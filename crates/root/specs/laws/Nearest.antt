@@ -12,6 +12,7 @@ use Rattle.root.specs.rules.Whole.{IsWholeRoot, wholeRoot}
 use Rattle.root.specs.rules.Root.{rootPattern, rootOf}
 use Rattle.root.specs.laws.Doubles.{Short, double-short}
 use Rattle.root.specs.laws.Patterns.{pattern-from-zero, count-high}
+use Rattle.root.specs.laws.Unique.{root-unique}
 use Rattle.root.specs.laws.Midpoint.{near-above, near-below}
 use Rattle.root.specs.laws.Whole.{whole-root, whole-root-least, whole-root-most}
 use Rattle.root.specs.laws.Normal.{Normal, above-zero-normal, pattern-is}
@@ -103,3 +104,7 @@ module _ {w d e : ℕ} (n : Normal w d e) where
 pub root-is-nearest : (x : Float) → IsAboveZero x → IsRoot x (rootOf x)
 unfolding rootOf
 root-is-nearest x a = rw (a .above, a .finite) (nearest (above-zero-normal x a .2) x refl)
+
+-- and nothing else is
+pub root-is-only : (x r : Float) → IsAboveZero x → IsRoot x r → r ≡ rootOf x
+root-is-only x r a h = root-unique x r (rootOf x) h (root-is-nearest x a)

@@ -16,7 +16,8 @@ use Rattle.root.specs.rules.Nearest.{twiceRootSquared}
 use Rattle.root.specs.rules.Whole.{wholeRoot}
 use Rattle.root.specs.rules.Root.{rootPattern}
 use Rattle.root.specs.laws.Numbers.{less-or-not, pow-lt-back}
-use Rattle.root.specs.laws.Patterns.{count-low, count-high, above-zero-pattern, Raised, raised}
+use Rattle.root.specs.laws.Patterns.{count-low, count-high, above-zero-pattern}
+use Rattle.root.specs.laws.Raised.{Raised, raised}
 
 pub record Normal (w d e : ℕ) : Type 0 where
   pub is : w ≡ d * 2 ^ 54 * 2 ^ (2 * e)

@@ -1,4 +1,4 @@
--- `wholeRoot` finds the whole part of a root, and there is one only. Assumes nothing.
+-- `wholeRoot` finds the whole part of a root; there is one only; its digits can be found several at once. Assumes nothing.
 use mathlib.Core.Path.{_≡_, refl}
 use mathlib.Core.Bool.{Bool, true, false, cond}
 use Prim.Native.Nat.{ℕ, zero, suc, _+_, _-_, _*_, _/_, _%_, _^_, _≤_, _<_}
