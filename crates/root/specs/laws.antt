@@ -2,9 +2,11 @@
 pub mod Numbers
 pub mod Doubles
 pub mod Patterns
+pub mod Raised
 pub mod Whole
 pub mod Normal
 pub mod Unique
+pub mod Midpoint
 pub mod Nearest
 pub mod Root
 pub mod Cases

@@ -1,35 +1,66 @@
 // The square root of a double (section 2): IEEE 754's squareRoot to nearest, by a digit recurrence over whole numbers.
 // Rules: specs/rules, in reading order in specs/rules.antt.
 ghost use mathlib.Core.Path.{_≡_};
-ghost use Prim.Native.Nat.{_+_, _*_, _^_, _≤_, _<_};
+ghost use Prim.Native.Nat.{_+_, _*_, _/_, _^_, _≤_, _<_};
 ghost use Rattle.double.specs.rules.Operations.{bits};
 ghost use Rattle.quantity.specs.rules.Answer.{shown};
 ghost use Rattle.root.specs.rules.Nearest.{twiceRootSquared};
-ghost use Rattle.root.specs.rules.Whole.{wholeRoot};
+ghost use Rattle.root.specs.rules.Whole.{IsWholeRoot, wholeRoot, mended};
 ghost use Rattle.root.specs.rules.Root.{rootPattern, rootOf, rootRefusal, rootRule};
 use quantity::One;
 
-// The whole part of the root of d·2^54, one binary digit a turn, the highest first.
-// k digits are left to find, and 2·(d·2^54 − q·q) is y·2^k.
+// The digits that follow y in a root, by the quotient and the rest of what is left and twice y: the quotient, or one less
+// where its square is too much.
+fn mended(y: u64, quotient: u64, rest: u64) -> u64
+    requires { ⌜ (y < 2 ^ 54) × (quotient ≤ 2 ^ 28) ⌝ }
+    ensures { λ r. ⌜ r ≡ mended y quotient rest ⌝ }
+{
+    if rest < quotient * quotient {
+        y + quotient - 1
+    } else {
+        y + quotient
+    }
+}
+
+// The whole part of n's root from q, that of n / 4^k: the next k binary digits.
+fn more_digits(n: u64, q: u64, k: u64) -> u64
+    requires { ⌜ (IsWholeRoot (n / (2 ^ k * 2 ^ k)) q) × (2 ^ k ≤ q + q) × (n < 2 ^ 54) × (k < 54) ⌝ }
+    ensures { λ r. ⌜ IsWholeRoot n r ⌝ }
+{
+    let y = q << k;
+    let left = n - y * y;
+    mended(y, left / (y + y), left % (y + y))
+}
+
+// The whole part of n's root, of 2 binary digits.
+fn two_digits(n: u64) -> u64
+    requires { ⌜ (4 ≤ n) × (n < 16) ⌝ }
+    ensures { λ r. ⌜ IsWholeRoot n r ⌝ }
+{
+    if n < 9 { 2 } else { 3 }
+}
+
+// The whole part of d's root, of 27 binary digits: 2, then 2, 3, 7 and 13 at once.
+fn first_digits(d: u64) -> u64
+    requires { ⌜ (2 ^ 52 ≤ d) × (d < 2 ^ 54) ⌝ }
+    ensures { λ r. ⌜ IsWholeRoot d r ⌝ }
+{
+    let two = two_digits(d >> 50);
+    let four = more_digits(d >> 46, two, 2);
+    let seven = more_digits(d >> 40, four, 3);
+    let fourteen = more_digits(d >> 26, seven, 7);
+    more_digits(d, fourteen, 13)
+}
+
+// The whole part of the root of d·2^54, of 54 binary digits: 27, then 27 at once. What is left and twice the root so far
+// are both divided by 2^27 first, so that they fit.
 fn digits(d: u64) -> u64
-    requires { ⌜ d < 2 ^ 54 ⌝ }
+    requires { ⌜ (2 ^ 52 ≤ d) × (d < 2 ^ 54) ⌝ }
     ensures { λ s. ⌜ s ≡ wholeRoot 54 (d * 2 ^ 54) ⌝ }
 {
-    let mut q: u64 = 0;
-    let mut y: u64 = d + d;
-    let mut k: u64 = 54;
-    while 0 < k {
-        k -= 1;
-        let b = 1u64 << k;
-        let t = q + q + b;
-        if t <= y {
-            q += b;
-            y = y - t + (y - t);
-        } else {
-            y = y + y;
-        }
-    }
-    q
+    let q = first_digits(d);
+    let left = (d - q * q) << 27;
+    mended(q << 27, left / (q + q), (left % (q + q)) << 27)
 }
 
 // The bit pattern of the root of d·2^(f − 2098), where d has its 53 digits. An odd exponent gives its odd two to d.

@@ -1,7 +1,7 @@
 -- `root::pack` meets its contract: d and f stand for a number in `Normal` form. Assumes nothing.
 use borrow.Author.Needs.{needs}
-use mathlib.Core.Path.{_≡_, sym, ap, _∙_}
-use Prim.Native.Nat.{ℕ, _+_, _-_, _*_, _/_, _%_, _^_, _<_}
+use mathlib.Core.Path.{_≡_, ap, _∙_}
+use Prim.Native.Nat.{ℕ, _+_, _-_, _*_, _/_, _%_, _^_}
 use native.Mathlib.Omega.{arith}
 use Rattle.root.specs.rules.Whole.{wholeRoot}
 use Rattle.root.specs.laws.Normal.{Normal, normal, pattern-is}
@@ -22,7 +22,7 @@ shl-digits : tie.Need-shl-digits
 shl-digits c = search needs
 
 digits-requires : tie.Need-digits-requires
-digits-requires c κs = omega (arith, form c .most)
+digits-requires c κs = omega (arith, form c .least, form c .most)
 
 add-result : tie.Need-add-result
 add-result c = omega (arith, found c, root-digits-most (form (c .before)))

@@ -1,11 +1,11 @@
 -- `root::root_pattern` meets its contract: a subnormal's digits are `Raised` by its leading zeros. Assumes nothing.
 use borrow.Author.Needs.{needs}
 use mathlib.Core.Path.{ap, _∙_}
-use Prim.Native.Nat.{ℕ, _+_, _-_, _*_, _^_, _<_}
+use Prim.Native.Nat.{ℕ, _+_, _-_, _*_, _^_}
 use native.Mathlib.Omega.{arith}
 use lib.Count.{leadingZeros}
 use Rattle.root.specs.rules.Root.{rootPattern}
-use Rattle.root.specs.laws.Patterns.{Raised, raised}
+use Rattle.root.specs.laws.Raised.{Raised, raised}
 use Rattle.root.specs.laws.Normal.{low-square, high-square}
 use Rattle.root.proofs.root_pattern.Statement.{statement}
 use Rattle.root.proofs.root_pattern.Tie as tie
@@ -45,7 +45,9 @@ returns c =
     let b = c .before .before .args .b in
     let r = up (c .before) in
     let u = leadingZeros 64 b - 11 in
-    c .pack .ensures ∙ ap (λ (d : ℕ). rootPattern (d * 2 ^ (1024 - u + 52))) (omega arith) ∙ ap rootPattern (low-square b (leadingZeros 64 b) (c .before .if1 .taken) r)
+    c .pack .ensures
+    ∙ ap (λ (d : ℕ). rootPattern (d * 2 ^ (1024 - u + 52))) (omega arith)
+    ∙ ap rootPattern (low-square b (leadingZeros 64 b) (c .before .if1 .taken) r)
 
 returns-2 : tie.Need-returns-2
 returns-2 c = c .pack2 .ensures ∙ ap rootPattern (high-square (c .before .before .args .b) (c .before .if1 .left) (c .before .before .pre .1))

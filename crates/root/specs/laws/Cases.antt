@@ -1,9 +1,8 @@
 -- Roots worked out by the rule. Assumes nothing.
-use mathlib.Core.Path.{_≡_, refl}
+use mathlib.Core.Path.{refl}
 use Prim.Native.Nat.{ℕ}
 use mathlib.Core.List.{List, [], _∷_}
-use lib.Ieee.{Float, nan, inf, lt, ofBits, size}
-use mathlib.Core.Bool.{true, false}
+use lib.Ieee.{Float, lt, ofBits, size}
 use Rattle.double.specs.rules.Operations.{bits}
 use Rattle.double.specs.rules.Sign.{isFinite}
 use Rattle.double.specs.rules.Table.{Row, _is_, Agrees}
@@ -12,14 +11,14 @@ use Rattle.root.specs.rules.Count.{count}
 use Rattle.root.specs.rules.Whole.{wholeRoot}
 use Rattle.root.specs.rules.Root.{rootPattern, rootOf, rootRule}
 
--- the pattern of a double, and that of its root
+-- the pattern of a double, and that of its root, or its refusal
 infix 40 _has-root_
 abbrev _has-root_ : ℕ → ℕ → Row (Answer Float)
 b has-root r = rootRule (bits b) is answered (bits r)
 
 infix 40 _refused-by_
-abbrev _refused-by_ : Float → ℕ → Row (Answer Float)
-x refused-by n = rootRule x is refused n
+abbrev _refused-by_ : ℕ → ℕ → Row (Answer Float)
+b refused-by n = rootRule (bits b) is refused n
 
 abbrev rows : List (Row (Answer Float))
 rows =
@@ -36,12 +35,12 @@ rows =
     -- +0 and −0
     ∷ (0x0000000000000000 has-root 0x0000000000000000)
     ∷ (0x8000000000000000 has-root 0x8000000000000000)
-    -- −1, −2^−1074, the infinities, NaN
-    ∷ (bits 0xbff0000000000000 refused-by 5)
-    ∷ (bits 0x8000000000000001 refused-by 5)
-    ∷ (inf false refused-by 1)
-    ∷ (inf true refused-by 1)
-    ∷ (nan refused-by 1)
+    -- −1, −2^−1074, the infinities and a NaN
+    ∷ (0xbff0000000000000 refused-by 5)
+    ∷ (0x8000000000000001 refused-by 5)
+    ∷ (0x7ff0000000000000 refused-by 1)
+    ∷ (0xfff0000000000000 refused-by 1)
+    ∷ (0x7ff8000000000000 refused-by 1)
     ∷ []
 
 pub root-cases : Agrees rows

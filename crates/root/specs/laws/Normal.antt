@@ -1,25 +1,23 @@
 -- The square of twice a root in normal form, d·2^54·4^e with d of 53 or 54 digits, and what `rootPattern` makes of it. Assumes nothing.
-use mathlib.Core.Path.{_≡_, refl, sym, ap, _∙_, subst}
+use mathlib.Core.Path.{_≡_, sym, ap, _∙_}
 use mathlib.Core.Logic.{_⊎_, inl, inr}
-use mathlib.Core.Bool.{true}
-use Prim.Native.Nat.{ℕ, suc, _+_, _-_, _*_, _/_, _%_, _^_, _≤_, _<_}
-use native.Mathlib.Nat.{le-trans, le-of-eq, le-of-lt, lt-of-lt-of-le, lt-of-le-of-lt, mul-assoc, mul-comm, mul-left-comm, mul-div-cancel, mul-le-mul-left, mul-le-mul-right, mul-lt-mul-of-pos-right, mod-eq-of-lt}
+use Prim.Native.Nat.{ℕ, _+_, _-_, _*_, _/_, _%_, _^_, _≤_, _<_}
+use native.Mathlib.Nat.{lt-of-le-of-lt, mul-assoc, mul-comm, mul-left-comm, mul-div-cancel}
+use native.Mathlib.Nat.{mul-le-mul-left, mul-le-mul-right, mul-lt-mul-of-pos-right}
 use native.Mathlib.Omega.{arith}
 use lib.Pow.{pow-add, pow-pos, pow-mono}
 use lib.Count.{leadingZeros}
-use lib.Dec.{T}
-use lib.Ieee.{Float, binary64, fits, size, lt, toBits}
+use lib.Ieee.{Float, binary64, size, toBits}
 use lib.Ieee.Bits.{ofBits-toBits}
 use lib.Ieee.Digits.{size-lt, size-le}
 use Rattle.double.specs.rules.Operations.{bits}
-use Rattle.double.specs.rules.Operations as operations
-use Rattle.double.specs.rules.Sign.{isFinite}
-use Rattle.root.specs.rules.Count.{count}
+use Rattle.root.specs.rules.Count.{IsAboveZero}
 use Rattle.root.specs.rules.Nearest.{twiceRootSquared}
 use Rattle.root.specs.rules.Whole.{wholeRoot}
 use Rattle.root.specs.rules.Root.{rootPattern}
-use Rattle.root.specs.laws.Numbers.{less-or-not, pow-le-back}
-use Rattle.root.specs.laws.Patterns.{count-low, count-high, above-zero-pattern, Raised, raised}
+use Rattle.root.specs.laws.Numbers.{less-or-not, pow-lt-back}
+use Rattle.root.specs.laws.Patterns.{count-low, count-high, above-zero-pattern}
+use Rattle.root.specs.laws.Raised.{Raised, raised}
 
 pub record Normal (w d e : ℕ) : Type 0 where
   pub is : w ≡ d * 2 ^ 54 * 2 ^ (2 * e)
@@ -76,13 +74,16 @@ has-normal b p h = go (less-or-not b (2 ^ 52))
     go (inl l) =
         let z = leadingZeros 64 b in
         let r : Raised b z = raised b p l in
-        (_, _, rw (low-square b z l r) at (normal (b * 2 ^ (z - 11)) (1024 - (z - 11)) (r .least) (r .most) (omega arith) (omega arith)))
-    go (inr l) = (_, _, rw (high-square b l h) at (normal (2 ^ 52 + b % 2 ^ 52) (b / 2 ^ 52 + 1023) (omega arith) (omega arith) (omega arith) (omega arith)))
+        let n = normal (b * 2 ^ (z - 11)) (1024 - (z - 11)) (r .least) (r .most) (omega arith) (omega arith) in
+        (_, _, rw (low-square b z l r) at n)
+    go (inr l) =
+        let n = normal (2 ^ 52 + b % 2 ^ 52) (b / 2 ^ 52 + 1023) (omega arith) (omega arith) (omega arith) (omega arith) in
+        (_, _, rw (high-square b l h) at n)
 
-pub above-zero-normal : (x : Float) → T (fits binary64 x) → isFinite x ≡ true → lt operations.zero x ≡ true → (d : ℕ) × (e : ℕ) × Normal (twiceRootSquared x) d e
-above-zero-normal x f i l =
-    let p = above-zero-pattern x f i l in
-    rw (ofBits-toBits binary64 x f) at (has-normal (toBits binary64 x) (p .0) (p .1))
+pub above-zero-normal : (x : Float) → IsAboveZero x → (d : ℕ) × (e : ℕ) × Normal (twiceRootSquared x) d e
+above-zero-normal x a =
+    let p = above-zero-pattern x a in
+    rw (ofBits-toBits binary64 x (a .held)) at (has-normal (toBits binary64 x) (p .0) (p .1))
 
 -- ---- the pattern
 
@@ -90,22 +91,15 @@ module _ {w d e : ℕ} (n : Normal w d e) where
   places : (size w - 107) / 2 ≡ e
   places =
       let p = 2 ^ (2 * e) in
-      let below-top : d * 2 ^ 54 < 2 ^ 108 = omega (arith, n .most) in
-      let lo : 2 ^ (106 + 2 * e) ≤ w = le-trans (le-of-eq (pow-add 2 106 (2 * e))) (le-trans (mul-le-mul-right p (mul-le-mul-right (2 ^ 54) (n .least))) (le-of-eq (sym (n .is)))) in
-      let hi : w < 2 ^ (108 + 2 * e) = lt-of-le-of-lt (le-of-eq (n .is)) (lt-of-lt-of-le (mul-lt-mul-of-pos-right below-top (pow-pos (2 * e))) (le-of-eq (sym (pow-add 2 108 (2 * e))))) in
-      let most : size w ≤ 108 + 2 * e = size-le w (108 + 2 * e) hi in
-      let least : 106 + 2 * e < size w = pow-lt-back (106 + 2 * e) (size w) (lt-of-le-of-lt lo (size-lt w)) in
+      let lo : 2 ^ 106 * p ≤ w = rw (n .is) (mul-le-mul-right p (mul-le-mul-right (2 ^ 54) (n .least))) in
+      let under : d * 2 ^ 54 < 2 ^ 108 = omega (arith, n .most) in
+      let hi : w < 2 ^ 108 * p = rw (n .is) (mul-lt-mul-of-pos-right under (pow-pos (2 * e))) in
+      let most : size w ≤ 108 + 2 * e = size-le w (108 + 2 * e) (rw (pow-add 2 108 (2 * e)) hi) in
+      let least : 106 + 2 * e < size w = pow-lt-back (106 + 2 * e) (size w) (lt-of-le-of-lt (rw (pow-add 2 106 (2 * e)) lo) (size-lt w)) in
       omega arith
-    where
-      pow-lt-back : (a l : ℕ) → 2 ^ a < 2 ^ l → a < l
-      pow-lt-back a l h = go (less-or-not a l)
-        where
-          go : (a < l) ⊎ (l ≤ a) → a < l
-          go (inl q) = q
-          go (inr q) = let g : 2 ^ l ≤ 2 ^ a = pow-mono q in omega arith
 
   pub pattern-is : rootPattern w ≡ e * 2 ^ 52 + (wholeRoot 54 (d * 2 ^ 54) + 1) / 2
   unfolding rootPattern
   pattern-is =
       ap (λ (k : ℕ). k * 2 ^ 52 + (wholeRoot 54 (w / 2 ^ (2 * k)) + 1) / 2) places
-      ∙ ap (λ (x : ℕ). e * 2 ^ 52 + (wholeRoot 54 x + 1) / 2) (ap (λ (x : ℕ). x / 2 ^ (2 * e)) (n .is) ∙ mul-div-cancel (d * 2 ^ 54) (pow-pos (2 * e)))
+      ∙ ap (λ (x : ℕ). e * 2 ^ 52 + (wholeRoot 54 x + 1) / 2) (rw (n .is) (mul-div-cancel (d * 2 ^ 54) (pow-pos (2 * e))))

@@ -1,23 +1,21 @@
--- Bit patterns of doubles: what each counts, which are a finite double's, and a subnormal's digits brought up by their leading zeros.
--- Assumes nothing.
+-- Bit patterns of doubles: what each counts, and which are a finite double's. Assumes nothing.
 use mathlib.Core.Path.{_≡_, refl, sym, ap, _∙_, subst}
 use mathlib.Core.Logic.{_⊎_, inl, inr}
 use mathlib.Core.Bool.{Bool, true, false, not, cond, true≢false}
 use Prim.Native.Nat.{ℕ, zero, suc, _+_, _-_, _*_, _/_, _%_, _^_, _≤_, _<_}
-use native.Mathlib.Nat.{le-trans, le-of-eq, lt-of-lt-of-le, lt-of-not-le, not-le-of-lt, lt-irrefl, zero-lt-suc, zero-mul, mul-one, mul-pos, mul-le-mul-right, mul-lt-mul-of-pos-right}
+use native.Mathlib.Nat.{lt-irrefl, zero-lt-suc}
+use native.Mathlib.Nat.{zero-mul, mul-one, mul-pos}
 use native.Mathlib.Omega.{arith}
 use lib.Dec.{T, leb, ltb, eqb}
-use lib.Pow.{pow-add, pow-pos, pow-mono}
-use lib.Count.{leadingZeros, leading-top}
-use lib.Ieee.{Float, nan, inf, fin, binary64, fits, up, down, odd, ofFields, ofBits, toBits, nanBits, isNan, lt}
-use lib.Ieee.Bits.{ofBits-toBits, ofBits-fits, toBits-lt, nanBits-is}
+use lib.Pow.{pow-pos}
+use lib.Ieee.{Float, nan, inf, fin, binary64, up, down, odd, ofFields, ofBits, toBits, nanBits, isNan, lt}
+use lib.Ieee.Bits.{ofBits-toBits, ofBits-fits, nanBits-is}
 use lib.Ieee.Exact.{HasValue, odd-sign}
-use lib.Ieee.Fits.{up-pos}
 use borrow.Author.Tests.{lt-ltb, le-ltb, ltb-true, lt-leb, leb-false, ne-eqb}
 use Rattle.double.specs.rules.Operations.{bits}
 use Rattle.double.specs.rules.Operations as operations
-use Rattle.double.specs.rules.Sign.{bearsMinus, isFinite}
-use Rattle.root.specs.rules.Count.{isDoubleFromZero, count}
+use Rattle.double.specs.rules.Sign.{isFinite}
+use Rattle.root.specs.rules.Count.{IsFromZero, IsAboveZero, count}
 use Rattle.root.specs.laws.Numbers.{less-or-not}
 use Rattle.root.specs.laws.Doubles.{value-count, value-from-zero}
 
@@ -75,7 +73,7 @@ top-field n h =
 
 -- ---- the patterns below that of +infinity
 
-pub pattern-from-zero : (b : ℕ) → b < 2047 * 2 ^ 52 → T (isDoubleFromZero (bits b))
+pub pattern-from-zero : (b : ℕ) → b < 2047 * 2 ^ 52 → IsFromZero (bits b)
 pattern-from-zero b h = value-from-zero (bits b) (val b) (2 ^ 1074) (ofBits-fits binary64 b) (positive-value b h)
 
 pub count-low : (b : ℕ) → b < 2 ^ 52 → count (bits b) ≡ b
@@ -115,60 +113,34 @@ finite-no-nan nan i = absurd (true≢false (sym i))
 finite-no-nan (inf s) i = tt
 finite-no-nan (fin s m e) i = tt
 
-module _ (x : Float) (f : T (fits binary64 x)) (i : isFinite x ≡ true) (l : lt operations.zero x ≡ true) where
-  below-top : toBits binary64 x % 2 ^ 63 < 2047 * 2 ^ 52
+module _ (b : ℕ) (i : isFinite (bits b) ≡ true) (l : lt operations.zero (bits b) ≡ true) where
+  below-top : b % 2 ^ 63 < 2047 * 2 ^ 52
   unfolding isFinite
-  below-top = go (less-or-not (toBits binary64 x % 2 ^ 63) (2047 * 2 ^ 52))
+  below-top = go (less-or-not (b % 2 ^ 63) (2047 * 2 ^ 52))
     where
-      not-finite : (b s : Bool) → isFinite (cond b (inf s) nan) ≡ true → ⊥
+      not-finite : (t s : Bool) → isFinite (cond t (inf s) nan) ≡ true → ⊥
       not-finite true s e = true≢false (sym e)
       not-finite false s e = true≢false (sym e)
 
-      go : (toBits binary64 x % 2 ^ 63 < 2047 * 2 ^ 52) ⊎ (2047 * 2 ^ 52 ≤ toBits binary64 x % 2 ^ 63) → toBits binary64 x % 2 ^ 63 < 2047 * 2 ^ 52
+      go : (b % 2 ^ 63 < 2047 * 2 ^ 52) ⊎ (2047 * 2 ^ 52 ≤ b % 2 ^ 63) → b % 2 ^ 63 < 2047 * 2 ^ 52
       go (inl h) = h
-      go (inr h) = absurd (not-finite (eqb (toBits binary64 x % 2 ^ 63 % 2 ^ 52) 0) (leb (2 ^ 63) (toBits binary64 x)) (ap isFinite (sym (top-field (toBits binary64 x) h) ∙ ofBits-toBits binary64 x f) ∙ i))
+      go (inr h) = absurd (not-finite (eqb (b % 2 ^ 63 % 2 ^ 52) 0) (leb (2 ^ 63) b) (ap isFinite (sym (top-field b h)) ∙ i))
 
-  read-back : (leb (2 ^ 63) (toBits binary64 x) ≡ false) × (0 < val (toBits binary64 x % 2 ^ 63))
-  read-back =
-      above-zero-value x (leb (2 ^ 63) (toBits binary64 x)) (val (toBits binary64 x % 2 ^ 63)) (2 ^ 1074) (pow-pos 1074) l
-      (subst (λ (v : Float). HasValue v (leb (2 ^ 63) (toBits binary64 x)) (val (toBits binary64 x % 2 ^ 63)) (2 ^ 1074)) (ofBits-toBits binary64 x f)
-      (finite-value (toBits binary64 x) below-top))
+  plus : (leb (2 ^ 63) b ≡ false) × (0 < val (b % 2 ^ 63))
+  plus = above-zero-value (bits b) (leb (2 ^ 63) b) (val (b % 2 ^ 63)) (2 ^ 1074) (pow-pos 1074) l (finite-value b below-top)
 
-  pub above-zero-pattern : (0 < toBits binary64 x) × (toBits binary64 x < 2047 * 2 ^ 52)
+  between : (0 < b) × (b < 2047 * 2 ^ 52)
   unfolding val
-  above-zero-pattern =
-      let b = toBits binary64 x in
-      let low : b < 2 ^ 63 = leb-false (2 ^ 63) b (read-back .0) in
+  between =
+      let low : b < 2 ^ 63 = leb-false (2 ^ 63) b (plus .0) in
       let same : b % 2 ^ 63 ≡ b = omega arith in
-      (some b (rw same at (read-back .1)), rw same at below-top)
+      (some b (rw same at (plus .1)), rw same at below-top)
     where
       some : (b : ℕ) → 0 < val b → 0 < b
       some zero h = absurd (lt-irrefl 0 h)
       some (suc b) h = zero-lt-suc b
 
--- ---- digits brought up
-
--- z counts the zeros above t's leading digit among 64, and t moved up by z − 11 has 53 digits
-pub record Raised (t z : ℕ) : Type 0 where
-  pub eleven : 11 ≤ z
-  pub few : z - 11 ≤ 52
-  pub least : 2 ^ 52 ≤ t * 2 ^ (z - 11)
-  pub most : t * 2 ^ (z - 11) < 2 ^ 53
-
-pub raised : (t : ℕ) → 0 < t → t < 2 ^ 52 → Raised t (leadingZeros 64 t)
-raised t p h =
-    let z = leadingZeros 64 t in
-    let top = leading-top 64 t p (omega arith) in
-    let j = top .0 in
-    let e : z + suc j ≡ 64 = top .1 in
-    let jl : j < 52 = lt-of-not-le (λ (g : 52 ≤ j). not-le-of-lt h (le-trans (pow-mono g) (top .2))) in
-    let u : j + (z - 11) ≡ 52 = omega arith in
-    let u' : suc j + (z - 11) ≡ 53 = omega arith in
-    record {
-      eleven = omega arith;
-      few = omega arith;
-      least = le-trans (le-of-eq (ap (λ (x : ℕ). 2 ^ x) (sym u) ∙ pow-add 2 j (z - 11))) (mul-le-mul-right (2 ^ (z - 11)) (top .2));
-      most =
-          lt-of-lt-of-le (mul-lt-mul-of-pos-right (top .3) (pow-pos (z - 11)))
-          (le-of-eq (sym (pow-add 2 (suc j) (z - 11)) ∙ ap (λ (x : ℕ). 2 ^ x) u'));
-    }
+pub above-zero-pattern : (x : Float) → IsAboveZero x → (0 < toBits binary64 x) × (toBits binary64 x < 2047 * 2 ^ 52)
+above-zero-pattern x a =
+    let e = ofBits-toBits binary64 x (a .held) in
+    between (toBits binary64 x) (rw e (a .finite)) (rw e (a .above))

@@ -1,19 +1,18 @@
 -- Roots of doubles from zero on are such doubles, and are not refused. Assumes nothing.
 use mathlib.Core.Path.{_≡_, refl, sym}
 use mathlib.Core.Bool.{Bool, true, false, cond, true≢false}
-use Prim.Native.Nat.{ℕ, zero, _*_, zero-le}
+use Prim.Native.Nat.{zero, _*_, zero-le}
 use native.Mathlib.Nat.{zero-mul}
 use lib.IntN.{pos}
-use lib.Dec.{T}
 use lib.Ieee.{Float, nan, inf, fin, up, lt, ofBits}
 use borrow.Author.Tests.{le-ltb}
 use Rattle.double.specs.rules.Operations as operations
 use Rattle.double.specs.rules.Operations.{bits}
 use Rattle.double.specs.rules.Sign.{bearsMinus, isFinite}
-use Rattle.root.specs.rules.Count.{isDoubleFromZero}
+use Rattle.quantity.specs.rules.Answer.{answered}
+use Rattle.root.specs.rules.Count.{IsFromZero, IsAboveZero}
 use Rattle.root.specs.rules.Nearest.{twiceRootSquared}
-use Rattle.root.specs.rules.Root.{rootPattern, rootOf, rootRefusal}
-use Rattle.root.specs.laws.Doubles.{from-zero-fits, from-zero-finite}
+use Rattle.root.specs.rules.Root.{rootPattern, rootOf, rootRefusal, rootRule}
 use Rattle.root.specs.laws.Patterns.{pattern-from-zero}
 use Rattle.root.specs.laws.Normal.{above-zero-normal}
 use Rattle.root.specs.laws.Nearest.{pattern-finite}
@@ -25,14 +24,14 @@ root-of-zero true = refl
 root-of-zero false = refl
 
 -- so it fits binary64, is finite and bears no minus sign
-pub root-from-zero : (x : Float) → T (isDoubleFromZero x) → T (isDoubleFromZero (rootOf x))
+pub root-from-zero : (x : Float) → IsFromZero x → IsFromZero (rootOf x)
 unfolding rootOf
 root-from-zero x d = go (lt operations.zero x) refl
   where
-    go : (t : Bool) → lt operations.zero x ≡ t → T (isDoubleFromZero (cond t (cond (isFinite x) (bits (rootPattern (twiceRootSquared x))) x) x))
+    go : (t : Bool) → lt operations.zero x ≡ t → IsFromZero (cond t (cond (isFinite x) (bits (rootPattern (twiceRootSquared x))) x) x)
     go true l =
-        rw (from-zero-finite x d)
-        (pattern-from-zero (rootPattern (twiceRootSquared x)) (pattern-finite (above-zero-normal x (from-zero-fits x d) (from-zero-finite x d) l .2)))
+        let a : IsAboveZero x = record { held = d .held; finite = d .finite; above = l } in
+        rw (d .finite) (pattern-from-zero (rootPattern (twiceRootSquared x)) (pattern-finite (above-zero-normal x a .2)))
     go false l = d
 
 pub root-not-refused : (x : Float) → isFinite x ≡ true → bearsMinus x ≡ false → rootRefusal x ≡ 0
@@ -41,3 +40,7 @@ root-not-refused nan i s = absurd (true≢false (sym i))
 root-not-refused (inf t) i s = absurd (true≢false (sym i))
 root-not-refused (fin true m e) i s = absurd (true≢false s)
 root-not-refused (fin false m e) i s = simp (zero-mul, le-ltb (m * up e * 1) 0 zero-le)
+
+pub root-answered : (x : Float) → isFinite x ≡ true → bearsMinus x ≡ false → rootRule x ≡ answered (rootOf x)
+unfolding rootRule
+root-answered x i s = rw (root-not-refused x i s)

@@ -1,13 +1,13 @@
--- `wholeRoot` finds the whole part of a root, and there is one only. Assumes nothing.
-use mathlib.Core.Path.{_≡_, refl, sym, ap, _∙_}
-use mathlib.Core.Logic.{_⊎_, inl, inr}
+-- `wholeRoot` finds the whole part of a root; there is one only; its digits can be found several at once. Assumes nothing.
+use mathlib.Core.Path.{_≡_, refl}
 use mathlib.Core.Bool.{Bool, true, false, cond}
-use Prim.Native.Nat.{ℕ, zero, suc, _+_, _-_, _*_, _/_, _^_, _≤_, _<_}
-use native.Mathlib.Nat.{lt-of-le-of-lt, le-antisymm, pow-succ'}
+use Prim.Native.Nat.{ℕ, zero, suc, _+_, _-_, _*_, _/_, _%_, _^_, _≤_, _<_}
+use native.Mathlib.Nat.{le-trans, le-of-eq, lt-of-lt-of-le, lt-of-le-of-lt, lt-of-mul-lt-mul-left, le-antisymm, le-div-iff-mul-le, div-lt-iff-lt-mul, div-add-mod}
+use native.Mathlib.Nat.{mod-lt, add-mul, mul-pos, mul-le-mul, mul-le-mul-right, mul-mul-mul-comm, pow-succ'}
 use native.Mathlib.Omega.{arith}
-use lib.Dec.{leb}
-use borrow.Author.Tests.{leb-true, leb-false}
-use Rattle.root.specs.rules.Whole.{IsWholeRoot, longer, wholeRoot}
+use lib.Dec.{leb, ltb}
+use borrow.Author.Tests.{leb-true, leb-false, ltb-true, ltb-false}
+use Rattle.root.specs.rules.Whole.{IsWholeRoot, longer, wholeRoot, mended}
 use Rattle.root.specs.laws.Numbers.{square-lt-back}
 
 longer-is : (n s : ℕ) → IsWholeRoot (n / 4) s → IsWholeRoot n (longer n s)
@@ -19,7 +19,8 @@ longer-is n s r = go (leb ((2 * s + 1) * (2 * s + 1)) n) (leb-true _ n) (leb-fal
     down : 4 * (s * s) ≤ n
     down = omega arith
 
-    go : (t : Bool) → (t ≡ true → (2 * s + 1) * (2 * s + 1) ≤ n) → (t ≡ false → n < (2 * s + 1) * (2 * s + 1)) → IsWholeRoot n (cond t (2 * s + 1) (2 * s))
+    go : (t : Bool) → (t ≡ true → (2 * s + 1) * (2 * s + 1) ≤ n) → (t ≡ false → n < (2 * s + 1) * (2 * s + 1))
+        → IsWholeRoot n (cond t (2 * s + 1) (2 * s))
     go true h k = record { under = h refl; over = omega arith }
     go false h k = record { under = omega arith; over = k refl }
 
@@ -31,10 +32,85 @@ whole-root (suc k) n h = longer-is n (wholeRoot k (n / 4)) (whole-root k (n / 4)
     less : (n p : ℕ) → n < 4 * p → n / 4 < p
     less n p h = omega arith
 
-not-below : (n s t : ℕ) → IsWholeRoot n s → IsWholeRoot n t → s ≤ t
-not-below n s t p q =
-    let h : s < t + 1 = square-lt-back s (t + 1) (lt-of-le-of-lt (p .under) (q .over)) in
+pub whole-root-least : {n s : ℕ} (m : ℕ) → IsWholeRoot n s → m * m ≤ n → m ≤ s
+whole-root-least {n} {s} m r h =
+    let k : m < s + 1 = square-lt-back m (s + 1) (lt-of-le-of-lt h (r .over)) in
     omega arith
 
-pub whole-root-only : (n s t : ℕ) → IsWholeRoot n s → IsWholeRoot n t → s ≡ t
-whole-root-only n s t p q = le-antisymm (not-below n s t p q) (not-below n t s q p)
+pub whole-root-most : {n s : ℕ} (m : ℕ) → IsWholeRoot n s → n < m * m → s < m
+whole-root-most {n} {s} m r h = square-lt-back s m (lt-of-le-of-lt (r .under) h)
+
+pub whole-root-only : {n s t : ℕ} → IsWholeRoot n s → IsWholeRoot n t → s ≡ t
+whole-root-only {s = s} {t = t} p q = le-antisymm (whole-root-least s q (p .under)) (whole-root-least t p (q .under))
+
+-- ---- several digits at once
+
+-- y is not too much for n's root, and p more would be
+pub record Begun (n y p : ℕ) : Type 0 where
+  pub some : 0 < y
+  pub under : y * y ≤ n
+  pub over : n < (y + p) * (y + p)
+  pub wide : p * p ≤ y + y
+
+-- so is q·p, where q is the whole part for n / p²
+pub begun : (n q p : ℕ) → IsWholeRoot (n / (p * p)) q → 0 < p → p ≤ q + q → Begun n (q * p) p
+begun n q p r h w = record {
+  some = mul-pos (positive q p h w) h;
+  under = rw (mul-mul-mul-comm q p q p) (le-div-iff-mul-le (mul-pos h h) .0 (r .under));
+  over = lt-of-lt-of-le (div-lt-iff-lt-mul (mul-pos h h) .0 (r .over)) (le-of-eq (spread q p));
+  wide = le-trans (mul-le-mul-right p w) (le-of-eq (add-mul q q p));
+}
+  where
+    positive : (q p : ℕ) → 0 < p → p ≤ q + q → 0 < q
+    positive q p h w = omega arith
+
+    spread : (q p : ℕ) → (q + 1) * (q + 1) * (p * p) ≡ (q * p + p) * (q * p + p)
+    spread q p = omega arith
+
+-- what is left is c times 2·y, and m
+pub record Next (n y p c m : ℕ) : Type 0 where
+  pub is : n ≡ y * y + (y + y) * c + m
+  pub rest : m < y + y
+  pub wide : p * p ≤ y + y
+  pub over : n < (y + p) * (y + p)
+
+pub next : {n y p : ℕ} → Begun n y p → Next n y p ((n - y * y) / (y + y)) ((n - y * y) % (y + y))
+next {n} {y} b = record {
+  is = parts n (y * y) ((y + y) * ((n - y * y) / (y + y))) ((n - y * y) % (y + y)) (b .under) (div-add-mod (n - y * y) (y + y));
+  rest = mod-lt (n - y * y) (double y (b .some));
+  wide = b .wide;
+  over = b .over;
+}
+  where
+    parts : (n a x m : ℕ) → a ≤ n → x + m ≡ n - a → n ≡ a + x + m
+    parts n a x m h e = omega arith
+
+    double : (y : ℕ) → 0 < y → 0 < y + y
+    double y h = omega arith
+
+-- then c follows y, or one less where its square is too much
+module _ {n y p c m : ℕ} (d : Next n y p c m) where
+  pub digits-most : c ≤ p
+  digits-most =
+      let k : c < p + 1 = lt-of-mul-lt-mul-left (y + y) (less y p c m n (d .is) (d .wide) (d .over)) in
+      omega arith
+    where
+      less : (y p c m n : ℕ) → n ≡ y * y + (y + y) * c + m → p * p ≤ y + y → n < (y + p) * (y + p) → (y + y) * c < (y + y) * (p + 1)
+      less y p c m n is wide over = omega arith
+
+  pub mended-is : IsWholeRoot n (mended y c m)
+  mended-is = go (ltb m (c * c)) (ltb-true m (c * c)) (ltb-false m (c * c))
+    where
+      kept : (n y c m : ℕ) → n ≡ y * y + (y + y) * c + m → m < y + y → c * c ≤ m → IsWholeRoot n (y + c)
+      kept n y c m is rest h = record { under = omega arith; over = omega arith }
+
+      less : (n y c m : ℕ) → n ≡ y * y + (y + y) * c + m → m < c * c → c ≤ p → p * p ≤ y + y → IsWholeRoot n (y + c - 1)
+      less n y zero m is h k w = omega arith
+      less n y (suc c) m is h k w =
+          let z : y + suc c - 1 ≡ y + c = omega arith in
+          let b : c * c ≤ y + y = le-trans (mul-le-mul {n₁ = c} {m₁ = c} (omega arith) (omega arith)) w in
+          rw z (record { under = omega arith; over = omega arith })
+
+      go : (t : Bool) → (t ≡ true → m < c * c) → (t ≡ false → c * c ≤ m) → IsWholeRoot n (cond t (y + c - 1) (y + c))
+      go true h k = less n y c m (d .is) (h refl) digits-most (d .wide)
+      go false h k = kept n y c m (d .is) (d .rest) (k refl)

@@ -1,12 +1,23 @@
 -- Doubles as whole numbers.
-use mathlib.Core.Bool.{Bool, not, _&&_}
+use mathlib.Core.Path.{_≡_}
+use mathlib.Core.Bool.{true, false}
 use Prim.Native.Nat.{ℕ, _*_, _/_, _^_}
-use lib.Ieee.{Float, nan, inf, fin, binary64, fits, up, down}
+use lib.Dec.{T}
+use lib.Ieee.{Float, nan, inf, fin, binary64, fits, lt, up, down}
+use Rattle.double.specs.rules.Operations.{zero}
 use Rattle.double.specs.rules.Sign.{bearsMinus, isFinite}
 
 -- a finite double that bears no minus sign: +0 is one, −0 is none
-abbrev pub isDoubleFromZero : Float → Bool
-isDoubleFromZero x = fits binary64 x && isFinite x && not (bearsMinus x)
+pub record IsFromZero (x : Float) : Type 0 where
+  pub held : T (fits binary64 x)
+  pub finite : isFinite x ≡ true
+  pub plus : bearsMinus x ≡ false
+
+-- a finite double above zero
+pub record IsAboveZero (x : Float) : Type 0 where
+  pub held : T (fits binary64 x)
+  pub finite : isFinite x ≡ true
+  pub above : lt zero x ≡ true
 
 -- A finite double's size: how many times the smallest double, 2^−1074, goes into it. The division is exact for each double.
 unfoldable pub count : Float → ℕ

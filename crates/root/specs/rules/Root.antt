@@ -8,8 +8,9 @@ use Rattle.quantity.specs.rules.Answer.{Answer, answered, unless}
 use Rattle.root.specs.rules.Nearest.{twiceRootSquared}
 use Rattle.root.specs.rules.Whole.{wholeRoot}
 
--- The bit pattern of the root, by the square w of twice the root. Cut to an even number of places, w has 107 or 108 binary digits
--- and its root 54: the last one rounds. The 53 that are left lose their leading one to the exponent's field.
+-- The bit pattern of the root, by the square w of twice the root. Without its last 2·places binary digits w has 107 or 108 of
+-- them and its root 54, of which the last one rounds. The root counts the 53 that are left, times 2^places: in a pattern their
+-- leading one goes into the exponent's field.
 unfoldable pub rootPattern : ℕ → ℕ
 rootPattern w =
     let places = (size w - 107) / 2 in

@@ -1,7 +1,7 @@
 -- The whole part of a whole number's square root.
 use mathlib.Core.Bool.{cond}
-use Prim.Native.Nat.{ℕ, zero, suc, _+_, _*_, _/_, _≤_, _<_}
-use lib.Dec.{leb}
+use Prim.Native.Nat.{ℕ, zero, suc, _+_, _-_, _*_, _/_, _≤_, _<_}
+use lib.Dec.{leb, ltb}
 
 pub record IsWholeRoot (n s : ℕ) : Type 0 where
   pub under : s * s ≤ n
@@ -15,3 +15,7 @@ longer n s = cond (leb ((2 * s + 1) * (2 * s + 1)) n) (2 * s + 1) (2 * s)
 unfoldable pub wholeRoot : ℕ → ℕ → ℕ
 wholeRoot zero n = 0
 wholeRoot (suc k) n = longer n (wholeRoot k (n / 4))
+
+-- several digits at once, as code takes them: a quotient that follows y, or one less where its square is too much for the rest
+abbrev pub mended : ℕ → ℕ → ℕ → ℕ
+mended y quotient rest = cond (ltb rest (quotient * quotient)) (y + quotient - 1) (y + quotient)
