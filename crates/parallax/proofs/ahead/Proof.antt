@@ -1,0 +1,12 @@
+-- `parallax::ahead` meets its contract. Assumes nothing.
+use Rattle.double.specs.laws.Calls.{asks-nothing}
+use Rattle.parallax.specs.rules.Equatorial.{ahead}
+use Rattle.parallax.proofs.ahead.Statement.{statement}
+use Rattle.parallax.proofs.ahead.Tie as tie
+
+returns : tie.Need-returns
+unfolding ahead
+returns c = cc
+
+pub ahead-spec : {M : Type 1} → statement M
+ahead-spec = tie.close (tie.spec asks-nothing asks-nothing returns)

@@ -1,0 +1,54 @@
+-- Topocentric equatorial coordinates (Meeus 40.2 and 40.3, with the crate's arctangent for the declination):
+-- the hour angle h and the declination d, folded.
+use Prim.Native.Nat.{ℕ}
+use lib.Ieee.{Float, neg}
+use Rattle.double.specs.rules.Operations.{_⊕_, _⊖_, _⊗_}
+use Rattle.quantity.specs.declared.Rad.{Rad}
+use Rattle.quantity.specs.declared.EqPoint.{EqPoint}
+use Rattle.quantity.specs.declared.GeographPoint.{GeographPoint}
+use Rattle.quantity.specs.rules.Answer.{Answer, answered, Pair, first, second, unless, then}
+use Rattle.quantity.specs.rules.Refusal.{lower, angleRefusal, latitudeRefusal}
+use Rattle.elementary.specs.declared.Folded.{Folded}
+use Rattle.elementary.specs.rules.Fold.{fold}
+use Rattle.elementary.specs.rules.Sine.{foldedSine, foldedCosine, cosineOf}
+use Rattle.elementary.specs.rules.Arctangent.{arctangentIn}
+use Rattle.helpers.specs.rules.Earth.{rhoIn}
+use Rattle.coords.specs.rules.HourAngle.{hrAnglFrmObserverLong}
+use Rattle.parallax.specs.declared.Centre.{Centre}
+use Rattle.parallax.specs.rules.Observer.{centreOf, observerRefusal}
+
+unfoldable pub eastward : Centre → Folded → Float
+eastward c h = neg (c .«rho_cos») ⊗ c .parallax ⊗ foldedSine h
+
+unfoldable pub ahead : Centre → Folded → Folded → Float
+ahead c h d = foldedCosine d ⊖ c .«rho_cos» ⊗ c .parallax ⊗ foldedCosine h
+
+-- x is the second argument of both arctangents
+unfoldable pub topocentDec : Centre → Folded → Float → Float → Answer Float
+topocentDec c d change x =
+    arctangentIn ((foldedSine d ⊖ c .«rho_sin» ⊗ c .parallax) ⊗ cosineOf (record { 0 = change })) x
+
+unfoldable pub topocentFrom : Centre → Folded → Float → Float → Float → Answer EqPoint
+topocentFrom c d asc change x =
+    then (topocentDec c d change x) (λ (dec : Float). answered (record { asc = asc ⊕ change; dec = dec }))
+
+unfoldable pub topocentAt : Centre → Folded → Folded → Float → Answer EqPoint
+topocentAt c h d asc =
+    let x = ahead c h d in
+    then (arctangentIn (eastward c h) x) (λ (change : Float). topocentFrom c d asc change x)
+
+unfoldable pub topocentIn : EqPoint → Rad → GeographPoint → Float → Rad → Answer EqPoint
+topocentIn p parallax place height sidereal =
+    then (rhoIn (record { 0 = place .lat }) height)
+    (λ (rho : Pair). topocentAt (centreOf (first rho) (second rho) parallax)
+    (fold (hrAnglFrmObserverLong sidereal (record { 0 = place .long }) (record { 0 = p .asc })))
+    (fold (record { 0 = p .dec })) (p .asc))
+
+abbrev pub topocentRefusal : EqPoint → Rad → GeographPoint → Float → Rad → ℕ
+topocentRefusal p parallax place height sidereal =
+    lower (lower (angleRefusal (record { 0 = p .asc })) (latitudeRefusal (record { 0 = p .dec })))
+    (observerRefusal parallax place height sidereal)
+
+abbrev pub topocentEqCoordsRule : EqPoint → Rad → GeographPoint → Float → Rad → Answer EqPoint
+topocentEqCoordsRule p parallax place height sidereal =
+    unless (topocentRefusal p parallax place height sidereal) (topocentIn p parallax place height sidereal)

@@ -1,0 +1,19 @@
+-- The equatorial horizontal parallax (Meeus, chapter 40).
+use lib.Ieee.{Float}
+use Rattle.double.specs.rules.Operations.{_⊘_}
+use Rattle.quantity.specs.rules.Answer.{Answer, unless}
+use Rattle.quantity.specs.rules.Refusal.{distanceRefusal}
+use Rattle.elementary.specs.rules.Sine.{sineOf}
+use Rattle.elementary.specs.rules.Arcsine.{arcsineIn}
+use Rattle.helpers.specs.rules.Angle.{arc, radiansOf}
+use Rattle.parallax.specs.rules.Numbers.{n8·794}
+
+-- the sine of 8.794 seconds
+unfoldable pub sunParallax : Float
+sunParallax = sineOf (radiansOf (record { 0 = arc n8·794 }))
+
+unfoldable pub eqHzParallaxIn : Float → Answer Float
+eqHzParallaxIn dist = arcsineIn (sunParallax ⊘ dist)
+
+abbrev pub eqHzParallaxRule : Float → Answer Float
+eqHzParallaxRule dist = unless (distanceRefusal dist) (eqHzParallaxIn dist)
