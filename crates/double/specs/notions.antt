@@ -1,0 +1,3 @@
+-- What the laws are proved by, and no promise mentions. Definitions only.
+pub mod Fraction
+pub mod Range
