@@ -6,10 +6,11 @@ use mathlib.Core.Bool.{true, false, not}
 use lib.IntN.{pos}
 use lib.Dec.{T}
 use lib.Ieee.{Float, nan, inf, fin, neg, le, ofBits}
+use lib.Ieee.Positive.{positive, above, above-of-le}
 use Rattle.double.specs.rules.Operations.{zero}
 use Rattle.double.specs.rules.Sign.{isFinite, size}
 use Rattle.double.specs.rules.Order.{_≼_, Finite, Plus, Between}
-use Rattle.double.specs.laws.Sign.{neg-neg, finite-neg}
+use Rattle.double.specs.laws.Sign.{neg-neg, finite-neg, finite-size, plus-size}
 use Rattle.double.specs.laws.Order.{below→le, le-refl, le-trans, le-total, neg-le, minus-le-plus}
 
 -- ---- between two
@@ -57,15 +58,28 @@ zero-le-plus (inf s) p q = absurd p
 zero-le-plus (fin true m e) p q = absurd q
 zero-le-plus (fin false m e) p q = below→le (fin false 0 (pos 0)) (fin false m e) tt tt (omega arith)
 
+pub finite-of-plus : (x most : Float) → Plus x → Finite most → x ≼ most → Finite x
+unfolding le isFinite
+finite-of-plus nan most p q h = absurd p
+finite-of-plus (inf true) most p q h = absurd p
+finite-of-plus (inf false) nan p q h = absurd q
+finite-of-plus (inf false) (inf t) p q h = absurd q
+finite-of-plus (inf false) (fin t n d) p q h = absurd h
+finite-of-plus (fin s m e) most p q h = tt
+
+-- above zero bears a plus sign
+pub plus-of-positive : (c x : Float) → T (positive c) → c ≼ x → Plus x
+plus-of-positive c x p h = of-above x (above-of-le c x p h)
+  where
+    of-above : (x : Float) → T (above x) → Plus x
+    of-above nan t = absurd t
+    of-above (inf s) t = t
+    of-above (fin true m e) t = absurd t
+    of-above (fin false m e) t = tt
+
 -- ---- sizes up to a limit
 
-pub plus-size : (x : Float) → Finite x → Plus (size x)
-unfolding isFinite size
-plus-size nan p = absurd p
-plus-size (inf s) p = tt
-plus-size (fin s m e) p = tt
-
--- what is in size at most a finite double is finite, and lies between zero and it in size
+-- what is in size at most a finite double is finite
 pub finite-of-size : (x most : Float) → Finite most → size x ≼ most → Finite x
 unfolding le size isFinite
 finite-of-size nan most p h = absurd h
@@ -74,16 +88,10 @@ finite-of-size (inf s) (inf t) p h = absurd p
 finite-of-size (inf s) (fin t n d) p h = absurd h
 finite-of-size (fin s m e) most p h = tt
 
-pub finite-size : (x : Float) → Finite x → Finite (size x)
-unfolding isFinite size
-finite-size nan p = p
-finite-size (inf s) p = p
-finite-size (fin s m e) p = tt
-
 pub size-between : (x most : Float) → Finite most → size x ≼ most → Between zero most (size x)
 size-between x most p h =
     let F = finite-of-size x most p h in
-    between finite-zero p (zero-le-plus (size x) (finite-size x F) (plus-size x F)) h
+    between finite-zero p (zero-le-plus (size x) (rw (finite-size x) F) (plus-size x F)) h
   where
     finite-zero : Finite zero
     finite-zero = unfold isFinite ofBits in tt

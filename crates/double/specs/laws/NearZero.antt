@@ -3,25 +3,27 @@
 use mathlib.Core.Path.{_≡_, refl, sym, ap, _∙_, subst}
 use mathlib.Core.Logic.{_⊎_, inl, inr}
 use Prim.Native.Nat.{ℕ, zero, suc, _+_, _-_, _*_, _%_, _^_, _≤_, _<_}
-use native.Mathlib.Nat.{not-le-of-lt, lt-of-not-le, le-of-suc-le-suc, mul-assoc, mul-comm, mul-one, one-mul, zero-mul, mul-lt-mul-of-pos-right}
+use native.Mathlib.Nat.{not-le-of-lt, lt-of-not-le, le-of-suc-le-suc, mul-assoc, mul-comm, mul-one, one-mul, zero-mul, mul-pos, mul-lt-mul-of-pos-right}
 use native.Mathlib.Omega.{arith}
 use mathlib.Core.Bool.{Bool, true, false, _&&_, cond}
 use lib.IntN.{ℤ, pos, negsuc}
 use lib.Dec.{T, leb, ltb, eqb, ltb→lt, leb→le, eqb→eq}
 use lib.Pow.{pow-add, pow-pos, pow-lt}
-use lib.Ieee.{Float, nan, inf, fin, Format, prec, emax, low, up, down, round, neg, sum, add, sub, mul, div, fits, ofBits}
-use lib.Ieee.Fits.{and-l, and-r}
+use lib.Ieee.{Float, nan, inf, fin, Format, binary32, binary64, prec, emax, low, up, down, round, neg, sum, add, sub, mul, div, fits, ofBits}
+use lib.Ieee.Fits.{and-l, and-r, up-pos, down-pos}
 use lib.Ieee.Exact.{HasValue, round-exact}
 use lib.Ieee.Digits.{back}
 use lib.Ieee.Positive.{positive}
 use Rattle.double.specs.rules.Operations.{one}
 use Rattle.double.specs.rules.Sign.{isFinite}
 use Rattle.double.specs.rules.Order.{_≼_, Finite, Plus, Between}
+use Rattle.double.specs.notions.Fraction.{Rounds}
 use Rattle.double.specs.laws.Sign.{finite-neg}
 use Rattle.double.specs.laws.Rounding.{round-zero, round-plus}
 use Rattle.double.specs.laws.Mirror
 use Rattle.double.specs.laws.Order.{below→le, le→below, le-trans, neg-le, minus-le-plus}
 use Rattle.double.specs.laws.Between.{between}
+use Rattle.double.specs.laws.Fraction.{rounds-mono, div-rounds}
 use Rattle.double.specs.laws.Monotone.{mul-amid}
 
 -- ---- a value that its format holds is its own rounding
@@ -172,3 +174,23 @@ div-plus f (fin false m e) (fin false n d) p q r = by-case (eqb n 0) (eqb→eq n
     by-case : (b : Bool) → (T b → n ≡ 0) → Plus (cond b (cond (eqb m 0) nan (inf false)) (round f false (m * up e * down d) (n * up d * down e)))
     by-case true z = absurd (no n (ltb→lt 0 n r) (z tt))
     by-case false z = round-plus f (m * up e * down d) (n * up d * down e)
+
+-- a quotient of two, of which the first is no larger
+one-rounds : (f : Format) → Rounds f one 1 0 1
+unfolding round ofBits
+one-rounds binary32 = record { sign = false; top = 1; is = refl; value = refl }
+one-rounds binary64 = record { sign = false; top = 1; is = refl; value = refl }
+
+pub div-le-one : (f : Format) (x y : Float) → Finite x → Plus x → T (positive y) → x ≼ y → div f x y ≼ one
+unfolding isFinite
+div-le-one f nan y p q r h = absurd p
+div-le-one f (inf s) y p q r h = absurd p
+div-le-one f (fin true m e) y p q r h = absurd q
+div-le-one f (fin false m e) nan p q r h = absurd r
+div-le-one f (fin false m e) (inf t) p q r h = absurd r
+div-le-one f (fin false m e) (fin true n d) p q r h = absurd r
+div-le-one f (fin false m e) (fin false n d) p q r h =
+    let x = fin false m e in
+    let y = fin false n d in
+    rounds-mono f (div f x y) one (m * up e * down d) (0 * down d) (n * up d * down e) 1 0 1 (mul-pos (mul-pos (ltb→lt 0 n r) (up-pos d)) (down-pos e)) (pow-pos 0)
+    (div-rounds f x y tt r) (one-rounds f) (omega (arith, le→below x y tt tt h))
