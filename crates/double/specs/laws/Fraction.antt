@@ -10,11 +10,25 @@ use lib.Ieee.{Float, nan, inf, fin, Format, unlike, up, down, round, neg, sum, a
 use lib.Ieee.Order.{round-mono}
 use lib.Ieee.Positive.{num, den, positive}
 use Rattle.double.specs.rules.Sign.{isFinite}
-use Rattle.double.specs.rules.Order.{_≼_, Finite}
+use Rattle.double.specs.rules.Order.{_≼_, Finite, Plus}
 use Rattle.double.specs.notions.Fraction.{plusPart, minusPart, Signed, Rounds}
 use Rattle.double.specs.laws.Sign.{finite-neg}
 use Rattle.double.specs.laws.Rounding.{round-neg, round-zero, round-plus}
 use Rattle.double.specs.laws.Order.{neg-le, minus-le-plus}
+
+-- ---- what bears a plus sign has one part only
+
+pub minus-none : (x : Float) → Plus x → minusPart x ≡ 0
+minus-none nan p = absurd p
+minus-none (inf s) p = refl
+minus-none (fin true m e) p = absurd p
+minus-none (fin false m e) p = refl
+
+pub plus-all : (x : Float) → Plus x → plusPart x ≡ num x
+plus-all nan p = absurd p
+plus-all (inf s) p = refl
+plus-all (fin true m e) p = absurd p
+plus-all (fin false m e) p = refl
 
 -- ---- rounding keeps the order
 
