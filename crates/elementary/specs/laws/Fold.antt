@@ -12,7 +12,7 @@ use lib.Ieee.{Float, nan, inf, fin, binary64, up, down, round, neg, add, sub, mu
 use lib.Ieee.Fits.{down-pos}
 use lib.Ieee.Exact.{HasValue}
 use lib.Ieee.Positive.{num, den, den-pos}
-use Rattle.double.specs.rules.Operations.{bits, zero, half, one, _⊕_, _⊖_, _⊗_}
+use Rattle.double.specs.rules.Operations.{bits, zero, half, one, two, _⊕_, _⊖_, _⊗_}
 use Rattle.double.specs.rules.Sign.{size, isFinite}
 use Rattle.double.specs.rules.Order.{_≼_, Finite, Plus, Between}
 use Rattle.double.specs.rules.Whole.{wholePart, fromWhole, IsWholePart}
@@ -21,11 +21,12 @@ use Rattle.double.specs.notions.Fraction.{plusPart, minusPart, Rounds}
 use Rattle.double.specs.notions.Range.{known, con, _⊞_, _⊟_, _⊠_}
 use Rattle.double.specs.notions.Grid.{grid}
 use Rattle.double.specs.laws.Sign.{plus-size}
-use Rattle.double.specs.laws.Between.{between, size-between, finite-of-size, plus-of-positive}
+use Rattle.double.specs.laws.Between.{between, between-cut, size-between, finite-of-size, plus-of-positive}
 use Rattle.double.specs.laws.Fraction.{minus-none, plus-all, rounds-mono, add-rounds, sub-rounds, mul-rounds}
 use Rattle.double.specs.laws.Interval.{bounded}
 use Rattle.double.specs.laws.Grid.{Parts, parts-of-value, grid-parts, grid-under, grid-over, under-grid, over-grid}
 use Rattle.double.specs.laws.WholePart.{whole-part-mono, whole-part-true, from-whole-exact, from-whole-between}
+use Rattle.quantity.specs.rules.Refusal.{steepest}
 use Rattle.elementary.specs.rules.Fold.{quarters, rest}
 use Rattle.elementary.specs.rules.Sine.{farthestAlone}
 
@@ -52,17 +53,34 @@ sum-between : (a : Float) → Between zero farthestAlone a → Between half (ove
 unfolding isFinite le mul add ofBits round
 sum-between a i = bounded binary64 half (over 509297 2) (known i ⊠ con I ⊞ con half) tt
 
-pub quarters-at-most : (a : Float) → Between zero farthestAlone a → quarters a ≤ 254648
+quarters-at-most : (a : Float) → Between zero farthestAlone a → quarters a ≤ 254648
 quarters-at-most a i =
     let s = sum-between a i in
-    le-trans (whole-part-mono (a ⊗ I ⊕ half) (over 509297 2) (s .finite) (s .end) (unfold round in tt) (s .to)) (unfold round toUnsigned in lit≤ tt)
+    le-trans
+    (whole-part-mono (a ⊗ I ⊕ half) (over 509297 2) (s .finite) (s .end) (unfold round in tt) (s .to))
+    (unfold round toUnsigned in lit≤ tt)
 
--- the whole part does not meet its cap, so it is the true one; it is below 2^53, so as a double it is itself
-pub quarters-true : (a : Float) → Between zero farthestAlone a → IsWholePart (quarters a) (a ⊗ I ⊕ half) × (quarters a < 2 ^ 53) × HasValue (fromWhole (quarters a)) false (quarters a) 1
+quarters-true : (a : Float) → Between zero farthestAlone a → IsWholePart (quarters a) (a ⊗ I ⊕ half)
 quarters-true a i =
     let s = sum-between a i in
     let h = quarters-at-most a i in
-    (whole-part-true (a ⊗ I ⊕ half) (s .finite) (plus-of-positive half (a ⊗ I ⊕ half) (unfold ofBits in tt) (s .from)) (omega arith), omega arith, from-whole-exact (quarters a) (omega arith))
+    whole-part-true (a ⊗ I ⊕ half) (s .finite) (plus-of-positive half (a ⊗ I ⊕ half) (unfold ofBits in tt) (s .from)) (omega arith)
+
+-- an angle up to 400000.0 in size
+folds : (x : Float) → size x ≼ farthestAlone → Between zero farthestAlone (size x)
+folds x h = size-between x farthestAlone (unfold isFinite ofBits in tt) h
+
+-- k is far below the cap of `wholePart`
+pub fold-at-most : (x : Float) → size x ≼ farthestAlone → quarters (size x) ≤ 254648
+fold-at-most x h = quarters-at-most (size x) (folds x h)
+
+-- so it is the true whole part of s
+pub fold-true : (x : Float) → size x ≼ farthestAlone → IsWholePart (quarters (size x)) (size x ⊗ I ⊕ half)
+fold-true x h = quarters-true (size x) (folds x h)
+
+-- and as a double it is itself
+pub fold-exact : (x : Float) → size x ≼ farthestAlone → HasValue (fromWhole (quarters (size x))) false (quarters (size x)) 1
+fold-exact x h = let k = fold-at-most x h in from-whole-exact (quarters (size x)) (omega arith)
 
 -- ---- a·I lies from k − 1/2 − 2^−21 to k + 1/2, exactly
 
@@ -196,7 +214,7 @@ first-rest m e i =
     let n = quarters a in
     let small = quarters-at-most a i in
     let F = quotient-between a i .finite in
-    let w = quarters-true a i .0 in
+    let w = quarters-true a i in
     let y = fromWhole n ⊗ P1 in
     let p = product-exact n small in
     let r = sub-rounds binary64 a y tt (p .finite) in
@@ -231,12 +249,87 @@ last-rest z n h i =
 
 -- 1 at most in size
 pub rest-at-most-one : (x : Float) → size x ≼ farthestAlone → Between (neg one) one (rest (size x))
-rest-at-most-one x h = of-size (size x) (size-between x farthestAlone (unfold isFinite ofBits in tt) h) (plus-size x (finite-of-size x farthestAlone (unfold isFinite ofBits in tt) h))
+rest-at-most-one x h =
+    of-plus (size x) (folds x h) (plus-size x (finite-of-size x farthestAlone (unfold isFinite ofBits in tt) h))
   where
-    of-size : (a : Float) → Between zero farthestAlone a → Plus a → Between (neg one) one (rest a)
-    of-size nan i p = absurd p
-    of-size (inf s) i p = absurd (unfold isFinite in i .finite)
-    of-size (fin true m e) i p = absurd p
-    of-size (fin false m e) i p =
+    of-plus : (a : Float) → Between zero farthestAlone a → Plus a → Between (neg one) one (rest a)
+    of-plus nan i p = absurd p
+    of-plus (inf s) i p = absurd (unfold isFinite in i .finite)
+    of-plus (fin true m e) i p = absurd p
+    of-plus (fin false m e) i p =
         let a = fin false m e in
         last-rest (a ⊖ fromWhole (quarters a) ⊗ P1) (quarters a) (quarters-at-most a i) (first-rest m e i)
+
+-- ---- up to 1.57 k is 0 or 1
+
+-- a little above and a little below where k becomes 1
+abbrev late : Float
+late = over 1609 2048
+
+abbrev early : Float
+early = over 201 256
+
+steep-sum : (a : Float) → Between zero steepest a → Between half (over 3 2) (a ⊗ I ⊕ half)
+unfolding isFinite le mul add ofBits round
+steep-sum a i = bounded binary64 half (over 3 2) (known i ⊠ con I ⊞ con half) tt
+
+quarters-up-to : (a most : Float) (n : ℕ) → Between half most (a ⊗ I ⊕ half) → Plus most → wholePart most ≤ n → quarters a ≤ n
+quarters-up-to a most n s p h = le-trans (whole-part-mono (a ⊗ I ⊕ half) most (s .finite) (s .end) p (s .to)) h
+
+steep-quarters : (a : Float) → Between zero steepest a → quarters a ≤ 1
+steep-quarters a i = quarters-up-to a (over 3 2) 1 (steep-sum a i) (unfold round in tt) (unfold round toUnsigned in lit≤ tt)
+
+early-quarters : (a : Float) → Between zero early a → quarters a ≤ 0
+unfolding isFinite le mul add ofBits round
+early-quarters a i =
+    quarters-up-to a (over 16383 16384) 0 (bounded binary64 half (over 16383 16384) (known i ⊠ con I ⊞ con half) tt) tt (unfold toUnsigned in lit≤ tt)
+
+one-whole : 1 ≤ wholePart one
+unfolding toUnsigned ofBits
+one-whole = lit≤ tt
+
+late-quarters : (a : Float) → Between late steepest a → 1 ≤ quarters a
+unfolding isFinite le mul add ofBits round
+late-quarters a i =
+    let s = bounded binary64 one two (known i ⊠ con I ⊞ con half) tt in
+    le-trans one-whole
+    (whole-part-mono one (a ⊗ I ⊕ half) tt (s .finite) (plus-of-positive one (a ⊗ I ⊕ half) tt (s .from)) (s .from))
+
+-- r for each of the two
+abbrev restAt : Float → ℕ → Float
+restAt a n = ((a ⊖ fromWhole n ⊗ P1) ⊖ fromWhole n ⊗ P2) ⊖ fromWhole n ⊗ P3
+
+rest-none : (a : Float) → Between zero late a → Between zero late (restAt a 0)
+unfolding isFinite le neg mul add sub ofBits ofInt round
+rest-none a i =
+    let k = con (fromWhole 0) in
+    bounded binary64 zero late (((known i ⊟ k ⊠ con P1) ⊟ k ⊠ con P2) ⊟ k ⊠ con P3) tt
+
+rest-first : (a : Float) → Between early steepest a → Between (minusOver 405 512) (minusOver 3 4096) (restAt a 1)
+unfolding isFinite le neg mul add sub ofBits ofInt round
+rest-first a i =
+    let k = con (fromWhole 1) in
+    bounded binary64 (minusOver 405 512) (minusOver 3 4096) (((known i ⊟ k ⊠ con P1) ⊟ k ⊠ con P2) ⊟ k ⊠ con P3) tt
+
+-- an angle up to 1.57 folds into none and a rest up to π/4, or into one quarter and a rest below zero
+pub fold-steep : (a : Float) → Between zero steepest a → ((quarters a ≡ 0) × Between zero (over 1609 2048) (rest a)) ⊎ ((quarters a ≡ 1) × Between (minusOver 405 512) (minusOver 3 4096) (rest a))
+fold-steep a i = by-number (quarters a) refl (steep-quarters a i)
+  where
+    finite-late : Finite late
+    finite-late = unfold isFinite round in tt
+
+    finite-early : Finite early
+    finite-early = unfold isFinite round in tt
+
+    by-number : (n : ℕ) → quarters a ≡ n → n ≤ 1 → ((n ≡ 0) × Between zero late (restAt a n)) ⊎ ((n ≡ 1) × Between (minusOver 405 512) (minusOver 3 4096) (restAt a n))
+    by-number ℕ.zero e h =
+        elim (between-cut late finite-late i) [
+          | inl j ↦ inl (refl, rest-none a j)
+          | inr j ↦ let k = late-quarters a j in absurd (omega arith)
+        ]
+    by-number (suc ℕ.zero) e h =
+        elim (between-cut early finite-early i) [
+          | inl j ↦ let k = early-quarters a j in absurd (omega arith)
+          | inr j ↦ inr (refl, rest-first a j)
+        ]
+    by-number (suc (suc n)) e h = absurd (omega arith)
