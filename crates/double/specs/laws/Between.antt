@@ -2,14 +2,17 @@
 use mathlib.Core.Path.{_≡_, refl, subst}
 use mathlib.Core.Logic.{_⊎_, inl, inr}
 use native.Mathlib.Omega.{arith}
-use mathlib.Core.Bool.{true, false, not}
+use Prim.Native.Nat.{ℕ, _*_, _<_}
+use native.Mathlib.Nat.{mul-pos}
+use mathlib.Core.Bool.{true, false, not, _&&_}
 use lib.IntN.{pos}
-use lib.Dec.{T}
-use lib.Ieee.{Float, nan, inf, fin, neg, le, ofBits}
+use lib.Dec.{T, eqb, eqb→eq, ltb→lt, not-T}
+use lib.Ieee.Fits.{and-l, up-pos}
+use lib.Ieee.{Float, nan, inf, fin, up, down, neg, eq, le, ofBits}
 use lib.Ieee.Positive.{positive, above, above-of-le}
 use Rattle.double.specs.rules.Operations.{zero}
 use Rattle.double.specs.rules.Sign.{isFinite, size}
-use Rattle.double.specs.rules.Order.{_≼_, Finite, Plus, Between}
+use Rattle.double.specs.rules.Order.{_≼_, NonZero, Finite, Plus, Between}
 use Rattle.double.specs.laws.Sign.{neg-neg, finite-neg, finite-size, plus-size}
 use Rattle.double.specs.laws.Order.{below→le, le-refl, le-trans, le-total, neg-le, minus-le-plus}
 
@@ -67,7 +70,8 @@ finite-of-plus (inf false) (inf t) p q h = absurd q
 finite-of-plus (inf false) (fin t n d) p q h = absurd h
 finite-of-plus (fin s m e) most p q h = tt
 
--- above zero bears a plus sign
+-- ---- what is no less than a number above zero bears a plus sign, and is no zero
+
 pub plus-of-positive : (c x : Float) → T (positive c) → c ≼ x → Plus x
 plus-of-positive c x p h = of-above x (above-of-le c x p h)
   where
@@ -76,6 +80,22 @@ plus-of-positive c x p h = of-above x (above-of-le c x p h)
     of-above (inf s) t = t
     of-above (fin true m e) t = absurd t
     of-above (fin false m e) t = tt
+
+pub nonzero-of-positive : (c x : Float) → T (positive c) → c ≼ x → NonZero x
+nonzero-of-positive c x p h = of-above x (above-of-le c x p h)
+  where
+    no : (a b : ℕ) → 0 < a → a * 1 ≡ 0 * b → ⊥
+    no a b p z = omega arith
+
+    of-above : (x : Float) → T (above x) → NonZero x
+    of-above nan t = absurd t
+    of-above (inf s) t = unfold eq ofBits in tt
+    of-above (fin true m e) t = absurd t
+    of-above (fin false m e) t =
+        unfold eq ofBits in
+        let z = eqb (m * up e * 1) (0 * down e) in
+        not-T (z && true)
+        (λ (t' : T (z && true)). no (m * up e) (down e) (mul-pos (ltb→lt 0 m t) (up-pos e)) (eqb→eq (m * up e * 1) (0 * down e) (and-l z true t')))
 
 -- ---- sizes up to a limit
 

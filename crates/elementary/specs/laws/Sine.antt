@@ -14,7 +14,7 @@ use Rattle.double.specs.rules.Table.{over, minusOver}
 use Rattle.double.specs.notions.Range.{Expr, known, con, _⊞_, _⊟_, _⊠_, _⧄_, hornerExpr}
 use Rattle.double.specs.laws.Sign.{neg-neg}
 use Rattle.double.specs.laws.Order.{le-trans}
-use Rattle.double.specs.laws.Between.{between-neg, between-cut, between→size, size-between}
+use Rattle.double.specs.laws.Between.{nonzero-of-positive, between-neg, between-cut, between→size, size-between}
 use Rattle.double.specs.laws.Interval.{bounded}
 use Rattle.quantity.specs.declared.Rad.{Rad}
 use Rattle.quantity.specs.rules.Refusal.{steepest}
@@ -156,3 +156,17 @@ cosine-steep x h =
       | inl i ↦ subst (λ (n : ℕ). Between tiny two (cosineQuarter (n % 4) (rest a))) (sym (i .0)) (cosine-first (rest a) (i .1))
       | inr i ↦ subst (λ (n : ℕ). Between tiny two (cosineQuarter (n % 4) (rest a))) (sym (i .0)) (cosine-second (rest a) (i .1))
     ]
+
+-- the cosine is not zero
+pub cosine-not-zero : (x : Rad) → size (x .0) ≼ steepest → NonZero (cosineOf x)
+cosine-not-zero x h = nonzero-of-positive tiny (cosineOf x) (unfold round in tt) (cosine-steep x h .from)
+
+pub tangent-between : (x : Rad) → size (x .0) ≼ steepest → Between (neg (over 16384 1)) (over 16384 1) (tangentOf x)
+unfolding isFinite le neg div ofBits round
+tangent-between x h =
+    let far = le-trans (size (x .0)) steepest farthestAlone h tt in
+    bounded binary64 (neg (over 16384 1)) (over 16384 1) (known (sine-between x far) ⧄ known (cosine-steep x h)) tt
+
+-- the tangent is finite
+pub tangent-finite : (x : Rad) → size (x .0) ≼ steepest → Finite (tangentOf x)
+tangent-finite x h = tangent-between x h .finite
