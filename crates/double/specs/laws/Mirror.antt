@@ -216,3 +216,17 @@ sub-neg-l f x y h = sym (add-neg-r f (neg x) y) ∙ add-neg-neg f x y h
 -- y − x is −(x − y)
 pub sub-swap : (f : Format) (x y : Float) → NonZero (sub f x y) → sub f y x ≡ neg (sub f x y)
 sub-swap f x y h = sym (add-neg-l f x y) ∙ sym (sub-neg-r f (neg x) y) ∙ sub-neg-neg f x y h
+
+-- ---- a NaN as the second operand
+
+pub sub-nan : (f : Format) (x : Float) → sub f x nan ≡ nan
+unfolding sub add neg
+sub-nan f nan = refl
+sub-nan f (inf s) = refl
+sub-nan f (fin s m e) = refl
+
+pub div-nan : (f : Format) (x : Float) → div f x nan ≡ nan
+unfolding div
+div-nan f nan = refl
+div-nan f (inf s) = refl
+div-nan f (fin s m e) = refl

@@ -5,7 +5,7 @@ use mathlib.Core.Logic.{_⊎_, inl, inr}
 use Prim.Native.Nat.{ℕ, _+_, _*_, _≤_, _<_}
 use native.Mathlib.Nat.{mul-pos, eq-zero-or-pos, not-le-of-lt}
 use native.Mathlib.Omega.{arith}
-use mathlib.Core.Bool.{Bool, true, false, not, _&&_, cond}
+use mathlib.Core.Bool.{Bool, true, false, not, _&&_, cond, and-false}
 use lib.Dec.{T, eqb, ltb, nltb→le, T-not}
 use lib.IntN.{ℤ}
 use lib.Ieee.{Float, nan, inf, fin, binary64, up, down, round, neg, add, sub, mul, div, eq, le, fits, ofBits}
@@ -17,7 +17,8 @@ use Rattle.double.specs.rules.Order.{_≼_, isZero, Finite, Plus, Between}
 use Rattle.double.specs.rules.Table.{over}
 use Rattle.double.specs.notions.Range.{Expr, known, con, _⊞_, _⊟_, _⊠_, _⧄_, hornerExpr}
 use Rattle.double.specs.laws.Tests.{by-test}
-use Rattle.double.specs.laws.Sign.{finite-neg, finite-size, plus-size, size-plus, size-neg, size-negated, minus-negated, minus-neg}
+use Rattle.double.specs.laws.Sign.{finite-neg, finite-size, plus-size, size-plus, size-neg, size-negated, size-size, minus-negated}
+use Rattle.double.specs.laws.Mirror.{sub-nan}
 use Rattle.double.specs.laws.Order.{le→below, le-trans, le-of-not-le, neg-le}
 use Rattle.double.specs.laws.Between.{between, zero-le-plus, finite-of-plus, plus-of-positive}
 use Rattle.double.specs.laws.Interval.{bounded}
@@ -25,6 +26,7 @@ use Rattle.double.specs.laws.NearZero.{mul-shrinks, mul-plus, add-plus, sub-plu
 use Rattle.quantity.specs.rules.Angle.{PI, HALF, QUARTER}
 use Rattle.elementary.specs.rules.Series.{horner, arctangentLast, arctangentEntries, arctangentSeries}
 use Rattle.elementary.specs.rules.Arctangent.{near, atn, bothZero, base, turned, arctangentOf}
+use Rattle.elementary.specs.laws.Mirror.{base-nan, turned-nan}
 
 -- ---- the series
 
@@ -207,7 +209,46 @@ module _ (y x : Float) (p : Finite y) (q : Finite x) where
       by-sign true = behind (base (size y) (size x)) (base-of y x p q) .to
       by-sign false = le-trans (base (size y) (size x)) HALF PI (base-of y x p q .place .to) (unfold le ofBits in tt)
 
--- for x with no minus sign the size at −x is PI less the size at x, rounded once
-pub arctangent-behind : (y x : Float) → Finite y → Finite x → bearsMinus x ≡ false → size (arctangentOf y (neg x)) ≡ PI ⊖ size (arctangentOf y x)
-arctangent-behind y x p q h =
-    rw (arctangent-size y (neg x) p (rw (finite-neg x) q), arctangent-size y x p q, size-neg x, minus-neg x q, h)
+-- ---- the second argument negated, on every double
+
+base-nan-r : (y : Float) → base (size y) nan ≡ nan
+unfolding size eq le neg add sub mul div ofBits
+base-nan-r nan = base-nan nan
+base-nan-r (inf s) = refl
+base-nan-r (fin s m e) = rw (and-false (isZero (fin false m e)))
+
+-- base is a NaN or lies from 0 to HALF
+base-cases : (y x : Float) → (base (size y) (size x) ≡ nan) ⊎ UpToHalf (base (size y) (size x))
+unfolding size isFinite eq le neg add sub mul div ofBits
+base-cases nan x = inl (base-nan (size x))
+base-cases (inf s) nan = inl refl
+base-cases (inf s) (inf t) = inl refl
+base-cases (inf s) (fin t n d) = inr (record { plus = tt; place = between tt tt tt tt })
+base-cases (fin s m e) nan = inl (base-nan-r (fin s m e))
+base-cases (fin s m e) (inf t) = inr (rw (and-false (isZero (fin false m e))) (record { plus = tt; place = between tt tt tt tt }))
+base-cases (fin s m e) (fin t n d) = inr (base-of (fin s m e) (fin t n d) tt tt)
+
+turned-less : (b : Float) → (b ≡ nan) ⊎ UpToHalf b → size (PI ⊖ b) ≡ PI ⊖ size b
+turned-less b (inl e) = rw (e, sub-nan binary64 PI) (unfold size in sym (sub-nan binary64 PI))
+turned-less b (inr i) = size-plus (PI ⊖ b) (turned-plus true b i) ∙ ap (λ (z : Float). PI ⊖ z) (sym (size-plus b (i .plus)))
+
+size-turned : (y x : Float) → size (arctangentOf y x) ≡ size (turned (bearsMinus x) (base (size y) (size x)))
+unfolding arctangentOf
+size-turned y x =
+    let t = turned (bearsMinus x) (base (size y) (size x)) in
+    size-negated (bearsMinus y) (size t) ∙ size-size t
+
+size-nan : (y : Float) → size (arctangentOf y nan) ≡ nan
+unfolding size bearsMinus
+size-nan y = size-turned y nan ∙ ap size (base-nan-r y)
+
+opposite-signs : (y x : Float) → bearsMinus x ≡ false → bearsMinus (neg x) ≡ true → size (arctangentOf y (neg x)) ≡ PI ⊖ size (arctangentOf y x)
+opposite-signs y x h k =
+    rw (size-turned y (neg x), size-turned y x, size-neg x, h, k) (turned-less (base (size y) (size x)) (base-cases y x))
+
+-- where x bears no minus sign, the size at −x is PI less the size at x, rounded once
+pub arctangent-behind : (y x : Float) → bearsMinus x ≡ false → size (arctangentOf y (neg x)) ≡ PI ⊖ size (arctangentOf y x)
+unfolding neg bearsMinus
+arctangent-behind y nan h = rw (size-nan y) (sym (sub-nan binary64 PI))
+arctangent-behind y (inf s) h = opposite-signs y (inf s) h (rw h)
+arctangent-behind y (fin s m e) h = opposite-signs y (fin s m e) h (rw h)
