@@ -2,10 +2,10 @@
 use mathlib.Core.Path.{_≡_, refl, sym}
 use mathlib.Core.Logic.{_⊎_, inl, inr}
 use Prim.Native.Nat.{ℕ, _+_, _*_, _≤_, _<_}
-use native.Mathlib.Nat.{le-of-eq, le-of-lt, mul-le-mul-right, le-of-mul-le-mul-right}
+use native.Mathlib.Nat.{le-of-eq, le-of-lt, mul-le-mul-right, le-of-mul-le-mul-right, not-le-of-lt}
 use native.Mathlib.Omega.{arith}
 use mathlib.Core.Bool.{Bool, true, false, not, _&&_, _||_}
-use lib.Dec.{T, leb, ltb, eqb, leb→le, nleb→lt, ltb→lt, nltb→le, eqb→eq, T-not}
+use lib.Dec.{T, leb, ltb, eqb, leb→le, nleb→lt, ltb→lt, nltb→le, eqb→eq, T-not, not-T}
 use lib.Ieee.{Float, nan, inf, fin, up, down, neg, eq, le, lt}
 use lib.Ieee.Fits.{and-l, and-r, and-i, eq→eqb}
 use lib.Ieee.Positive.{den, den-pos}
@@ -181,6 +181,20 @@ lt-or-le x y p q =
 
 pub le-of-not-lt : (x y : Float) → Finite x → Finite y → T (not (lt x y)) → y ≼ x
 le-of-not-lt x y p q h = elim (lt-or-le x y p q) [ inl t ↦ absurd (T-not (lt x y) h t) | inr t ↦ t ]
+
+lt→below : (x y : Float) → Finite x → Finite y → T (lt x y) → plusPart x * den y + minusPart y * den x < plusPart y * den x + minusPart x * den y
+unfolding lt isFinite
+lt→below nan y p q h = absurd p
+lt→below (inf s) y p q h = absurd p
+lt→below (fin s m e) nan p q h = absurd q
+lt→below (fin s m e) (inf t) p q h = absurd q
+lt→below (fin false m e) (fin false n d) p q h = omega (arith, ltb→lt (m * up e * down d) (n * up d * down e) h)
+lt→below (fin false m e) (fin true n d) p q h = absurd h
+lt→below (fin true m e) (fin false n d) p q h = omega (arith, ltb→lt 0 (m * up e * down d + n * up d * down e) h)
+lt→below (fin true m e) (fin true n d) p q h = omega (arith, ltb→lt (n * up d * down e) (m * up e * down d) h)
+
+pub not-lt-of-le : (x y : Float) → Finite x → Finite y → x ≼ y → T (not (lt y x))
+not-lt-of-le x y p q h = not-T (lt y x) (λ (l : T (lt y x)). not-le-of-lt (lt→below y x q p l) (le→below x y p q h))
 
 -- ---- a negation turns the order round, of infinities too
 

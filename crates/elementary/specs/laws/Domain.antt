@@ -1,4 +1,5 @@
--- No answer is a NaN or an infinity: what sine, cosine, tangent and arctangent answer, called alone, is finite. Assumes nothing.
+-- No answer is a NaN or an infinity: what sine, cosine, tangent, arctangent and arcsine answer, called alone, is finite.
+-- Assumes nothing.
 use mathlib.Core.Path.{_≡_, refl, sym}
 use Prim.Native.Nat.{ℕ, suc, _<_}
 use native.Mathlib.Omega.{arith}
@@ -16,8 +17,10 @@ use Rattle.quantity.specs.rules.Answer.{Answer, answered, refused, unless}
 use Rattle.quantity.specs.rules.Refusal.{past, lower, numberRefusal, steepest}
 use Rattle.elementary.specs.rules.Sine.{farthestAlone, aloneRefusal, sineOf, cosineOf, tangentOf, sineRule, cosineRule, tangentRefusal, tangentRule}
 use Rattle.elementary.specs.rules.Arctangent.{arctangentOf, arctangentIn, arctangentRefusal, arctangentRule}
+use Rattle.elementary.specs.rules.Arcsine.{arcsineIn, arcsineRule}
 use Rattle.elementary.specs.laws.Sine.{sine-finite, cosine-finite, tangent-finite}
 use Rattle.elementary.specs.laws.Arctangent.{arctangent-finite}
+use Rattle.elementary.specs.laws.Arcsine.{arcsine-finite}
 
 -- ---- what is told by an argument that is not refused
 
@@ -55,7 +58,7 @@ answered-unless n a v e = by-case (eqb n 0) (eqb→eq n 0) e
     by-case true p e = (p tt, e)
     by-case false p e = let z : _≡_ {A = ℕ} 0 1 = cc in absurd (omega arith)
 
--- ---- the four called alone
+-- ---- the five called alone
 
 same-answer : {A : Type 0} (v w : A) → answered v ≡ answered w → v ≡ w
 same-answer v w e = cc
@@ -93,3 +96,9 @@ arctangent-answers-finite y x v e =
     let a = answered-unless (arctangentRefusal y x) (arctangentIn y x) v e in
     let n = lower-none (numberRefusal y) (numberRefusal x) (a .0) in
     rw (← same-answer (arctangentOf y x) v (a .1)) (arctangent-finite y x (finite-unless-refused y (n .0)) (finite-unless-refused x (n .1)))
+
+pub arcsine-answers-finite : (s v : Float) → arcsineRule s ≡ answered v → Finite v
+unfolding arcsineRule
+arcsine-answers-finite s v e =
+    let a = answered-unless (numberRefusal s) (arcsineIn s) v e in
+    arcsine-finite s (finite-unless-refused s (a .0)) v (a .1)
