@@ -1,10 +1,10 @@
 -- Doubles between two others, and sizes up to a limit. Assumes nothing.
-use mathlib.Core.Path.{_≡_, refl, subst}
+use mathlib.Core.Path.{_≡_, subst}
 use mathlib.Core.Logic.{_⊎_, inl, inr}
 use native.Mathlib.Omega.{arith}
 use Prim.Native.Nat.{ℕ, _*_, _<_}
 use native.Mathlib.Nat.{mul-pos}
-use mathlib.Core.Bool.{true, false, not, _&&_}
+use mathlib.Core.Bool.{true, false, _&&_}
 use lib.IntN.{pos}
 use lib.Dec.{T, eqb, eqb→eq, ltb→lt, not-T}
 use lib.Ieee.Fits.{and-l, up-pos}

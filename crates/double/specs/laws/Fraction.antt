@@ -1,6 +1,6 @@
 -- What each operation rounds, and that rounding keeps the order of the fractions. Assumes nothing.
-use mathlib.Core.Path.{_≡_, refl, sym, ap, subst}
-use mathlib.Core.Logic.{_⊎_, inl, inr}
+use mathlib.Core.Path.{_≡_, refl, ap}
+use mathlib.Core.Logic.{inl, inr}
 use Prim.Native.Nat.{ℕ, _+_, _-_, _*_, _≤_, _<_}
 use native.Mathlib.Nat.{mul-pos, eq-zero-or-pos, not-le-of-lt}
 use native.Mathlib.Omega.{arith}

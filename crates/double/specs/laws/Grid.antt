@@ -1,31 +1,25 @@
 -- A rounded fraction stands to a point k / 2^(j + 1) as the fraction does, so an inequality with such a point goes through an
 -- operation with no error term. Assumes nothing.
-use mathlib.Core.Path.{_≡_, refl, sym, ap, _∙_, subst}
+use mathlib.Core.Path.{_≡_, refl, sym, ap, subst}
 use Prim.Native.Nat.{ℕ, suc, _+_, _*_, _^_, _≤_, _<_}
-use native.Mathlib.Nat.{le-trans, le-of-eq, lt-of-lt-of-le, mul-comm, mul-one, mul-le-mul-right, le-of-mul-le-mul-right}
+use native.Mathlib.Nat.{le-trans, lt-of-lt-of-le, mul-comm, mul-one, mul-le-mul-right, le-of-mul-le-mul-right}
 use native.Mathlib.Omega.{arith}
 use mathlib.Core.Bool.{true, false, true≢false}
 use lib.IntN.{negsuc}
 use lib.Pow.{pow-pos, pow-mono}
-use lib.Ieee.{Float, nan, inf, fin, Format, prec, emax, low, round}
+use lib.Ieee.{Float, nan, inf, fin, Format, prec, emax, low}
 use lib.Ieee.Fits.{reach}
 use lib.Ieee.Exact.{HasValue}
 use lib.Ieee.Positive.{den, den-pos}
 use Rattle.double.specs.rules.Sign.{isFinite}
 use Rattle.double.specs.rules.Order.{_≼_, Finite}
 use Rattle.double.specs.notions.Fraction.{plusPart, minusPart, Rounds}
-use Rattle.double.specs.notions.Grid.{grid}
+use Rattle.double.specs.notions.Grid.{grid, Parts}
 use Rattle.double.specs.laws.Order.{le→below}
 use Rattle.double.specs.laws.Fraction.{rounds-mono}
 use Rattle.double.specs.laws.NearZero.{scaled-value}
 
--- ---- a value with no minus sign, as its parts
-
--- z is the whole number or fraction a / c
-pub record Parts (z : Float) (a c : ℕ) : Type 0 where
-  pub finite : Finite z
-  pub none : minusPart z ≡ 0
-  pub some : plusPart z * c ≡ a * den z
+-- ---- a value with no minus sign, by its parts
 
 pub parts-of-value : (z : Float) (a c : ℕ) → HasValue z false a c → Parts z a c
 unfolding isFinite

@@ -1,8 +1,8 @@
--- A bound on an expression is a closed test: `bounded a b e tt` is a proof that e's value lies from a to b, where computing e's
--- range from the bounds of what stands in e says so. One theorem, `sound`, makes it one. Assumes nothing.
-use mathlib.Core.Path.{_≡_}
-use mathlib.Core.Logic.{_⊎_, inl, inr}
-use mathlib.Core.Bool.{Bool, true, false, _&&_, cond}
+-- A bound on an expression is a closed test: `bounded f a b e tt` proves that e's value lies from a to b, where e's range, computed
+-- from the bounds of what stands in e, does. `known i` stands for a double with the bounds i, `con c` for a constant; the proof unfolds
+-- `isFinite`, `le` and the operations and roundings that stand in e. One theorem, `sound`, is behind it. Assumes nothing.
+use mathlib.Core.Logic.{inl, inr}
+use mathlib.Core.Bool.{Bool, true, false, _&&_}
 use lib.Dec.{T}
 use lib.Ieee.{Float, nan, inf, fin, Format, add, sub, mul, div, le}
 use lib.Ieee.Fits.{and-l, and-r}
@@ -10,6 +10,7 @@ use lib.Ieee.Positive.{positive, above, above-of-le}
 use Rattle.double.specs.rules.Sign.{isFinite}
 use Rattle.double.specs.rules.Order.{_≼_, Finite, Between}
 use Rattle.double.specs.notions.Range.{Amid, Range, unknown, _to_, In, span, lesser, greater, isBetween, hull, addRange, subRange, mulRange, divRange, Expr, known, con, _⊞_, _⊟_, _⊠_, _⧄_, value, range, inside}
+use Rattle.double.specs.laws.Tests.{by-test}
 use Rattle.double.specs.laws.Mirror.{mul-comm}
 use Rattle.double.specs.laws.Order.{le-trans}
 use Rattle.double.specs.laws.Between.{between, between-itself, between-wider}
@@ -26,15 +27,20 @@ module _ (a b z : Float) where
       (and-l (le a z) (le z b) t'') (and-r (le a z) (le z b) t'')
 
   in-span : a ≼ z → z ≼ b → In (span a b) z
-  in-span h k = by-case (isFinite a && isFinite b) (λ t. t)
-    where
-      by-case : (t : Bool) → (T t → T (isFinite a && isFinite b)) → In (cond t (a to b) unknown) z
-      by-case false u = tt
-      by-case true u = between (and-l (isFinite a) (isFinite b) (u tt)) (and-r (isFinite a) (isFinite b) (u tt)) h k
+  in-span h k =
+      by-test (λ (r : Range). In r z) (isFinite a && isFinite b) (a to b) unknown
+      (λ t. between (and-l (isFinite a) (isFinite b) t) (and-r (isFinite a) (isFinite b) t) h k)
+      (λ t. tt)
 
 -- z lies in the hull of four values if it lies wherever they all do
 in-hull : (p q r s z : Float) → ((a b : Float) → Between a b p → Between a b q → Between a b r → Between a b s → Between a b z) → In (hull p q r s) z
-in-hull p q r s z k = by-case (isBetween a b p && (isBetween a b q && (isBetween a b r && isBetween a b s))) (λ t. t)
+in-hull p q r s z k =
+    by-test (λ (i : Range). In i z) (P && (Q && (R && S))) (a to b) unknown
+    (λ t.
+    k a b (between-of a b p (and-l P (Q && (R && S)) t)) (between-of a b q (and-l Q (R && S) (and-r P (Q && (R && S)) t)))
+    (between-of a b r (and-l R S (and-r Q (R && S) (and-r P (Q && (R && S)) t))))
+    (between-of a b s (and-r R S (and-r Q (R && S) (and-r P (Q && (R && S)) t)))))
+    (λ t. tt)
   where
     a : Float
     a = lesser (lesser p q) (lesser r s)
@@ -42,15 +48,17 @@ in-hull p q r s z k = by-case (isBetween a b p && (isBetween a b q && (isBetween
     b : Float
     b = greater (greater p q) (greater r s)
 
-    by-case : (t : Bool) → (T t → T (isBetween a b p && (isBetween a b q && (isBetween a b r && isBetween a b s)))) → In (cond t (a to b) unknown) z
-    by-case false h = tt
-    by-case true h =
-        let t = and-r (isBetween a b p) (isBetween a b q && (isBetween a b r && isBetween a b s)) (h tt) in
-        let t' = and-r (isBetween a b q) (isBetween a b r && isBetween a b s) t in
-        k a b (between-of a b p (and-l (isBetween a b p) (isBetween a b q && (isBetween a b r && isBetween a b s)) (h tt)))
-        (between-of a b q (and-l (isBetween a b q) (isBetween a b r && isBetween a b s) t))
-        (between-of a b r (and-l (isBetween a b r) (isBetween a b s) t'))
-        (between-of a b s (and-r (isBetween a b r) (isBetween a b s) t'))
+    P : Bool
+    P = isBetween a b p
+
+    Q : Bool
+    Q = isBetween a b q
+
+    R : Bool
+    R = isBetween a b r
+
+    S : Bool
+    S = isBetween a b s
 
 -- what lies between two values lies where they both do
 amid : (a b p q z : Float) → Between a b p → Between a b q → Amid p q z → Between a b z
@@ -104,27 +112,22 @@ module _ (f : Format) where
   div-in : (i j : Range) (x y : Float) → In i x → In j y → In (divRange f i j) (div f x y)
   div-in unknown j x y p q = tt
   div-in (a to b) unknown x y p q = tt
-  div-in (a to b) (c to d) x y p q = by-case (positive c) (λ t. t)
-    where
-      by-case : (t : Bool) → (T t → T (positive c)) → In (cond t (hull (div f a c) (div f a d) (div f b c) (div f b d)) unknown) (div f x y)
-      by-case false u = tt
-      by-case true u =
-          let C = u tt in
-          let Y = positive-of-le c y C (q .finite) (q .from) in
-          let D = positive-of-le y d Y (q .end) (q .to) in
-          in-hull (div f a c) (div f a d) (div f b c) (div f b d) (div f x y)
-          (λ lo hi i j k l.
-          amid lo hi (div f a y) (div f b y) (div f x y)
-          (amid lo hi (div f a c) (div f a d) (div f a y) i j (div-amid f a c y d (p .start) C Y D (q .from) (q .to)))
-          (amid lo hi (div f b c) (div f b d) (div f b y) k l (div-amid f b c y d (p .end) C Y D (q .from) (q .to)))
-          (inl (div-mono f a x y (p .start) (p .finite) Y (p .from), div-mono f x b y (p .finite) (p .end) Y (p .to))))
+  div-in (a to b) (c to d) x y p q =
+      by-test (λ (i : Range). In i (div f x y)) (positive c) (hull (div f a c) (div f a d) (div f b c) (div f b d)) unknown
+      (λ C.
+      let Y = positive-of-le c y C (q .finite) (q .from) in
+      let D = positive-of-le y d Y (q .end) (q .to) in
+      in-hull (div f a c) (div f a d) (div f b c) (div f b d) (div f x y)
+      (λ lo hi i j k l.
+      amid lo hi (div f a y) (div f b y) (div f x y)
+      (amid lo hi (div f a c) (div f a d) (div f a y) i j (div-amid f a c y d (p .start) C Y D (q .from) (q .to)))
+      (amid lo hi (div f b c) (div f b d) (div f b y) k l (div-amid f b c y d (p .end) C Y D (q .from) (q .to)))
+      (inl (div-mono f a x y (p .start) (p .finite) Y (p .from), div-mono f x b y (p .finite) (p .end) Y (p .to)))))
+      (λ t. tt)
 
   con-in : (c : Float) → In (span c c) c
-  con-in c = by-case (isFinite c && isFinite c) (λ t. t)
-    where
-      by-case : (t : Bool) → (T t → T (isFinite c && isFinite c)) → In (cond t (c to c) unknown) c
-      by-case false u = tt
-      by-case true u = between-itself (and-l (isFinite c) (isFinite c) (u tt))
+  con-in c =
+      by-test (λ (i : Range). In i c) (isFinite c && isFinite c) (c to c) unknown (λ t. between-itself (and-l (isFinite c) (isFinite c) t)) (λ t. tt)
 
   -- ---- an expression's value lies in its range
 

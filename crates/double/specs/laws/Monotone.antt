@@ -1,13 +1,13 @@
 -- Each operation keeps the order, or turns it round. Assumes nothing.
 use mathlib.Core.Path.{_≡_}
-use mathlib.Core.Logic.{_⊎_, inl, inr}
+use mathlib.Core.Logic.{inl, inr}
 use Prim.Native.Nat.{ℕ, _+_, _*_, _≤_, _<_}
 use native.Mathlib.Nat.{mul-le-mul-right, mul-pos}
 use native.Mathlib.Omega.{arith}
 use mathlib.Core.Bool.{true, false}
 use lib.Dec.{T, ltb→lt}
 use lib.IntN.{ℤ}
-use lib.Ieee.{Float, nan, inf, fin, Format, up, down, neg, add, sub, mul, div, le}
+use lib.Ieee.{Float, nan, inf, fin, Format, up, down, neg, add, sub, mul, div}
 use lib.Ieee.Fits.{up-pos}
 use lib.Ieee.Positive.{num, den, den-pos, positive, le→cross}
 use Rattle.double.specs.rules.Sign.{isFinite}

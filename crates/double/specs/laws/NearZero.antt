@@ -1,7 +1,7 @@
 -- Values near zero, where rounding is coarse: a double is its own rounding, a factor of size 1 at most makes no value larger, and
 -- where no operand bears a minus sign no result does. Assumes nothing.
 use mathlib.Core.Path.{_≡_, refl, sym, ap, _∙_, subst}
-use mathlib.Core.Logic.{_⊎_, inl, inr}
+use mathlib.Core.Logic.{inl, inr}
 use Prim.Native.Nat.{ℕ, zero, suc, _+_, _-_, _*_, _%_, _^_, _≤_, _<_}
 use native.Mathlib.Nat.{not-le-of-lt, lt-of-not-le, le-of-suc-le-suc, mul-assoc, mul-comm, mul-one, one-mul, zero-mul, mul-pos, mul-lt-mul-of-pos-right}
 use native.Mathlib.Omega.{arith}

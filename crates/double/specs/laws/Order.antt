@@ -9,8 +9,8 @@ use lib.Dec.{T, leb, ltb, eqb, leb→le, nleb→lt, ltb→lt, nltb→le, eqb→e
 use lib.Ieee.{Float, nan, inf, fin, up, down, neg, eq, le, lt}
 use lib.Ieee.Fits.{and-l, and-r, and-i, eq→eqb}
 use lib.Ieee.Positive.{den, den-pos}
-use Rattle.double.specs.rules.Sign.{isFinite, size}
-use Rattle.double.specs.rules.Order.{_≼_, Finite, Plus, Between}
+use Rattle.double.specs.rules.Sign.{isFinite}
+use Rattle.double.specs.rules.Order.{_≼_, Finite, Plus}
 use Rattle.double.specs.notions.Fraction.{plusPart, minusPart, Below}
 
 -- ---- the test that `le` makes, for each pair of signs

@@ -4,9 +4,8 @@ use Prim.Native.Nat.{ℕ, suc, _+_, _-_, _*_, _/_, _%_, _^_, _≤_, _<_, min, ze
 use native.Mathlib.Nat.{div-add-mod', mod-lt}
 use native.Mathlib.Omega.{arith}
 use mathlib.Core.Bool.{true, false}
-use lib.Dec.{T, ltb→lt}
-use lib.IntN.{pos}
-use lib.Ieee.{Float, nan, inf, fin, binary64, up, down, ofInt, toUnsigned, le, ofBits}
+use lib.Dec.{ltb→lt}
+use lib.Ieee.{Float, nan, inf, fin, binary64, up, down, ofInt, toUnsigned, ofBits}
 use lib.Ieee.Fits.{down-pos}
 use lib.Ieee.Nearest.{div-mono}
 use lib.Ieee.Order.{round-mono}

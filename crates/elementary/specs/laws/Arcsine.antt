@@ -1,9 +1,9 @@
 -- The arcsine of a number of size 1 at most is answered: the root is not refused, and the answer bears the number's sign and is a
 -- quarter turn at most. So 7 is the only refusal of a finite number. Assumes nothing.
-use mathlib.Core.Path.{_≡_, refl, ap, _∙_}
+use mathlib.Core.Path.{_≡_, refl}
 use Prim.Native.Nat.{ℕ}
 use native.Mathlib.Omega.{arith}
-use mathlib.Core.Bool.{Bool, true, false, not, cond}
+use mathlib.Core.Bool.{Bool, true, false}
 use lib.Dec.{T}
 use lib.Ieee.{Float, binary64, neg, add, sub, mul, le, lt, ofBits, round}
 use lib.Ieee.Bits.{is-true, is-false}
@@ -20,7 +20,7 @@ use Rattle.double.specs.laws.Between.{size→between}
 use Rattle.double.specs.laws.Interval.{bounded}
 use Rattle.double.specs.laws.NearZero.{mul-plus, add-plus, sub-plus}
 use Rattle.quantity.specs.rules.Angle.{HALF}
-use Rattle.quantity.specs.rules.Answer.{Answer, answered, refused, then}
+use Rattle.quantity.specs.rules.Answer.{answered, refused, then}
 use Rattle.root.specs.rules.Count.{isDoubleFromZero}
 use Rattle.root.specs.rules.Root.{rootOf, rootRule}
 use Rattle.root.specs.laws.Doubles.{from-zero, from-zero-finite, from-zero-no-minus}

@@ -12,12 +12,12 @@ use lib.Ieee.{Float, nan, inf, fin, binary64, up, down, round, neg, add, sub, mu
 use lib.Ieee.Fits.{and-i, eq→eqb, up-pos, down-pos, mul-fits, div-fits}
 use lib.Ieee.Positive.{positive}
 use Rattle.double.specs.rules.Operations.{zero, half, one, _⊕_, _⊖_, _⊗_, _⊘_}
-use Rattle.double.specs.rules.Sign.{bearsMinus, negatedIf, size, isFinite}
+use Rattle.double.specs.rules.Sign.{bearsMinus, size, isFinite}
 use Rattle.double.specs.rules.Order.{_≼_, isZero, Finite, Plus, Between}
 use Rattle.double.specs.rules.Table.{over}
 use Rattle.double.specs.notions.Range.{Expr, known, con, _⊞_, _⊟_, _⊠_, _⧄_, hornerExpr}
 use Rattle.double.specs.laws.Tests.{by-test}
-use Rattle.double.specs.laws.Sign.{finite-neg, finite-size, plus-size, size-plus, size-neg, size-negated, size-size, minus-negated}
+use Rattle.double.specs.laws.Sign.{finite-size, plus-size, size-plus, size-neg, size-negated, size-size, minus-negated}
 use Rattle.double.specs.laws.Mirror.{sub-nan}
 use Rattle.double.specs.laws.Order.{le→below, le-trans, le-of-not-le, neg-le}
 use Rattle.double.specs.laws.Between.{between, zero-le-plus, finite-of-plus, plus-of-positive}
@@ -26,7 +26,7 @@ use Rattle.double.specs.laws.NearZero.{mul-shrinks, mul-plus, add-plus, sub-plu
 use Rattle.quantity.specs.rules.Angle.{PI, HALF, QUARTER}
 use Rattle.elementary.specs.rules.Series.{horner, arctangentLast, arctangentEntries, arctangentSeries}
 use Rattle.elementary.specs.rules.Arctangent.{near, atn, bothZero, base, turned, arctangentOf}
-use Rattle.elementary.specs.laws.Mirror.{base-nan, turned-nan}
+use Rattle.elementary.specs.laws.Mirror.{base-nan}
 
 -- ---- the series
 

@@ -1,13 +1,12 @@
 -- No answer is a NaN or an infinity: what sine, cosine, tangent, arctangent and arcsine answer, called alone, is finite.
 -- Assumes nothing.
-use mathlib.Core.Path.{_≡_, refl, sym}
+use mathlib.Core.Path.{_≡_, refl}
 use Prim.Native.Nat.{ℕ, suc, _<_}
 use native.Mathlib.Omega.{arith}
 use mathlib.Core.Bool.{Bool, true, false, not, cond}
 use lib.Dec.{T, eqb, leb, eqb→eq, eqb·suc-zero, lit<}
 use borrow.Author.Tests.{eqb-false}
 use lib.Ieee.{Float, lt, ofBits}
-use Rattle.double.specs.rules.Operations.{one}
 use Rattle.double.specs.rules.Sign.{size, isFinite}
 use Rattle.double.specs.rules.Order.{_≼_, Finite}
 use Rattle.double.specs.laws.Sign.{finite-size}

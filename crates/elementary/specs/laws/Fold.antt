@@ -1,30 +1,30 @@
 -- The fold of a size up to 400000.0: k is the true whole part of s, and what is left is 1 at most in size. Assumes nothing.
-use mathlib.Core.Path.{_≡_, refl, sym, ap, _∙_, subst}
+use mathlib.Core.Path.{_≡_, refl, ap}
 use mathlib.Core.Logic.{_⊎_, inl, inr}
 use Prim.Native.Nat.{ℕ, suc, _+_, _-_, _*_, _^_, _≤_, _<_}
 use native.Mathlib.Nat.{le-trans, mul-pos, mul-le-mul-right, le-of-mul-le-mul-right}
 use native.Mathlib.Omega.{arith}
 use mathlib.Core.Bool.{Bool, true, false, not}
 use lib.Dec.{T, ltb, ltb→lt, nltb→le, lit≤, lit<}
-use lib.IntN.{ℤ, pos}
+use lib.IntN.{ℤ}
 use lib.Pow.{pow-pos}
 use lib.Ieee.{Float, nan, inf, fin, binary64, up, down, round, neg, add, sub, mul, le, ofBits, ofInt, toUnsigned}
 use lib.Ieee.Fits.{down-pos}
 use lib.Ieee.Exact.{HasValue}
-use lib.Ieee.Positive.{num, den, den-pos}
+use lib.Ieee.Positive.{den, den-pos}
 use Rattle.double.specs.rules.Operations.{bits, zero, half, one, two, _⊕_, _⊖_, _⊗_}
 use Rattle.double.specs.rules.Sign.{size, isFinite}
 use Rattle.double.specs.rules.Order.{_≼_, Finite, Plus, Between}
 use Rattle.double.specs.rules.Whole.{wholePart, fromWhole, IsWholePart}
 use Rattle.double.specs.rules.Table.{over, minusOver}
-use Rattle.double.specs.notions.Fraction.{plusPart, minusPart, Rounds}
+use Rattle.double.specs.notions.Fraction.{plusPart, minusPart}
 use Rattle.double.specs.notions.Range.{known, con, _⊞_, _⊟_, _⊠_}
 use Rattle.double.specs.notions.Grid.{grid}
 use Rattle.double.specs.laws.Sign.{plus-size}
 use Rattle.double.specs.laws.Between.{between, between-cut, size-between, finite-of-size, plus-of-positive}
 use Rattle.double.specs.laws.Fraction.{minus-none, plus-all, rounds-mono, add-rounds, sub-rounds, mul-rounds}
 use Rattle.double.specs.laws.Interval.{bounded}
-use Rattle.double.specs.laws.Grid.{Parts, parts-of-value, grid-parts, grid-under, grid-over, under-grid, over-grid}
+use Rattle.double.specs.laws.Grid.{parts-of-value, grid-parts, grid-under, grid-over, under-grid, over-grid}
 use Rattle.double.specs.laws.WholePart.{whole-part-mono, whole-part-true, from-whole-exact, from-whole-between}
 use Rattle.quantity.specs.rules.Refusal.{steepest}
 use Rattle.elementary.specs.rules.Fold.{quarters, rest}

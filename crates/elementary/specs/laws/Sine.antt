@@ -1,12 +1,10 @@
 -- Sine and cosine of an angle up to 400000.0 in size are 1 at most in size; up to 1.57 the cosine is above zero, so that the
 -- tangent is finite. Assumes nothing.
-use mathlib.Core.Path.{_≡_, refl, sym, subst}
-use mathlib.Core.Logic.{_⊎_, inl, inr}
+use mathlib.Core.Path.{sym, subst}
+use mathlib.Core.Logic.{inl, inr}
 use Prim.Native.Nat.{ℕ, suc, _%_}
-use native.Mathlib.Omega.{arith}
 use mathlib.Core.Bool.{Bool, true, false}
-use lib.Dec.{lit≤}
-use lib.Ieee.{Float, binary64, round, neg, add, sub, mul, div, le, ofBits, ofInt, toUnsigned}
+use lib.Ieee.{Float, binary64, round, neg, add, sub, mul, div, le, ofBits}
 use Rattle.double.specs.rules.Operations.{zero, one, two, _⊕_, _⊖_, _⊗_, _⊘_}
 use Rattle.double.specs.rules.Sign.{bearsMinus, negatedIf, size, isFinite}
 use Rattle.double.specs.rules.Order.{_≼_, NonZero, Finite, Between}
