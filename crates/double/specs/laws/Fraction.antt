@@ -108,7 +108,8 @@ pub sub-rounds : (f : Format) (x y : Float) → Finite x → Finite y → Rounds
 unfolding sub
 sub-rounds f x y p q = rw (← plus-neg y, ← minus-neg y, ← den-neg y) (add-rounds f x (neg y) p (rw (finite-neg y) q))
 
-pub mul-rounds : (f : Format) (x y : Float) → Finite x → Finite y → Rounds f (mul f x y) (plusPart x * plusPart y + minusPart x * minusPart y) (plusPart x * minusPart y + minusPart x * plusPart y) (den x * den y)
+pub mul-rounds : (f : Format) (x y : Float) → Finite x → Finite y
+    → Rounds f (mul f x y) (plusPart x * plusPart y + minusPart x * minusPart y) (plusPart x * minusPart y + minusPart x * plusPart y) (den x * den y)
 unfolding mul isFinite
 mul-rounds f nan y p q = absurd p
 mul-rounds f (inf s) y p q = absurd p
@@ -132,7 +133,8 @@ div-rounds f (fin s m e) (fin false n d) p q = go (eqb n 0) (eqb→eq n 0) s
     no : (n : ℕ) → 0 < n → n ≡ 0 → ⊥
     no n h z = omega arith
 
-    go : (b : Bool) → (T b → n ≡ 0) → (s : Bool) → Rounds f (cond b (cond (eqb m 0) nan (inf (unlike s false))) (round f (unlike s false) (m * up e * down d) (n * up d * down e))) (plusPart (fin s m e) * down d) (minusPart (fin s m e) * down d) (n * up d * down e)
+    go : (b : Bool) → (T b → n ≡ 0) → (s : Bool)
+        → Rounds f (cond b (cond (eqb m 0) nan (inf (unlike s false))) (round f (unlike s false) (m * up e * down d) (n * up d * down e))) (plusPart (fin s m e) * down d) (minusPart (fin s m e) * down d) (n * up d * down e)
     go true z s = absurd (no n (ltb→lt 0 n q) (z tt))
     go false z false = record { sign = false; top = m * up e * down d; is = refl; value = omega arith }
     go false z true = record { sign = true; top = m * up e * down d; is = refl; value = omega arith }

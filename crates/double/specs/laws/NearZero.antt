@@ -29,7 +29,8 @@ use Rattle.double.specs.laws.Monotone.{mul-amid}
 -- ---- a value that its format holds is its own rounding
 
 -- m · 2^e, where m has at most `prec` digits, 2^e is no less than the smallest value, and the product not too large
-pub scaled-value : (f : Format) (s : Bool) (m : ℕ) (e : ℤ) → m < 2 ^ prec f → down e ≤ 2 ^ low f → m * up e < 2 ^ suc (emax f) * down e → HasValue (round f s (m * up e) (down e)) s (m * up e) (down e)
+pub scaled-value : (f : Format) (s : Bool) (m : ℕ) (e : ℤ) → m < 2 ^ prec f → down e ≤ 2 ^ low f → m * up e < 2 ^ suc (emax f) * down e
+    → HasValue (round f s (m * up e) (down e)) s (m * up e) (down e)
 scaled-value f s m (pos k) a b c =
     round-exact f s (m * 2 ^ k) 1 m (k + low f) (pow-pos 0) a
     (subst (λ (x : ℕ). x < 2 ^ (low f + suc (emax f))) (sym raised)
@@ -149,7 +150,8 @@ add-plus f (fin false m e) (fin true n d) p q r h =
     small : n * up d * down e ≤ m * up e * down d
     small = omega (arith, le→below (fin true m e) (fin true n d) tt tt h)
 
-    by-case : (b : Bool) → (T b → m * up e * down d < n * up d * down e) → (c : Bool) → Plus (cond b (round f true (n * up d * down e - m * up e * down d) (down e * down d)) (round f (false && c) (m * up e * down d - n * up d * down e) (down e * down d)))
+    by-case : (b : Bool) → (T b → m * up e * down d < n * up d * down e) → (c : Bool)
+        → Plus (cond b (round f true (n * up d * down e - m * up e * down d) (down e * down d)) (round f (false && c) (m * up e * down d - n * up d * down e) (down e * down d)))
     by-case true k c = absurd (not-le-of-lt (k tt) small)
     by-case false k c = round-plus f (m * up e * down d - n * up d * down e) (down e * down d)
 

@@ -24,8 +24,9 @@ use Rattle.double.specs.laws.Between.{between, zero-le-plus, finite-of-plus, pl
 use Rattle.double.specs.laws.Interval.{bounded}
 use Rattle.double.specs.laws.NearZero.{mul-shrinks, mul-plus, add-plus, sub-plus, div-plus, div-le-one}
 use Rattle.quantity.specs.rules.Angle.{PI, HALF, QUARTER}
+use Rattle.quantity.specs.rules.Answer.{answered}
 use Rattle.elementary.specs.rules.Series.{horner, arctangentLast, arctangentEntries, arctangentSeries}
-use Rattle.elementary.specs.rules.Arctangent.{near, atn, bothZero, base, turned, arctangentOf}
+use Rattle.elementary.specs.rules.Arctangent.{near, atn, bothZero, base, turned, arctangentOf, arctangentIn}
 use Rattle.elementary.specs.laws.Mirror.{base-nan}
 
 -- ---- the series
@@ -252,3 +253,33 @@ unfolding neg bearsMinus
 arctangent-behind y nan h = rw (size-nan y) (sym (sub-nan binary64 PI))
 arctangent-behind y (inf s) h = opposite-signs y (inf s) h (rw h)
 arctangent-behind y (fin s m e) h = opposite-signs y (fin s m e) h (rw h)
+
+-- ---- the same of what callers bind
+
+module _ (y x v : Float) (e : arctangentIn y x ≡ answered v) where
+  is-arctangent : v ≡ arctangentOf y x
+  unfolding arctangentIn
+  is-arctangent = cc
+
+  module _ (p : Finite y) (q : Finite x) where
+    pub arctangent-in-sign : bearsMinus v ≡ bearsMinus y
+    arctangent-in-sign = rw is-arctangent (arctangent-sign y x p q)
+
+    pub arctangent-in-finite : Finite v
+    arctangent-in-finite = rw is-arctangent (arctangent-finite y x p q)
+
+    pub arctangent-in-at-most-half : bearsMinus x ≡ false → size v ≼ HALF
+    arctangent-in-at-most-half h = rw is-arctangent (arctangent-at-most-half y x p q h)
+
+    pub arctangent-in-at-least-half : bearsMinus x ≡ true → HALF ≼ size v
+    arctangent-in-at-least-half h = rw is-arctangent (arctangent-at-least-half y x p q h)
+
+    pub arctangent-in-at-most-pi : size v ≼ PI
+    arctangent-in-at-most-pi = rw is-arctangent (arctangent-at-most-pi y x p q)
+
+  pub arctangent-in-behind : (w : Float) → arctangentIn y (neg x) ≡ answered w → bearsMinus x ≡ false → size w ≡ PI ⊖ size v
+  unfolding arctangentIn
+  arctangent-in-behind w e' h = rw is-arctangent (ap size (same w e') ∙ arctangent-behind y x h)
+    where
+      same : (w : Float) → answered (arctangentOf y (neg x)) ≡ answered w → w ≡ arctangentOf y (neg x)
+      same w e = cc

@@ -15,10 +15,10 @@ use Rattle.quantity.specs.declared.Rad.{Rad}
 use Rattle.quantity.specs.rules.Answer.{Answer, answered, refused, unless}
 use Rattle.quantity.specs.rules.Refusal.{past, lower, numberRefusal, steepest}
 use Rattle.elementary.specs.rules.Sine.{farthestAlone, aloneRefusal, sineOf, cosineOf, tangentOf, sineRule, cosineRule, tangentRefusal, tangentRule}
-use Rattle.elementary.specs.rules.Arctangent.{arctangentOf, arctangentIn, arctangentRefusal, arctangentRule}
+use Rattle.elementary.specs.rules.Arctangent.{arctangentIn, arctangentRefusal, arctangentRule}
 use Rattle.elementary.specs.rules.Arcsine.{arcsineIn, arcsineRule}
 use Rattle.elementary.specs.laws.Sine.{sine-finite, cosine-finite, tangent-finite}
-use Rattle.elementary.specs.laws.Arctangent.{arctangent-finite}
+use Rattle.elementary.specs.laws.Arctangent.{arctangent-in-finite}
 use Rattle.elementary.specs.laws.Arcsine.{arcsine-finite}
 
 -- ---- what is told by an argument that is not refused
@@ -90,11 +90,11 @@ tangent-answers-finite x v e =
     rw (← same-answer (tangentOf x) v (a .1)) (tangent-finite x (up-to-limit (x .0) steepest 4 (lit< tt) finite-steepest (n .1)))
 
 pub arctangent-answers-finite : (y x v : Float) → arctangentRule y x ≡ answered v → Finite v
-unfolding arctangentRule arctangentIn
+unfolding arctangentRule
 arctangent-answers-finite y x v e =
     let a = answered-unless (arctangentRefusal y x) (arctangentIn y x) v e in
     let n = lower-none (numberRefusal y) (numberRefusal x) (a .0) in
-    rw (← same-answer (arctangentOf y x) v (a .1)) (arctangent-finite y x (finite-unless-refused y (n .0)) (finite-unless-refused x (n .1)))
+    arctangent-in-finite y x v (a .1) (finite-unless-refused y (n .0)) (finite-unless-refused x (n .1))
 
 pub arcsine-answers-finite : (s v : Float) → arcsineRule s ≡ answered v → Finite v
 unfolding arcsineRule

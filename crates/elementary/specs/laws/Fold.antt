@@ -98,13 +98,15 @@ half-under k p n d h = omega arith
 half-over : (k p n d : ℕ) → p * 2 ^ 21 ≤ k * d + n * 2 ^ 21 → (p * 2 + 1 * d) * 2 ^ 21 ≤ (k + 2 ^ 20) * (d * 2) + (n * 2 + 0 * d) * 2 ^ 21
 half-over k p n d h = omega arith
 
-high-start : (x d n : ℕ) → (2 * n + 1) * 2 ^ 53 * d ≤ x * 5734161139222659 * 2 → (n * 2 ^ 21 + 2 ^ 20) * (d * 2 ^ 53) + (x * 0 + 0 * 5734161139222659) * 2 ^ 21 ≤ (x * 5734161139222659 + 0 * 0) * 2 ^ 21
+high-start : (x d n : ℕ) → (2 * n + 1) * 2 ^ 53 * d ≤ x * 5734161139222659 * 2
+    → (n * 2 ^ 21 + 2 ^ 20) * (d * 2 ^ 53) + (x * 0 + 0 * 5734161139222659) * 2 ^ 21 ≤ (x * 5734161139222659 + 0 * 0) * 2 ^ 21
 high-start x d n h = omega arith
 
 high-end : (n d p z : ℕ) → z ≡ 0 → (n * 2 ^ 21 + 2 ^ 20 + 2 ^ 20) * d + z * 2 ^ 21 ≤ p * 2 ^ 21 → p < suc n * d → ⊥
 high-end n d p z e h k = omega arith
 
-low-start : (x d n : ℕ) → x * 5734161139222659 * 2 ^ 21 ≤ (n * 2 ^ 21 - 2 ^ 20 - 1) * 2 ^ 53 * d → (x * 5734161139222659 + 0 * 0) * 2 ^ 21 ≤ (n * 2 ^ 21 - 2 ^ 20 - 1) * (d * 2 ^ 53) + (x * 0 + 0 * 5734161139222659) * 2 ^ 21
+low-start : (x d n : ℕ) → x * 5734161139222659 * 2 ^ 21 ≤ (n * 2 ^ 21 - 2 ^ 20 - 1) * 2 ^ 53 * d
+    → (x * 5734161139222659 + 0 * 0) * 2 ^ 21 ≤ (n * 2 ^ 21 - 2 ^ 20 - 1) * (d * 2 ^ 53) + (x * 0 + 0 * 5734161139222659) * 2 ^ 21
 low-start x d n h = omega arith
 
 low-end : (n k d p z : ℕ) → z ≡ 0 → 0 < d → k + 1 ≡ n * 2 ^ 21 → p * 2 ^ 21 ≤ k * d + z * 2 ^ 21 → n * d ≤ p → ⊥
@@ -195,16 +197,20 @@ by-part x d k h = le-of-mul-le-mul-right (step h) (lit< {m = 0} {n = 57341611392
 low-fraction : (x d n k : ℕ) → n ≤ 254648 → k + 2 ^ 20 + 1 ≡ n * 2 ^ 21 → k * 103993 * d ≤ x * 2 ^ 21 * 66204 → 8 * n * 1686629713 * d ≤ x * 2 ^ 33 + 7 * 2 ^ 30 * d
 low-fraction x d n k h e l = omega (arith, mul-le-mul-right d h, ap (λ (z : ℕ). z * d) e)
 
-high-difference : (x d n py ny dy : ℕ) → py * 2 ^ 30 ≡ n * 1686629713 * dy + ny * 2 ^ 30 → x * 2 ^ 33 ≤ (7 * 2 ^ 30 + 8 * n * 1686629713) * d → (x * dy + ny * d) * 2 ^ 3 ≤ 7 * (d * dy) + (0 * dy + py * d) * 2 ^ 3
+high-difference : (x d n py ny dy : ℕ) → py * 2 ^ 30 ≡ n * 1686629713 * dy + ny * 2 ^ 30 → x * 2 ^ 33 ≤ (7 * 2 ^ 30 + 8 * n * 1686629713) * d
+    → (x * dy + ny * d) * 2 ^ 3 ≤ 7 * (d * dy) + (0 * dy + py * d) * 2 ^ 3
 high-difference x d n py ny dy e h = le-of-mul-le-mul-right (step (mul-le-mul-right dy h) (ap (λ (z : ℕ). z * d) e)) (pow-pos 30)
   where
-    step : x * 2 ^ 33 * dy ≤ (7 * 2 ^ 30 + 8 * n * 1686629713) * d * dy → py * 2 ^ 30 * d ≡ (n * 1686629713 * dy + ny * 2 ^ 30) * d → (x * dy + ny * d) * 2 ^ 3 * 2 ^ 30 ≤ (7 * (d * dy) + (0 * dy + py * d) * 2 ^ 3) * 2 ^ 30
+    step : x * 2 ^ 33 * dy ≤ (7 * 2 ^ 30 + 8 * n * 1686629713) * d * dy → py * 2 ^ 30 * d ≡ (n * 1686629713 * dy + ny * 2 ^ 30) * d
+        → (x * dy + ny * d) * 2 ^ 3 * 2 ^ 30 ≤ (7 * (d * dy) + (0 * dy + py * d) * 2 ^ 3) * 2 ^ 30
     step a b = omega arith
 
-low-difference : (x d n py ny dy : ℕ) → py * 2 ^ 30 ≡ n * 1686629713 * dy + ny * 2 ^ 30 → 8 * n * 1686629713 * d ≤ x * 2 ^ 33 + 7 * 2 ^ 30 * d → 0 * (d * dy) + (0 * dy + py * d) * 2 ^ 3 ≤ (x * dy + ny * d) * 2 ^ 3 + 7 * (d * dy)
+low-difference : (x d n py ny dy : ℕ) → py * 2 ^ 30 ≡ n * 1686629713 * dy + ny * 2 ^ 30 → 8 * n * 1686629713 * d ≤ x * 2 ^ 33 + 7 * 2 ^ 30 * d
+    → 0 * (d * dy) + (0 * dy + py * d) * 2 ^ 3 ≤ (x * dy + ny * d) * 2 ^ 3 + 7 * (d * dy)
 low-difference x d n py ny dy e h = le-of-mul-le-mul-right (step (mul-le-mul-right dy h) (ap (λ (z : ℕ). z * d) e)) (pow-pos 30)
   where
-    step : 8 * n * 1686629713 * d * dy ≤ (x * 2 ^ 33 + 7 * 2 ^ 30 * d) * dy → py * 2 ^ 30 * d ≡ (n * 1686629713 * dy + ny * 2 ^ 30) * d → (0 * (d * dy) + (0 * dy + py * d) * 2 ^ 3) * 2 ^ 30 ≤ ((x * dy + ny * d) * 2 ^ 3 + 7 * (d * dy)) * 2 ^ 30
+    step : 8 * n * 1686629713 * d * dy ≤ (x * 2 ^ 33 + 7 * 2 ^ 30 * d) * dy → py * 2 ^ 30 * d ≡ (n * 1686629713 * dy + ny * 2 ^ 30) * d
+        → (0 * (d * dy) + (0 * dy + py * d) * 2 ^ 3) * 2 ^ 30 ≤ ((x * dy + ny * d) * 2 ^ 3 + 7 * (d * dy)) * 2 ^ 30
     step a b = omega arith
 
 first-rest : (m : ℕ) (e : ℤ) → Between zero farthestAlone (fin false m e) → Between (minusOver 7 8) (over 7 8) (fin false m e ⊖ fromWhole (quarters (fin false m e)) ⊗ P1)
@@ -233,7 +239,8 @@ first-rest m e i =
     none : (x d n : ℕ) → n ≤ 0 → 8 * n * 1686629713 * d ≤ x * 2 ^ 33 + 7 * 2 ^ 30 * d
     none x d n h = let z : n ≡ 0 = omega arith in rw z (omega arith)
 
-    lowest : {n : ℕ} → (0 < n) ⊎ (n ≤ 0) → n ≤ 254648 → Finite (fin false m e ⊗ I) → IsWholePart n (fin false m e ⊗ I ⊕ half) → 8 * n * 1686629713 * down e ≤ m * up e * 2 ^ 33 + 7 * 2 ^ 30 * down e
+    lowest : {n : ℕ} → (0 < n) ⊎ (n ≤ 0) → n ≤ 254648 → Finite (fin false m e ⊗ I) → IsWholePart n (fin false m e ⊗ I ⊕ half)
+        → 8 * n * 1686629713 * down e ≤ m * up e * 2 ^ 33 + 7 * 2 ^ 30 * down e
     lowest {n} (inl h) small F w =
         let k = n * 2 ^ 21 - 2 ^ 20 - 1 in
         low-fraction (m * up e) (down e) n k small (omega arith) (by-part (m * up e) (down e) k (fold-low m e n small F w (omega arith)))
@@ -312,7 +319,8 @@ rest-first a i =
     bounded binary64 (minusOver 405 512) (minusOver 3 4096) (((known i ⊟ k ⊠ con P1) ⊟ k ⊠ con P2) ⊟ k ⊠ con P3) tt
 
 -- an angle up to 1.57 folds into none and a rest up to π/4, or into one quarter and a rest below zero
-pub fold-steep : (a : Float) → Between zero steepest a → ((quarters a ≡ 0) × Between zero (over 1609 2048) (rest a)) ⊎ ((quarters a ≡ 1) × Between (minusOver 405 512) (minusOver 3 4096) (rest a))
+pub fold-steep : (a : Float) → Between zero steepest a
+    → ((quarters a ≡ 0) × Between zero (over 1609 2048) (rest a)) ⊎ ((quarters a ≡ 1) × Between (minusOver 405 512) (minusOver 3 4096) (rest a))
 fold-steep a i = by-number (quarters a) refl (steep-quarters a i)
   where
     finite-late : Finite late
