@@ -1,5 +1,5 @@
 -- What each operation rounds, and that rounding keeps the order of the fractions. Assumes nothing.
-use mathlib.Core.Path.{_≡_, refl, ap}
+use mathlib.Core.Path.{_≡_, refl, sym, ap, _∙_}
 use mathlib.Core.Logic.{inl, inr}
 use Prim.Native.Nat.{ℕ, _+_, _-_, _*_, _≤_, _<_}
 use native.Mathlib.Nat.{mul-pos, eq-zero-or-pos, not-le-of-lt}
@@ -12,7 +12,7 @@ use lib.Ieee.Positive.{num, den, positive}
 use Rattle.double.specs.rules.Sign.{isFinite}
 use Rattle.double.specs.rules.Order.{_≼_, Finite, Plus}
 use Rattle.double.specs.notions.Fraction.{plusPart, minusPart, Signed, Rounds}
-use Rattle.double.specs.laws.Sign.{finite-neg}
+use Rattle.double.specs.laws.Sign.{neg-neg, finite-neg}
 use Rattle.double.specs.laws.Rounding.{round-neg, round-zero, round-plus}
 use Rattle.double.specs.laws.Order.{neg-le, minus-le-plus}
 
@@ -138,3 +138,20 @@ div-rounds f (fin s m e) (fin false n d) p q = go (eqb n 0) (eqb→eq n 0) s
     go true z s = absurd (no n (ltb→lt 0 n q) (z tt))
     go false z false = record { sign = false; top = m * up e * down d; is = refl; value = omega arith }
     go false z true = record { sign = true; top = m * up e * down d; is = refl; value = omega arith }
+
+-- ---- no rounded fraction is a NaN
+
+pub rounds-not-nan : {f : Format} {z : Float} {p n d : ℕ} → Rounds f z p n d → z ≡ nan → ⊥
+rounds-not-nan {f} {d = d} r e = by-sign (r .sign) (sym (r .is) ∙ e)
+  where
+    no-plus : (x : Float) → Plus x → x ≡ nan → ⊥
+    no-plus x p e = rw e at p
+
+    neg-nan : neg nan ≡ nan
+    neg-nan = unfold neg in refl
+
+    by-sign : (s : Bool) → round f s (r .top) d ≡ nan → ⊥
+    by-sign false e = no-plus (round f false (r .top) d) (round-plus f (r .top) d) e
+    by-sign true e =
+        no-plus (round f false (r .top) d) (round-plus f (r .top) d)
+        (sym (neg-neg (round f false (r .top) d)) ∙ ap neg (sym (round-neg f false (r .top) d) ∙ e) ∙ neg-nan)
