@@ -21,10 +21,9 @@ use Rattle.double.specs.laws.Interval.{bounded}
 use Rattle.double.specs.laws.NearZero.{mul-plus, add-plus, sub-plus}
 use Rattle.quantity.specs.rules.Angle.{HALF}
 use Rattle.quantity.specs.rules.Answer.{answered, refused, then}
-use Rattle.root.specs.rules.Count.{isDoubleFromZero}
-use Rattle.root.specs.rules.Root.{rootOf, rootRule}
-use Rattle.root.specs.laws.Doubles.{from-zero, from-zero-finite, from-zero-no-minus}
-use Rattle.root.specs.laws.Root.{root-from-zero, root-not-refused}
+use Rattle.root.specs.rules.Count.{IsFromZero}
+use Rattle.root.specs.rules.Root.{rootOf}
+use Rattle.root.specs.laws.Root.{root-from-zero, root-answered}
 use Rattle.elementary.specs.rules.Arctangent.{arctangentOf, arctangentIn}
 use Rattle.elementary.specs.rules.Arcsine.{arcsineIn}
 use Rattle.elementary.specs.laws.Arctangent.{arctangent-sign, arctangent-finite, arctangent-at-most-half}
@@ -57,19 +56,24 @@ module _ (s : Float) (h : size s ≼ one) where
   unfolding isFinite le neg add sub mul ofBits round
   square-finite = bounded binary64 zero (over 4 1) ((con one ⊟ known place) ⊠ (con one ⊞ known place)) tt .finite
 
-  root-double : T (isDoubleFromZero (rootOf (square s)))
-  root-double =
-      root-from-zero (square s)
-      (from-zero (square s) (mul-fits binary64 (one ⊖ s) (one ⊕ s)) (is-true (isFinite (square s)) square-finite) (no-minus-of-plus (square s) square-plus))
+  square-from-zero : IsFromZero (square s)
+  square-from-zero =
+      record {
+        held = mul-fits binary64 (one ⊖ s) (one ⊕ s);
+        finite = is-true (isFinite (square s)) square-finite;
+        plus = no-minus-of-plus (square s) square-plus;
+      }
+
+  root-double : IsFromZero (rootOf (square s))
+  root-double = root-from-zero (square s) square-from-zero
 
   root-finite : Finite (rootOf (square s))
-  root-finite = holds (from-zero-finite (rootOf (square s)) root-double)
+  root-finite = holds (root-double .finite)
 
   -- the root is not refused
   pub arcsine-answered : arcsineIn s ≡ answered (arcsineOf s)
-  unfolding arcsineIn rootRule then arctangentIn
-  arcsine-answered =
-      rw (not-past, root-not-refused (square s) (is-true (isFinite (square s)) square-finite) (no-minus-of-plus (square s) square-plus))
+  unfolding arcsineIn then arctangentIn
+  arcsine-answered = rw (not-past, root-answered (square s) (square-from-zero .finite) (square-from-zero .plus))
     where
       not-past : lt one (size s) ≡ false
       not-past = is-false (lt one (size s)) (not-lt-of-le (size s) one (rw (finite-size s) (place .finite)) finite-one h)
@@ -121,4 +125,4 @@ module _ (s : Float) (p : Finite s) where
     arcsine-at-most-half =
         rw is-arcsine
         (arctangent-at-most-half s (rootOf (square s)) p (root-finite s within-one)
-        (from-zero-no-minus (rootOf (square s)) (root-double s within-one)))
+        (root-double s within-one .plus))
