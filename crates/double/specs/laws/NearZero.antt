@@ -3,26 +3,27 @@
 use mathlib.Core.Path.{_≡_, refl, sym, ap, _∙_, subst}
 use mathlib.Core.Logic.{inl, inr}
 use Prim.Native.Nat.{ℕ, zero, suc, _+_, _-_, _*_, _%_, _^_, _≤_, _<_}
-use native.Mathlib.Nat.{not-le-of-lt, lt-of-not-le, le-of-suc-le-suc, mul-assoc, mul-comm, mul-one, one-mul, zero-mul, mul-pos, mul-lt-mul-of-pos-right}
+use native.Mathlib.Nat.{not-le-of-lt, lt-of-not-le, le-of-suc-le-suc, mul-assoc, mul-comm, mul-one, one-mul, zero-mul, mul-pos, mul-le-mul-right, mul-lt-mul-of-pos-right, mod-lt, le-of-lt, le-of-eq, le-trans as le-trans-ℕ}
 use native.Mathlib.Omega.{arith}
 use mathlib.Core.Bool.{Bool, true, false, _&&_, cond}
 use lib.IntN.{ℤ, pos, negsuc}
 use lib.Dec.{T, leb, ltb, eqb, ltb→lt, leb→le, eqb→eq}
 use lib.Pow.{pow-add, pow-pos, pow-lt}
-use lib.Ieee.{Float, nan, inf, fin, Format, binary32, binary64, prec, emax, low, up, down, round, neg, sum, add, sub, mul, div, fits, ofBits}
+use lib.Ieee.{Float, nan, inf, fin, Format, binary32, binary64, prec, emax, low, up, down, round, neg, sum, add, sub, mul, div, rem, fits, ofBits}
 use lib.Ieee.Fits.{and-l, and-r, up-pos, down-pos}
 use lib.Ieee.Exact.{HasValue, round-exact}
 use lib.Ieee.Digits.{back}
+use lib.Ieee.Order.{round-mono}
 use lib.Ieee.Positive.{positive}
 use Rattle.double.specs.rules.Operations.{one}
 use Rattle.double.specs.rules.Sign.{isFinite}
 use Rattle.double.specs.rules.Order.{_≼_, Finite, Plus, Between}
 use Rattle.double.specs.notions.Fraction.{Rounds}
 use Rattle.double.specs.laws.Sign.{finite-neg}
-use Rattle.double.specs.laws.Rounding.{round-zero, round-plus}
+use Rattle.double.specs.laws.Rounding.{round-neg, round-zero, round-plus}
 use Rattle.double.specs.laws.Mirror
 use Rattle.double.specs.laws.Order.{below→le, le→below, le-trans, neg-le, minus-le-plus}
-use Rattle.double.specs.laws.Between.{between}
+use Rattle.double.specs.laws.Between.{between, between-neg}
 use Rattle.double.specs.laws.Fraction.{rounds-mono, div-rounds}
 use Rattle.double.specs.laws.Monotone.{mul-amid}
 
@@ -122,6 +123,55 @@ mul-shrinks f q p F Q P i =
           between N Q (le-trans (neg q) q (mul f p q) cross (le-trans q o (mul f p q) (s .from) (m .0)))
           (le-trans (mul f p q) (neg q) q (le-trans (mul f p q) (neg o) (neg q) (rw e at (m .1)) (neg-le q o (s .from))) cross)
     ])
+
+-- ---- and a fraction no larger than a value rounds to one no larger
+
+round-shrinks : (f : Format) (s : Bool) (a c n : ℕ) (d : ℤ) → T (fits f (fin false n d)) → 0 < c → a * down d ≤ n * up d * c → Between (fin true n d) (fin false n d) (round f s a c)
+unfolding isFinite neg
+round-shrinks f s a c n d F p h = by-sign s
+  where
+    y : Float
+    y = fin false n d
+
+    z : Float
+    z = round f false a c
+
+    o : Float
+    o = round f false (n * up d) (down d)
+
+    plus-between : Between (fin true n d) (fin false n d) z
+    plus-between =
+        between tt tt (minus-le-plus y z tt (round-plus f a c))
+        (le-trans z o y (round-mono f a c (n * up d) (down d) p (down-pos d) h) (same-of-value o false n d (own-value f false n d F) .to))
+
+    by-sign : (s : Bool) → Between (fin true n d) (fin false n d) (round f s a c)
+    by-sign false = plus-between
+    by-sign true = rw (round-neg f false a c) (between-neg plus-between)
+
+-- the exact remainder by y is y at most in size
+pub rem-between : (f : Format) (x y : Float) → T (fits f y) → T (positive y) → Finite x → Between (neg y) y (rem f x y)
+unfolding rem neg isFinite
+rem-between f nan y F p q = absurd q
+rem-between f (inf s) y F p q = absurd q
+rem-between f (fin s m e) nan F p q = absurd p
+rem-between f (fin s m e) (inf t) F p q = absurd p
+rem-between f (fin s m e) (fin true n d) F p q = absurd p
+rem-between f (fin s m e) (fin false n d) F p q = by-case (eqb n 0) (eqb→eq n 0)
+  where
+    no : (n : ℕ) → 0 < n → n ≡ 0 → ⊥
+    no n h z = omega arith
+
+    b : ℕ
+    b = n * up d * down e
+
+    less : m * up e * down d % b * down d ≤ n * up d * (down e * down d)
+    less =
+        le-trans-ℕ (mul-le-mul-right (down d) (le-of-lt (mod-lt (m * up e * down d) (mul-pos (mul-pos (ltb→lt 0 n p) (up-pos d)) (down-pos e)))))
+        (le-of-eq (mul-assoc (n * up d) (down e) (down d)))
+
+    by-case : (t : Bool) → (T t → n ≡ 0) → Between (fin true n d) (fin false n d) (cond t nan (round f s (m * up e * down d % b) (down e * down d)))
+    by-case true z = absurd (no n (ltb→lt 0 n p) (z tt))
+    by-case false z = round-shrinks f s (m * up e * down d % b) (down e * down d) n d F (mul-pos (down-pos e) (down-pos d)) less
 
 -- ---- where no minus sign appears
 

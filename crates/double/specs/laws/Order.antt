@@ -2,12 +2,14 @@
 use mathlib.Core.Path.{_≡_, refl, sym}
 use mathlib.Core.Logic.{_⊎_, inl, inr}
 use Prim.Native.Nat.{ℕ, _+_, _*_, _≤_, _<_}
-use native.Mathlib.Nat.{le-of-eq, le-of-lt, mul-le-mul-right, le-of-mul-le-mul-right, not-le-of-lt}
+use native.Mathlib.Nat as Nat
+use native.Mathlib.Nat.{le-of-eq, mul-le-mul-right, le-of-mul-le-mul-right, not-le-of-lt}
 use native.Mathlib.Omega.{arith}
 use mathlib.Core.Bool.{Bool, true, false, not, _&&_, _||_}
 use lib.Dec.{T, leb, ltb, eqb, leb→le, nleb→lt, ltb→lt, nltb→le, eqb→eq, T-not, not-T}
 use lib.Ieee.{Float, nan, inf, fin, up, down, neg, eq, le, lt}
 use lib.Ieee.Fits.{and-l, and-r, and-i, eq→eqb}
+use lib.Ieee.Bits.{is-true}
 use lib.Ieee.Positive.{den, den-pos}
 use Rattle.double.specs.rules.Sign.{isFinite}
 use Rattle.double.specs.rules.Order.{_≼_, Finite, Plus}
@@ -23,7 +25,7 @@ same : (a b : ℕ) → a ≤ b → b ≤ a → a ≡ b
 same a b p q = omega arith
 
 le-of : (a b : ℕ) → T (ltb a b || (eqb a b && true)) → a ≤ b
-le-of a b t = elim (or-cases (ltb a b) (eqb a b && true) t) [ inl u ↦ le-of-lt (ltb→lt a b u) | inr u ↦ le-of-eq (eqb→eq a b (and-l (eqb a b) true u)) ]
+le-of a b t = elim (or-cases (ltb a b) (eqb a b && true) t) [ inl u ↦ Nat.le-of-lt (ltb→lt a b u) | inr u ↦ le-of-eq (eqb→eq a b (and-l (eqb a b) true u)) ]
 
 of-le : (a b : ℕ) → a ≤ b → T (ltb a b || (eqb a b && true))
 of-le a b h = go (ltb a b) (nltb→le a b)
@@ -33,7 +35,7 @@ of-le a b h = go (ltb a b) (nltb→le a b)
     go false k = and-i (eqb a b) true (eq→eqb (same a b h (k tt))) tt
 
 ge-of : (a b : ℕ) → T (ltb b a || (eqb a b && true)) → b ≤ a
-ge-of a b t = elim (or-cases (ltb b a) (eqb a b && true) t) [ inl u ↦ le-of-lt (ltb→lt b a u) | inr u ↦ le-of-eq (sym (eqb→eq a b (and-l (eqb a b) true u))) ]
+ge-of a b t = elim (or-cases (ltb b a) (eqb a b && true) t) [ inl u ↦ Nat.le-of-lt (ltb→lt b a u) | inr u ↦ le-of-eq (sym (eqb→eq a b (and-l (eqb a b) true u))) ]
 
 of-ge : (a b : ℕ) → b ≤ a → T (ltb b a || (eqb a b && true))
 of-ge a b h = go (ltb b a) (nltb→le b a)
@@ -150,7 +152,7 @@ le-total x y p q = go (leb a b) (leb→le a b) (nleb→lt a b)
 
     go : (t : Bool) → (T t → a ≤ b) → (T (not t) → b < a) → (x ≼ y) ⊎ (y ≼ x)
     go true h k = inl (below→le x y p q (h tt))
-    go false h k = inr (below→le y x q p (le-of-lt (k tt)))
+    go false h k = inr (below→le y x q p (Nat.le-of-lt (k tt)))
 
 pub le-of-not-le : (x y : Float) → Finite x → Finite y → T (not (le x y)) → y ≼ x
 le-of-not-le x y p q h = elim (le-total x y p q) [ inl t ↦ absurd (T-not (le x y) h t) | inr t ↦ t ]
@@ -171,7 +173,11 @@ eq→le (fin false m e) (fin true n d) p q h = below→le (fin true n d) (fin fa
 eq→le (fin true m e) (fin false n d) p q h =
     below→le (fin false n d) (fin true m e) tt tt (omega (arith, none-of (m * up e * down d) (n * up d * down e) h))
 
-pub lt-or-le : (x y : Float) → Finite x → Finite y → T (lt x y) ⊎ (y ≼ x)
+pub le-of-lt : (x y : Float) → T (lt x y) → x ≼ y
+unfolding le
+le-of-lt x y h = rw (is-true (lt x y) h) tt
+
+lt-or-le : (x y : Float) → Finite x → Finite y → T (lt x y) ⊎ (y ≼ x)
 unfolding le
 lt-or-le x y p q =
     elim (le-total x y p q) [

@@ -7,7 +7,7 @@ use Rattle.double.specs.rules.Sign.{isFinite}
 use Rattle.double.specs.rules.Order.{Finite}
 use Rattle.quantity.specs.declared.Rad.{Rad}
 use Rattle.quantity.specs.rules.Answer.{answered}
-use Rattle.quantity.specs.laws.Accepted.{lower-none, answered-unless, number-accepted, past-accepted}
+use Rattle.elementary.specs.laws.Accepted.{lower-none, answered-unless, number-accepted, past-accepted}
 use Rattle.quantity.specs.rules.Refusal.{past, numberRefusal, steepest}
 use Rattle.elementary.specs.rules.Sine.{farthestAlone, aloneRefusal, sineOf, cosineOf, tangentOf, sineRule, cosineRule, tangentRefusal, tangentRule}
 use Rattle.elementary.specs.rules.Arctangent.{arctangentIn, arctangentRefusal, arctangentRule}
