@@ -1,0 +1,4 @@
+-- What the laws are proved by, and no promise mentions. Definitions only.
+pub mod Fraction
+pub mod Range
+pub mod Grid
