@@ -1,8 +1,10 @@
 -- What a law of a rule says of answers: of the functions as of the rules, and of refused calls. Assumes nothing.
 use Prim.Native.Nat.{ℕ}
-use mathlib.Core.Path.{_≡_, refl, ap, sym, _∙_}
+use mathlib.Core.Path.{_≡_, ap, sym, _∙_}
+use native.Mathlib.Omega.{arith}
 use lib.Ieee.{Float}
 use Rattle.quantity.specs.declared.One.{One}
+use Rattle.quantity.specs.declared.One.the-variants.{Is}
 use Rattle.quantity.specs.declared.Two.{Two}
 use Rattle.quantity.specs.declared.Three.{Three}
 use Rattle.quantity.specs.declared.Degrees.{Degrees}
@@ -34,6 +36,16 @@ one-radians = unique shownRadians shown-radians-loses-nothing
 pub one-point : {a : Answer EqPoint} (r s : Point) → shownPoint r ≡ a → shownPoint s ≡ a → r ≡ s
 one-point = unique shownPoint shown-point-loses-nothing
 
+-- ---- an answer in code is its rule's
+
+pub answered-by : {a : Answer Float} {r : One} {v : Float} → shown r ≡ a → r ≡ Is v → a ≡ answered v
+answered-by p e = sym p ∙ ap shown e
+
+pub refused-not-answered : {A : Type 0} {n : ℕ} {v : A} → refused n ≡ answered v → ⊥
+refused-not-answered e =
+    let z : _≡_ {A = ℕ} 0 1 = cc in
+    absurd (omega arith)
+
 -- ---- two calls whose rules answer a and b, where b is a with its number changed by f
 
 module _ (f : Float → Float) {a b : Answer Float} (law : b ≡ with f a) where
@@ -41,7 +53,7 @@ module _ (f : Float → Float) {a b : Answer Float} (law : b ≡ with f a) where
   pub mirrored : (r s : One) → shown r ≡ a → shown s ≡ b → shown s ≡ with f (shown r)
   mirrored r s p q = carried shown (with f) r s p q law
 
-  -- and refused calls refuse alike
+  -- refused calls refuse alike
   pub refused-there : (n : ℕ) → a ≡ refused n → b ≡ refused n
   refused-there n e = law ∙ ap (with f) e
 
@@ -51,3 +63,7 @@ module _ (f : Float → Float) {a b : Answer Float} (law : b ≡ with f a) where
       by-case : (a : Answer Float) → with f a ≡ refused n → a ≡ refused n
       by-case (answered x) e = cc
       by-case (refused m) e = e
+
+-- two calls whose rules answer alike answer alike
+pub unchanged : {a b : Answer Float} → b ≡ a → (r s : One) → shown r ≡ a → shown s ≡ b → s ≡ r
+unchanged law r s p q = one-answer s r (q ∙ law) p
