@@ -14,12 +14,11 @@ use Rattle.quantity.specs.rules.Answer.{answered}
 use Rattle.quantity.specs.rules.Refusal.{angleRefusal, latitudeRefusal, steepRefusal}
 use Rattle.elementary.specs.rules.Sine.{sineOf}
 use Rattle.elementary.specs.rules.Arctangent.{arctangentIn}
-use Rattle.elementary.specs.laws.Accepted.{answered-unless, steep-accepted}
-use Rattle.elementary.specs.laws.Sine.{sine-between, cosine-between, tangent-between}
+use Rattle.elementary.specs.laws.Accepted.{answered-unless}
 use Rattle.elementary.specs.laws.Arctangent.{arctangent-in-sign, arctangent-in-finite, arctangent-in-at-most-half, arctangent-in-at-least-half, arctangent-in-at-most-pi}
 use Rattle.coords.specs.rules.Arguments.{steepSkyRefusal}
 use Rattle.coords.specs.rules.Horizon.{southward, azimuthIn, azFrmEqRule}
-use Rattle.conditions.specs.laws.Accepted.{none-of-three, angle-far, latitude-far}
+use Rattle.conditions.specs.laws.Accepted.{none-of-three, angle-sine, angle-cosine, latitude-sine, latitude-cosine, steep-tangent}
 
 -- ---- both arguments of the arctangent are finite
 
@@ -27,16 +26,15 @@ module _ (h d p : Rad) (none : steepSkyRefusal h d p ≡ 0) where
   pub westward-finite : Finite (sineOf h)
   westward-finite =
       let n = none-of-three (angleRefusal h) (steepRefusal d) (latitudeRefusal p) none in
-      sine-between h (angle-far h (n .0)) .finite
+      angle-sine h (n .0) .finite
 
   pub southward-finite : Finite (southward h d p)
   unfolding isFinite le neg add sub mul ofBits round
   southward-finite =
       let n = none-of-three (angleRefusal h) (steepRefusal d) (latitudeRefusal p) none in
-      let H = known (cosine-between h (angle-far h (n .0))) in
-      let D = known (tangent-between d (steep-accepted d (n .1))) in
-      let P = latitude-far p (n .2) in
-      bounded binary64 (neg (over 32768 1)) (over 32768 1) (H ⊠ known (sine-between p P) ⊟ D ⊠ known (cosine-between p P)) tt .finite
+      bounded binary64 (neg (over 32768 1)) (over 32768 1)
+      (known (angle-cosine h (n .0)) ⊠ known (latitude-sine p (n .2)) ⊟ known (steep-tangent d (n .1)) ⊠ known (latitude-cosine p (n .2))) tt
+      .finite
 
 -- ---- on every answered call
 

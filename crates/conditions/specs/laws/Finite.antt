@@ -15,13 +15,13 @@ use Rattle.double.specs.laws.Interval.{bounded}
 use Rattle.quantity.specs.declared.Rad.{Rad}
 use Rattle.quantity.specs.rules.Angle.{PI, HALF}
 use Rattle.quantity.specs.rules.Answer.{Answer, answered, refused, unless, with, addedTo, takenFrom}
-use Rattle.quantity.specs.rules.Refusal.{farthest, angleRefusal, latitudeRefusal, steepRefusal}
+use Rattle.quantity.specs.rules.Refusal.{angleRefusal, latitudeRefusal, steepRefusal}
 use Rattle.elementary.specs.rules.Fold.{fold}
 use Rattle.elementary.specs.rules.Sine.{sineOf, cosineOf, tangentOf, farthestAlone}
 use Rattle.elementary.specs.rules.Arctangent.{arctangentIn}
 use Rattle.elementary.specs.rules.Arcsine.{arcsineIn}
-use Rattle.elementary.specs.laws.Accepted.{lower-none, answered-unless, angle-accepted, steep-accepted}
-use Rattle.elementary.specs.laws.Sine.{sine-between, cosine-between, tangent-between}
+use Rattle.elementary.specs.laws.Accepted.{lower-none, answered-unless}
+use Rattle.elementary.specs.laws.Sine.{sine-between, cosine-between}
 use Rattle.elementary.specs.laws.Arctangent.{arctangent-in-finite, arctangent-in-at-most-pi}
 use Rattle.elementary.specs.laws.Arcsine.{arcsine-at-most-half}
 use Rattle.helpers.specs.rules.Angle.{radiansOf}
@@ -31,7 +31,7 @@ use Rattle.coords.specs.rules.Ecliptic.{eclLongSum, eclLongIn, eclLongFrmEqRule
 use Rattle.coords.specs.rules.Horizon.{azFrmEqRule, upward, altitudeIn, altFrmEqRule, hrAnglFrmHzIn, hrAnglFrmHzRule, decFrmHzIn, decFrmHzRule}
 use Rattle.coords.specs.rules.Galactic.{poleLong, poleAsc, poleDec, northLong, southAsc, roundPole, fromNode, galLongIn, galLongFrmEqRule, galLatIn, galLatFrmEqRule, fromCentre, ascFrmGalIn, ascFrmGalRule}
 use Rattle.conditions.specs.laws.Answers.{refused-not-answered}
-use Rattle.conditions.specs.laws.Accepted.{none-of-three, angle-far, latitude-far}
+use Rattle.conditions.specs.laws.Accepted.{none-of-three, angle-between, angle-sine, angle-cosine, latitude-sine, latitude-cosine, steep-tangent}
 use Rattle.conditions.specs.laws.Azimuth.{azimuth-finite}
 
 -- ---- sums of what was not refused
@@ -43,27 +43,6 @@ wide = over 32768 1
 -- an expression whose range is up to that in size
 small : (e : Expr) → T (inside (neg wide) wide (range binary64 e)) → Finite (value binary64 e)
 small e t = bounded binary64 (neg wide) wide e t .finite
-
-module _ (x : Rad) where
-  module _ (none : angleRefusal x ≡ 0) where
-    abbrev angle : Expr
-    angle = known (size→between farthest (x .0) (unfold isFinite ofBits in tt) (angle-accepted x none))
-
-    abbrev sineA : Expr
-    sineA = known (sine-between x (angle-far x none))
-
-    abbrev cosineA : Expr
-    cosineA = known (cosine-between x (angle-far x none))
-
-  module _ (none : latitudeRefusal x ≡ 0) where
-    abbrev sineL : Expr
-    sineL = known (sine-between x (latitude-far x none))
-
-    abbrev cosineL : Expr
-    cosineL = known (cosine-between x (latitude-far x none))
-
-  abbrev tangentS : steepRefusal x ≡ 0 → Expr
-  tangentS none = known (tangent-between x (steep-accepted x none))
 
 -- ---- the two shapes of the work
 
@@ -97,7 +76,7 @@ hr-angl-frm-observer-long-finite g l a v answer =
     of-sum (observerLongRefusal g l a) (hrAnglFrmObserverLong g l a .0) v answer
     (λ none.
     let n = none-of-three (angleRefusal g) (angleRefusal l) (angleRefusal a) none in
-    small ((angle g (n .0) ⊟ angle l (n .1)) ⊟ angle a (n .2)) tt)
+    small ((known (angle-between g (n .0)) ⊟ known (angle-between l (n .1))) ⊟ known (angle-between a (n .2))) tt)
 
 pub hr-angl-frm-loc-sidr-finite : (s a : Rad) (v : Float) → hrAnglFrmLocSidrRule s a ≡ answered v → Finite v
 unfolding isFinite le neg add sub ofBits round
@@ -105,7 +84,7 @@ hr-angl-frm-loc-sidr-finite s a v answer =
     of-sum (locSidrRefusal s a) (s .0 ⊖ a .0) v answer
     (λ none.
     let n = lower-none (angleRefusal s) (angleRefusal a) none in
-    small (angle s (n .0) ⊟ angle a (n .1)) tt)
+    small (known (angle-between s (n .0)) ⊟ known (angle-between a (n .1))) tt)
 
 -- ---- equatorial and ecliptic
 
@@ -115,7 +94,7 @@ ecl-long-frm-eq-finite a d e v answer =
     of-arctangent (steepFrameRefusal a d e) (eclLongSum a d e) (cosineOf a) v answer
     (λ none.
     let n = none-of-three (angleRefusal a) (steepRefusal d) (angleRefusal e) none in
-    (small (sineA a (n .0) ⊠ cosineA e (n .2) ⊞ tangentS d (n .1) ⊠ sineA e (n .2)) tt, small (cosineA a (n .0)) tt))
+    (small (known (angle-sine a (n .0)) ⊠ known (angle-cosine e (n .2)) ⊞ known (steep-tangent d (n .1)) ⊠ known (angle-sine e (n .2))) tt, small (known (angle-cosine a (n .0))) tt))
 
 pub ecl-lat-frm-eq-at-most-quarter-turn : (a d e : Rad) (v : Float) → eclLatFrmEqRule a d e ≡ answered v → size v ≼ HALF
 unfolding eclLatIn isFinite le neg add sub mul ofBits round
@@ -123,7 +102,7 @@ ecl-lat-frm-eq-at-most-quarter-turn a d e v answer =
     of-arcsine (frameRefusal a d e) (eclLatSum a d e) v answer
     (λ none.
     let n = none-of-three (angleRefusal a) (latitudeRefusal d) (angleRefusal e) none in
-    small (sineL d (n .1) ⊠ cosineA e (n .2) ⊟ cosineL d (n .1) ⊠ sineA e (n .2) ⊠ sineA a (n .0)) tt)
+    small (known (latitude-sine d (n .1)) ⊠ known (angle-cosine e (n .2)) ⊟ known (latitude-cosine d (n .1)) ⊠ known (angle-sine e (n .2)) ⊠ known (angle-sine a (n .0))) tt)
 
 pub ecl-lat-frm-eq-finite : (a d e : Rad) (v : Float) → eclLatFrmEqRule a d e ≡ answered v → Finite v
 ecl-lat-frm-eq-finite a d e v answer = finite-of-quarter-turn v (ecl-lat-frm-eq-at-most-quarter-turn a d e v answer)
@@ -134,7 +113,7 @@ asc-frm-ecl-finite l b e v answer =
     of-arctangent (steepFrameRefusal l b e) (sineOf l ⊗ cosineOf e ⊖ tangentOf b ⊗ sineOf e) (cosineOf l) v answer
     (λ none.
     let n = none-of-three (angleRefusal l) (steepRefusal b) (angleRefusal e) none in
-    (small (sineA l (n .0) ⊠ cosineA e (n .2) ⊟ tangentS b (n .1) ⊠ sineA e (n .2)) tt, small (cosineA l (n .0)) tt))
+    (small (known (angle-sine l (n .0)) ⊠ known (angle-cosine e (n .2)) ⊟ known (steep-tangent b (n .1)) ⊠ known (angle-sine e (n .2))) tt, small (known (angle-cosine l (n .0))) tt))
 
 pub dec-frm-ecl-at-most-quarter-turn : (l b e : Rad) (v : Float) → decFrmEclRule l b e ≡ answered v → size v ≼ HALF
 unfolding decFrmEclIn isFinite le neg add sub mul ofBits round
@@ -142,7 +121,7 @@ dec-frm-ecl-at-most-quarter-turn l b e v answer =
     of-arcsine (frameRefusal l b e) (sineOf b ⊗ cosineOf e ⊕ cosineOf b ⊗ sineOf e ⊗ sineOf l) v answer
     (λ none.
     let n = none-of-three (angleRefusal l) (latitudeRefusal b) (angleRefusal e) none in
-    small (sineL b (n .1) ⊠ cosineA e (n .2) ⊞ cosineL b (n .1) ⊠ sineA e (n .2) ⊠ sineA l (n .0)) tt)
+    small (known (latitude-sine b (n .1)) ⊠ known (angle-cosine e (n .2)) ⊞ known (latitude-cosine b (n .1)) ⊠ known (angle-sine e (n .2)) ⊠ known (angle-sine l (n .0))) tt)
 
 pub dec-frm-ecl-finite : (l b e : Rad) (v : Float) → decFrmEclRule l b e ≡ answered v → Finite v
 dec-frm-ecl-finite l b e v answer = finite-of-quarter-turn v (dec-frm-ecl-at-most-quarter-turn l b e v answer)
@@ -158,7 +137,7 @@ alt-frm-eq-at-most-quarter-turn h d p v answer =
     of-arcsine (skyRefusal h d p) (upward h d p) v answer
     (λ none.
     let n = none-of-three (angleRefusal h) (latitudeRefusal d) (latitudeRefusal p) none in
-    small (sineL p (n .2) ⊠ sineL d (n .1) ⊞ (cosineL p (n .2) ⊠ cosineL d (n .1)) ⊠ cosineA h (n .0)) tt)
+    small (known (latitude-sine p (n .2)) ⊠ known (latitude-sine d (n .1)) ⊞ (known (latitude-cosine p (n .2)) ⊠ known (latitude-cosine d (n .1))) ⊠ known (angle-cosine h (n .0))) tt)
 
 pub alt-frm-eq-finite : (h d p : Rad) (v : Float) → altFrmEqRule h d p ≡ answered v → Finite v
 alt-frm-eq-finite h d p v answer = finite-of-quarter-turn v (alt-frm-eq-at-most-quarter-turn h d p v answer)
@@ -169,7 +148,7 @@ hr-angl-frm-hz-finite z a p v answer =
     of-arctangent (steepSkyRefusal z a p) (sineOf z) (cosineOf z ⊗ sineOf p ⊕ tangentOf a ⊗ cosineOf p) v answer
     (λ none.
     let n = none-of-three (angleRefusal z) (steepRefusal a) (latitudeRefusal p) none in
-    (small (sineA z (n .0)) tt, small (cosineA z (n .0) ⊠ sineL p (n .2) ⊞ tangentS a (n .1) ⊠ cosineL p (n .2)) tt))
+    (small (known (angle-sine z (n .0))) tt, small (known (angle-cosine z (n .0)) ⊠ known (latitude-sine p (n .2)) ⊞ known (steep-tangent a (n .1)) ⊠ known (latitude-cosine p (n .2))) tt))
 
 pub dec-frm-hz-at-most-quarter-turn : (z a p : Rad) (v : Float) → decFrmHzRule z a p ≡ answered v → size v ≼ HALF
 unfolding decFrmHzIn isFinite le neg add sub mul ofBits round
@@ -177,7 +156,7 @@ dec-frm-hz-at-most-quarter-turn z a p v answer =
     of-arcsine (skyRefusal z a p) (sineOf p ⊗ sineOf a ⊖ cosineOf p ⊗ cosineOf z ⊗ cosineOf z) v answer
     (λ none.
     let n = none-of-three (angleRefusal z) (latitudeRefusal a) (latitudeRefusal p) none in
-    small (sineL p (n .2) ⊠ sineL a (n .1) ⊟ cosineL p (n .2) ⊠ cosineA z (n .0) ⊠ cosineA z (n .0)) tt)
+    small (known (latitude-sine p (n .2)) ⊠ known (latitude-sine a (n .1)) ⊟ known (latitude-cosine p (n .2)) ⊠ known (angle-cosine z (n .0)) ⊠ known (angle-cosine z (n .0))) tt)
 
 pub dec-frm-hz-finite : (z a p : Rad) (v : Float) → decFrmHzRule z a p ≡ answered v → Finite v
 dec-frm-hz-finite z a p v answer = finite-of-quarter-turn v (dec-frm-hz-at-most-quarter-turn z a p v answer)
@@ -197,14 +176,14 @@ node-near : (a : Rad) → angleRefusal a ≡ 0 → size (radiansOf poleAsc .0 �
 unfolding isFinite le neg add sub mul ofBits round
 node-near a none =
     near (record { 0 = radiansOf poleAsc .0 ⊖ a .0 })
-    (bounded binary64 (neg (over 128 1)) (over 128 1) (con (radiansOf poleAsc .0) ⊟ angle a none) tt)
+    (bounded binary64 (neg (over 128 1)) (over 128 1) (con (radiansOf poleAsc .0) ⊟ known (angle-between a none)) tt)
 
 -- l less 123 degrees
 centre-near : (l : Rad) → angleRefusal l ≡ 0 → size (l .0 ⊖ radiansOf northLong .0) ≼ farthestAlone
 unfolding isFinite le neg add sub mul ofBits round
 centre-near l none =
     near (record { 0 = l .0 ⊖ radiansOf northLong .0 })
-    (bounded binary64 (neg (over 128 1)) (over 128 1) (angle l none ⊟ con (radiansOf northLong .0)) tt)
+    (bounded binary64 (neg (over 128 1)) (over 128 1) (known (angle-between l none) ⊟ con (radiansOf northLong .0)) tt)
 
 -- an angle at the pole is half a turn at most
 round-pole-between : (n d : Rad) (w : Float) → roundPole (fold n) (fold d) ≡ answered w → size (n .0) ≼ farthestAlone → steepRefusal d ≡ 0 → Between (neg PI) PI w
@@ -212,7 +191,7 @@ unfolding roundPole isFinite le neg add sub mul ofBits round
 round-pole-between n d w answer N none =
     let y = known (sine-between n N) in
     let p = radiansOf poleDec in
-    let x = known (sine-between p pole-near) ⊠ known (cosine-between n N) ⊟ known (cosine-between p pole-near) ⊠ tangentS d none in
+    let x = known (sine-between p pole-near) ⊠ known (cosine-between n N) ⊟ known (cosine-between p pole-near) ⊠ known (steep-tangent d none) in
     size→between PI w tt
     (arctangent-in-at-most-pi (sineOf n) (sineOf p ⊗ cosineOf n ⊖ cosineOf p ⊗ tangentOf d) w answer (small y tt) (small x tt))
 
@@ -251,8 +230,8 @@ gal-lat-frm-eq-at-most-quarter-turn a d v answer =
     (λ none.
     let n = lower-none (angleRefusal a) (latitudeRefusal d) none in
     small
-    (sineL d (n .1) ⊠ known (sine-between p pole-near)
-    ⊞ cosineL d (n .1) ⊠ known (cosine-between p pole-near) ⊠ known (cosine-between m (node-near a (n .0)))) tt)
+    (known (latitude-sine d (n .1)) ⊠ known (sine-between p pole-near)
+    ⊞ known (latitude-cosine d (n .1)) ⊠ known (cosine-between p pole-near) ⊠ known (cosine-between m (node-near a (n .0)))) tt)
 
 pub gal-lat-frm-eq-finite : (a d : Rad) (v : Float) → galLatFrmEqRule a d ≡ answered v → Finite v
 gal-lat-frm-eq-finite a d v answer = finite-of-quarter-turn v (gal-lat-frm-eq-at-most-quarter-turn a d v answer)

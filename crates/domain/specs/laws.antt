@@ -1,0 +1,2 @@
+-- What holds on the stated domain. Theorems only.
+pub mod Outcome

@@ -1,0 +1,2 @@
+-- Definitions that the laws need and no rule does.
+pub mod Outcome
