@@ -1,2 +1,4 @@
--- Definitions that the laws need and no rule does.
+-- What the theorems are stated by. Definitions only.
 pub mod Outcome
+pub mod Within
+pub mod Turns

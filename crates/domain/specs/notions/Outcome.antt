@@ -1,7 +1,8 @@
--- What is known of an answer: P of the values, or Q of the refusal number.
+-- What is known of an answer: P of the values that it has, and Q of the number that it is refused by.
 use Prim.Native.Nat.{ℕ}
+use mathlib.Core.Path.{_≡_}
 use Rattle.quantity.specs.rules.Answer.{Answer, answered, refused}
 
-abbrev pub Outcome : {A : Type 0} → (A → Type 0) → (ℕ → Type 0) → Answer A → Type 0
-Outcome P Q (answered x) = P x
-Outcome P Q (refused n) = Q n
+pub record Outcome {A : Type 0} (P : A → Type 0) (Q : ℕ → Type 0) (a : Answer A) : Type 0 where
+  pub answers : (v : A) → a ≡ answered v → P v
+  pub refuses : (n : ℕ) → a ≡ refused n → Q n
