@@ -23,8 +23,8 @@ use Rattle.precess.specs.rules.Days.{spanOf, daysRefusal, placeRefusal}
 use Rattle.precess.specs.rules.Equatorial.{eqXi, eqZeta, eqTheta, turnsOf, eqTurnsOf, placed, turnedIn, precessEqCoordsRule}
 use Rattle.precess.specs.rules.Fk4.{fk4Century, fk4Span, fk4Xi, fk4Zeta, fk4Theta, degreesAsRadians, fk4TurnsOf, precessEqCoordsFK5Rule}
 use Rattle.conditions.specs.laws.Accepted.{angle-between, latitude-sine, latitude-cosine}
-use Rattle.domain.specs.notions.Outcome.{Outcome}
-use Rattle.domain.specs.notions.Within.{Within}
+use Rattle.domain.specs.notions.Outcome.{Outcome, Seven}
+use Rattle.domain.specs.notions.Within.{Within, IsPlace, BothFinite}
 use Rattle.domain.specs.notions.Turns.{EqTurnsNear}
 use Rattle.domain.specs.laws.Outcome.{outcome-with, outcome-both, rule-answers, rule-refuses}
 use Rattle.domain.specs.laws.Functions.{arctangent-outcome, arcsine-outcome}
@@ -113,3 +113,71 @@ module _ (day1 day2 : Float) (none : daysRefusal day1 day2 ≡ 0) where
 
   pub fk4-theta-far : size (fk4Theta (fk4Century day1) (fk4Span day1 day2) .0) ≼ farthestAlone
   fk4-theta-far = near-far (fk4Theta (fk4Century day1) (fk4Span day1 day2) .0) (fk4-theta-within (fk4Century day1) (fk4Span day1 day2) F R)
+
+-- ---- a place after the turns
+
+module _ (asc dec : Rad) (turns : EqTurns) (A : angleRefusal asc ≡ 0) (D : latitudeRefusal dec ≡ 0) (N : EqTurnsNear turns) where
+  -- the right ascension with xi added goes into a sine
+  turned-within : Within 2048 (asc .0 ⊕ turns .xi)
+  unfolding isFinite le neg add ofBits round
+  turned-within = within 2048 (known (angle-between asc A) ⊞ known (N .xi)) tt
+
+  pub turned-far : size (asc .0 ⊕ turns .xi) ≼ farthestAlone
+  turned-far = near-far (asc .0 ⊕ turns .xi) turned-within
+
+  pub turned-outcome : Outcome IsPlace Seven (turnedIn asc dec turns)
+  unfolding turnedIn placed plus isFinite le neg add sub mul ofBits round
+  turned-outcome =
+      let a : Rad = record { 0 = asc .0 ⊕ turns .xi } in
+      let sa = known (near-sine a turned-within) in
+      let ca = known (near-cosine a turned-within) in
+      let sd = known (latitude-sine dec D) in
+      let cd = known (latitude-cosine dec D) in
+      let y = cosineOf dec ⊗ sineOf a in
+      let x = turns .cosine ⊗ cosineOf dec ⊗ cosineOf a ⊖ turns .sine ⊗ sineOf dec in
+      let s = turns .sine ⊗ cosineOf dec ⊗ cosineOf a ⊕ turns .cosine ⊗ sineOf dec in
+      outcome-both {P = Within 2048} (plus (arctangentIn y x) (turns .zeta)) (arcsineIn s)
+      (outcome-with (λ (v : Float). v ⊕ turns .zeta) (λ v i. within 2048 (known i ⊞ known (N .zeta)) tt) (arctangentIn y x)
+      (arctangent-outcome y x (within 2 (cd ⊠ sa) tt .finite) (within 4 (known (N .cosine) ⊠ cd ⊠ ca ⊟ known (N .sine) ⊠ sd) tt .finite)))
+      (arcsine-outcome refl s (within 4 (known (N .sine) ⊠ cd ⊠ ca ⊞ known (N .cosine) ⊠ sd) tt .finite))
+
+-- ---- the two functions
+
+module _ (asc dec : Rad) (day1 day2 : Float) where
+  accepted : placeRefusal asc dec day1 day2 ≡ 0 → (angleRefusal asc ≡ 0) × (latitudeRefusal dec ≡ 0) × (daysRefusal day1 day2 ≡ 0)
+  accepted e =
+      let n = lower-none (lower (angleRefusal asc) (latitudeRefusal dec)) (daysRefusal day1 day2) e in
+      let m = lower-none (angleRefusal asc) (latitudeRefusal dec) (n .0) in
+      (m .0, m .1, n .1)
+
+  eq-outcome : placeRefusal asc dec day1 day2 ≡ 0 → Outcome IsPlace Seven (turnedIn asc dec (eqTurnsOf day1 day2))
+  eq-outcome e =
+      let n = accepted e in
+      turned-outcome asc dec (eqTurnsOf day1 day2) (n .0) (n .1) (eq-turns-near day1 day2 (n .2))
+
+  fk4-outcome : placeRefusal asc dec day1 day2 ≡ 0 → Outcome IsPlace Seven (turnedIn asc dec (fk4TurnsOf day1 day2))
+  fk4-outcome e =
+      let n = accepted e in
+      turned-outcome asc dec (fk4TurnsOf day1 day2) (n .0) (n .1) (fk4-turns-near day1 day2 (n .2))
+
+  pub precess-eq-coords-answers : (p : Pair) → precessEqCoordsRule asc dec day1 day2 ≡ answered p → IsPlace p
+  precess-eq-coords-answers = rule-answers (placeRefusal asc dec day1 day2) (turnedIn asc dec (eqTurnsOf day1 day2)) eq-outcome
+
+  pub precess-eq-coords-finite : (p : Pair) → precessEqCoordsRule asc dec day1 day2 ≡ answered p → BothFinite p
+  precess-eq-coords-finite p e =
+      let i = precess-eq-coords-answers p e in
+      (i .0 .finite, i .1 .finite)
+
+  pub precess-eq-coords-refuses : placeRefusal asc dec day1 day2 ≡ 0 → (n : ℕ) → precessEqCoordsRule asc dec day1 day2 ≡ refused n → n ≡ 7
+  precess-eq-coords-refuses = rule-refuses (placeRefusal asc dec day1 day2) (turnedIn asc dec (eqTurnsOf day1 day2)) eq-outcome
+
+  pub precess-eq-coords-fk5-answers : (p : Pair) → precessEqCoordsFK5Rule asc dec day1 day2 ≡ answered p → IsPlace p
+  precess-eq-coords-fk5-answers = rule-answers (placeRefusal asc dec day1 day2) (turnedIn asc dec (fk4TurnsOf day1 day2)) fk4-outcome
+
+  pub precess-eq-coords-fk5-finite : (p : Pair) → precessEqCoordsFK5Rule asc dec day1 day2 ≡ answered p → BothFinite p
+  precess-eq-coords-fk5-finite p e =
+      let i = precess-eq-coords-fk5-answers p e in
+      (i .0 .finite, i .1 .finite)
+
+  pub precess-eq-coords-fk5-refuses : placeRefusal asc dec day1 day2 ≡ 0 → (n : ℕ) → precessEqCoordsFK5Rule asc dec day1 day2 ≡ refused n → n ≡ 7
+  precess-eq-coords-fk5-refuses = rule-refuses (placeRefusal asc dec day1 day2) (turnedIn asc dec (fk4TurnsOf day1 day2)) fk4-outcome

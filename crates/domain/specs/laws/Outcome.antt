@@ -30,6 +30,9 @@ module _ {A : Type 0} {P : A → Type 0} {Q : ℕ → Type 0} where
   outcome-cond true a a' o h = o
   outcome-cond false a a' o h = h tt
 
+pub outcome-wider : {A : Type 0} {P R : A → Type 0} {Q : ℕ → Type 0} → ((x : A) → P x → R x) → {a : Answer A} → Outcome P Q a → Outcome R Q a
+outcome-wider h o = record { answers = λ v e. h v (o .answers v e); refuses = o .refuses }
+
 -- ---- through the work
 
 module _ {A B : Type 0} {P : A → Type 0} {R : B → Type 0} {Q : ℕ → Type 0} where

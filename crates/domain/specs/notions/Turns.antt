@@ -16,5 +16,5 @@ pub record EclTurnsNear (turns : EclTurns) : Type 0 where
   pub nu : Within 1024 (turns .nu)
   pub sine : Between (neg one) one (turns .sine)
   pub cosine : Between (neg one) one (turns .cosine)
-  pub pi : Within 1024 (turns .pi)
-  pub rho : Within 1024 (turns .rho)
+  pub pi : Within 512 (turns .pi)
+  pub rho : Within 512 (turns .rho)
