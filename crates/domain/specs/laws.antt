@@ -1,6 +1,8 @@
 -- What holds on the stated domain. Theorems only.
 pub mod Outcome
 pub mod Functions
-pub mod Days
 pub mod Near
+pub mod Days
+pub mod Annual
 pub mod Equatorial
+pub mod Ecliptic

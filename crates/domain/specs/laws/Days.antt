@@ -12,11 +12,12 @@ use Rattle.double.specs.laws.Order.{le-refl, le-trans, le-total}
 use Rattle.double.specs.laws.Between.{between, size→between}
 use Rattle.double.specs.laws.Monotone.{sub-mono}
 use Rattle.double.specs.laws.Interval.{bounded}
-use Rattle.quantity.specs.rules.Refusal.{epoch, daysAround, dayRefusal}
+use Rattle.quantity.specs.declared.Rad.{Rad}
+use Rattle.quantity.specs.rules.Refusal.{lower, epoch, daysAround, dayRefusal, angleRefusal, latitudeRefusal}
 use Rattle.elementary.specs.laws.Accepted.{lower-none, day-accepted}
 use Rattle.helpers.specs.rules.Time.{daysOfCentury, centuryOf}
 use Rattle.precess.specs.rules.Numbers.{n36525, n2415020·3135, n36524·2199}
-use Rattle.precess.specs.rules.Days.{spanOf, daysRefusal}
+use Rattle.precess.specs.rules.Days.{spanOf, daysRefusal, placeRefusal}
 use Rattle.precess.specs.rules.Fk4.{fk4Century, fk4Span}
 use Rattle.domain.specs.notions.Within.{Within}
 
@@ -87,3 +88,10 @@ module _ (day1 day2 : Float) (none : daysRefusal day1 day2 ≡ 0) where
   unfolding isFinite le neg add sub div ofBits round
   fk4-span-within =
       bounded binary64 (neg (over 41 1)) (over 41 1) ((known (day-between day2 second-accepted) ⊟ known (day-between day1 first-accepted)) ⧄ con n36524·2199) tt
+
+-- a place with two days
+pub place-accepted : (long lat : Rad) (day1 day2 : Float) → placeRefusal long lat day1 day2 ≡ 0 → (angleRefusal long ≡ 0) × (latitudeRefusal lat ≡ 0) × (daysRefusal day1 day2 ≡ 0)
+place-accepted long lat day1 day2 e =
+    let n = lower-none (lower (angleRefusal long) (latitudeRefusal lat)) (daysRefusal day1 day2) e in
+    let m = lower-none (angleRefusal long) (latitudeRefusal lat) (n .0) in
+    (m .0, m .1, n .1)

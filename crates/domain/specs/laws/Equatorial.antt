@@ -29,7 +29,7 @@ use Rattle.domain.specs.notions.Turns.{EqTurnsNear}
 use Rattle.domain.specs.laws.Outcome.{outcome-with, outcome-both, rule-answers, rule-refuses}
 use Rattle.domain.specs.laws.Functions.{arctangent-outcome, arcsine-outcome}
 use Rattle.domain.specs.laws.Near.{within, near-far, near-sine, near-cosine}
-use Rattle.domain.specs.laws.Days.{century-within, span-within, fk4-century-within, fk4-span-within, first-accepted}
+use Rattle.domain.specs.laws.Days.{century-within, span-within, fk4-century-within, fk4-span-within, first-accepted, place-accepted}
 
 -- ---- the angles that two days fix
 
@@ -144,20 +144,14 @@ module _ (asc dec : Rad) (turns : EqTurns) (A : angleRefusal asc ≡ 0) (D : lat
 -- ---- the two functions
 
 module _ (asc dec : Rad) (day1 day2 : Float) where
-  accepted : placeRefusal asc dec day1 day2 ≡ 0 → (angleRefusal asc ≡ 0) × (latitudeRefusal dec ≡ 0) × (daysRefusal day1 day2 ≡ 0)
-  accepted e =
-      let n = lower-none (lower (angleRefusal asc) (latitudeRefusal dec)) (daysRefusal day1 day2) e in
-      let m = lower-none (angleRefusal asc) (latitudeRefusal dec) (n .0) in
-      (m .0, m .1, n .1)
-
   eq-outcome : placeRefusal asc dec day1 day2 ≡ 0 → Outcome IsPlace Seven (turnedIn asc dec (eqTurnsOf day1 day2))
   eq-outcome e =
-      let n = accepted e in
+      let n = place-accepted asc dec day1 day2 e in
       turned-outcome asc dec (eqTurnsOf day1 day2) (n .0) (n .1) (eq-turns-near day1 day2 (n .2))
 
   fk4-outcome : placeRefusal asc dec day1 day2 ≡ 0 → Outcome IsPlace Seven (turnedIn asc dec (fk4TurnsOf day1 day2))
   fk4-outcome e =
-      let n = accepted e in
+      let n = place-accepted asc dec day1 day2 e in
       turned-outcome asc dec (fk4TurnsOf day1 day2) (n .0) (n .1) (fk4-turns-near day1 day2 (n .2))
 
   pub precess-eq-coords-answers : (p : Pair) → precessEqCoordsRule asc dec day1 day2 ≡ answered p → IsPlace p
