@@ -6,3 +6,4 @@ pub mod Days
 pub mod Annual
 pub mod Equatorial
 pub mod Ecliptic
+pub mod Orbit
