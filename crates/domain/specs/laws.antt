@@ -7,3 +7,5 @@ pub mod Annual
 pub mod Equatorial
 pub mod Ecliptic
 pub mod Orbit
+pub mod Earth
+pub mod Horizontal

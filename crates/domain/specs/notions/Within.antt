@@ -18,3 +18,6 @@ BothFinite p = Finite (first p) × Finite (second p)
 
 abbrev pub AllFinite : Triple → Type 0
 AllFinite (triple x y z) = Finite x × Finite y × Finite z
+
+abbrev pub BothWithinTwo : Pair → Type 0
+BothWithinTwo p = Within 2 (first p) × Within 2 (second p)
