@@ -9,3 +9,6 @@ pub mod Ecliptic
 pub mod Orbit
 pub mod Earth
 pub mod Horizontal
+pub mod Observer
+pub mod TopocentEq
+pub mod TopopcentEcl

@@ -3,6 +3,7 @@ use Prim.Native.Nat.{ℕ}
 use lib.Ieee.{Float, neg}
 use Rattle.double.specs.rules.Order.{Finite, Between}
 use Rattle.double.specs.rules.Table.{over}
+use Rattle.quantity.specs.declared.EqPoint.{EqPoint}
 use Rattle.quantity.specs.rules.Angle.{HALF}
 use Rattle.quantity.specs.rules.Answer.{Pair, first, second, Triple, triple}
 
@@ -21,3 +22,6 @@ AllFinite (triple x y z) = Finite x × Finite y × Finite z
 
 abbrev pub BothWithinTwo : Pair → Type 0
 BothWithinTwo p = Within 2 (first p) × Within 2 (second p)
+
+abbrev pub PointFinite : EqPoint → Type 0
+PointFinite p = Finite (p .asc) × Finite (p .dec)
