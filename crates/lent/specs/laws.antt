@@ -1,0 +1,3 @@
+-- What is proved of writing into a lent slice, for callers to cite. Theorems only.
+pub mod Writing
+pub mod Rows

@@ -1,0 +1,2 @@
+-- What a reader must believe of writing into a lent slice. Definitions only.
+pub mod Writing
