@@ -5,14 +5,12 @@ use Prim.Native.Nat.{ℕ, zero, suc, _+_, _*_, _/_, _%_, _≤_, _<_}
 use native.Mathlib.Omega.{arith}
 use lib.ListN.{length, drop, length-drop, length-append}
 use lib.Seq.{drop-at, getD-drop}
+use Rattle.lent.specs.rules.Rows.{upto}
+use Rattle.lent.specs.laws.Upto.{upto-same}
 use Rattle.list.specs.rules.Record.{width, starAt, starBytes, Fitting}
-use Rattle.list.specs.rules.Stars.{countOf, upto, stars, listBytes, AllFitting, Bytes}
+use Rattle.list.specs.rules.Stars.{countOf, stars, listBytes, AllFitting, Bytes}
 use Rattle.list.specs.laws.Record.{length-star, star-back, star-fits, record-here, star-drop}
 use Rattle.list.specs.declared.Star.{Star}
-
-upto-same : {A : Type 0} (n : ℕ) (f g : ℕ → A) → ((i : ℕ) → f i ≡ g i) → upto n f ≡ upto n g
-upto-same zero f g h = refl
-upto-same (suc n) f g h = λ i. h zero i ∷ upto-same n (λ (k : ℕ). f (suc k)) (λ (k : ℕ). g (suc k)) (λ (k : ℕ). h (suc k)) i
 
 -- the first star, and those of what is left
 pub stars-cons : (s : List ℕ) → width ≤ length s → stars s ≡ starAt s 0 ∷ stars (drop width s)

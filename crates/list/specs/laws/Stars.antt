@@ -2,16 +2,16 @@
 use mathlib.Core.Path.{_≡_, refl, sym, ap, _∙_}
 use mathlib.Core.Bool.{Bool, true, false, _&&_}
 use mathlib.Core.List.{List, [], _∷_, _++_}
-use Prim.Native.Nat.{ℕ, zero, suc, _+_, _*_, _/_, _%_, _≤_, _<_}
-use native.Mathlib.Nat.{le-of-suc-le-suc, not-suc-le-zero}
+use Prim.Native.Nat.{ℕ, _+_, _*_, _/_, _%_, _≤_, _<_}
 use native.Mathlib.Numerals.{add-one}
 use native.Mathlib.Omega.{arith}
 use lib.Dec.{leb, eqb}
 use lib.ListN.{length, getD, drop, take, List·getD-eq-default}
 use lib.Seq.{drop-cons, take-suc, take-length}
 use borrow.Author.Tests.{leb-true, eqb-true}
+use Rattle.lent.specs.laws.Upto.{length-upto, getD-upto}
 use Rattle.list.specs.rules.Record.{width, starAt}
-use Rattle.list.specs.rules.Stars.{mostStars, isList, countOf, upto, stars, nought, nth}
+use Rattle.list.specs.rules.Stars.{mostStars, isList, countOf, stars, nought, nth}
 use Rattle.list.specs.declared.Star.{Star}
 
 both : (a b : Bool) → (a && b) ≡ true → (a ≡ true) × (b ≡ true)
@@ -24,15 +24,6 @@ unfolding isList
 whole s h =
     let p = both (leb (length s) (width * mostStars)) (eqb (length s % width) 0) h in
     (leb-true (length s) (width * mostStars) (p .0), eqb-true (length s % width) 0 (p .1))
-
-length-upto : {A : Type 0} (n : ℕ) (f : ℕ → A) → length (upto n f) ≡ n
-length-upto zero f = refl
-length-upto (suc n) f = ap suc (length-upto n (λ (i : ℕ). f (suc i)))
-
-getD-upto : {A : Type 0} (n : ℕ) (f : ℕ → A) (i : ℕ) (d : A) → i < n → getD (upto n f) i d ≡ f i
-getD-upto zero f i d h = absurd (not-suc-le-zero h)
-getD-upto (suc n) f zero d h = refl
-getD-upto (suc n) f (suc i) d h = getD-upto n (λ (k : ℕ). f (suc k)) i d (le-of-suc-le-suc h)
 
 module _ (s : List ℕ) where
   pub length-stars : length (stars s) ≡ countOf s

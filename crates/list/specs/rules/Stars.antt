@@ -1,10 +1,11 @@
 -- A stored list as the list of its stars: star i is the record at the i-th place.
-use Prim.Native.Nat.{ℕ, zero, suc, _*_, _/_, _%_, _<_}
+use Prim.Native.Nat.{ℕ, _*_, _/_, _%_, _<_}
 use mathlib.Core.Bool.{Bool, _&&_}
 use mathlib.Core.List.{List, [], _∷_, _++_}
 use lib.Dec.{eqb, leb}
 use lib.IntN.{pos}
 use lib.ListN.{length, getD}
+use Rattle.lent.specs.rules.Rows.{upto}
 use Rattle.list.specs.rules.Record.{width, starAt, starBytes, Fitting}
 use Rattle.list.specs.declared.Star.{Star}
 
@@ -18,11 +19,6 @@ isList s = leb (length s) (width * mostStars) && eqb (length s % width) 0
 
 unfoldable pub countOf : List ℕ → ℕ
 countOf s = length s / width
-
--- f 0, f 1, .. , n of them
-abbrev pub upto : {A : Type 0} → ℕ → (ℕ → A) → List A
-upto zero f = []
-upto (suc n) f = f zero ∷ upto n (λ (i : ℕ). f (suc i))
 
 -- every star of the list, in range or not
 unfoldable pub stars : List ℕ → List Star
