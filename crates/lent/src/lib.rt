@@ -16,6 +16,13 @@ pub fn put_byte(out: &mut [u8], at: usize, b: u8) -> usize
     out.len()
 }
 
+// The lower of a place and a slice's end: where a text would begin.
+pub fn within(at: usize, end: usize) -> usize
+    ensures { λ r. ⌜ r ≡ min at end ⌝ }
+{
+    if at < end { at } else { end }
+}
+
 // All of src from the place on, and the place after it.
 pub fn put(out: &mut [u8], at: usize, src: &[u8]) -> usize
     ensures { λ r. ⌜ Wrote (now (out .entry)) at (now (src .entry)) (now (out .exit)) r ⌝ }
@@ -27,11 +34,4 @@ pub fn put(out: &mut [u8], at: usize, src: &[u8]) -> usize
         i += 1;
     }
     place
-}
-
-// The lower of a place and a slice's end.
-fn within(at: usize, end: usize) -> usize
-    ensures { λ r. ⌜ r ≡ min at end ⌝ }
-{
-    if at < end { at } else { end }
 }
