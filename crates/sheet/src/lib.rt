@@ -2,11 +2,13 @@
 // Rules: specs/rules, in reading order in specs/rules.antt.
 ghost use mathlib.Core.Path.{_≡_};
 ghost use mathlib.Core.Bool.{cond};
+ghost use Prim.Native.Nat.{_≤_};
+ghost use lib.ListN.{length};
 ghost use Rattle.lent.specs.rules.Writing.{Wrote};
 ghost use Rattle.list.specs.rules.Record.{inRange};
 ghost use Rattle.list.specs.rules.Stars.{stars};
 ghost use Rattle.sheet.specs.rules.Sheet.{line, lines, goods, heading, footing, sheetOf};
-ghost use Rattle.sheet.specs.rules.Render.{shownWritten, renderRule, rendered};
+ghost use Rattle.sheet.specs.rules.Render.{shownWritten, bytesOf, renderRule, rendered};
 use list::Star;
 
 // How many bytes were written, or a refusal.
@@ -101,6 +103,7 @@ fn put_sheet(out: &mut [u8], bytes: &[u8]) -> usize
 pub fn render(bytes: &[u8], out: &mut [u8]) -> Written
     ensures { λ r. ⌜ shownWritten r ≡ renderRule (now (bytes .entry)) (now (out .entry)) ⌝ }
     ensures text { λ _. ⌜ now (out .exit) ≡ rendered (now (bytes .entry)) (now (out .entry)) ⌝ }
+    ensures within { λ r. ⌜ bytesOf r ≤ length (now (out .exit)) ⌝ }
 {
     if out.len() < ROOM {
         return Written::Refused(8);

@@ -15,6 +15,11 @@ abbrev pub shownWritten : Written → Answer ℕ
 shownWritten (Bytes n) = answered n
 shownWritten (Refused n) = refused n
 
+-- the same as a number: 0 of a refusal
+abbrev pub bytesOf : Written → ℕ
+bytesOf (Bytes n) = n
+bytesOf (Refused n) = 0
+
 -- forty bytes a star, and sixty more
 abbrev pub room : ℕ
 room = 60 + 40 * mostStars
