@@ -1,17 +1,17 @@
 -- `list::find` meets its contract: at each return the tests that led there say which case of the rule holds. Assumes nothing.
 use borrow.Author.Tests.{lt-ltb, le-ltb, not-true, not-false}
 use mathlib.Core.Path.{_≡_, sym, ap, _∙_}
-use mathlib.Core.Bool.{Bool, true, false, cond}
+use mathlib.Core.Bool.{Bool, true, cond}
 use mathlib.Core.List.{List}
 use Prim.Native.Nat.{ℕ, _≤_, _<_}
 use native.Mathlib.Omega.{arith}
 use lib.IntN.{ℤ}
 use Rattle.double.specs.laws.Calls.{asks-nothing}
-use Rattle.quantity.specs.rules.Answer.{Answer, answered, refused}
+use Rattle.quantity.specs.rules.Answer.{answered, refused}
 use Rattle.signed.specs.laws.Signed.{signed-word}
-use Rattle.list.specs.rules.Record.{inRange}
 use Rattle.list.specs.rules.Stars.{isList, stars, countOf, nth}
-use Rattle.list.specs.rules.Find.{Entry, indexOf, entry, findRule}
+use Rattle.list.specs.laws.Stars.{length-stars}
+use Rattle.list.specs.rules.Find.{indexOf, entry, findRule}
 use Rattle.list.specs.declared.Star.{Star}
 use Rattle.list.proofs.find.Statement.{statement}
 use Rattle.list.proofs.find.Tie as tie
@@ -19,10 +19,10 @@ use Rattle.list.proofs.find.Tie as tie
 -- the index that was found, past the end and before it
 module _ (s : List ℕ) (number i : ℕ) (t : isList s ≡ true) (e : i ≡ indexOf number (stars s)) where
   absent : countOf s ≤ i → refused 10 ≡ findRule s number
-  absent h = rw (t, ← e, le-ltb i (countOf s) h)
+  absent h = rw (t, ← e, length-stars s, le-ltb i (countOf s) h)
 
   present : i < countOf s → (r : Star) → r ≡ nth s i → entry i r ≡ findRule s number
-  present h r f = rw (t, ← e, lt-ltb i (countOf s) h) (ap (entry i) f)
+  present h r f = rw (t, ← e, length-stars s, lt-ltb i (countOf s) h) (ap (entry i) f)
 
 returns : tie.Need-returns
 returns c = simp (sym (c .before .is-list .ensures) ∙ not-true _ (c .if1 .taken))

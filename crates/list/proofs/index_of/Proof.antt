@@ -1,13 +1,13 @@
 -- `list::index_of` meets its contract: what is found in the stars that are left, i after the first, is what is found. Assumes nothing.
 use borrow.Author.Needs.{needs}
 use borrow.Author.Tests.{eq-eqb, ne-eqb}
-use mathlib.Core.Path.{_≡_, refl, sym, ap, _∙_}
+use mathlib.Core.Path.{_≡_, sym, ap, _∙_}
 use mathlib.Core.Bool.{Bool, true, false, cond}
-use mathlib.Core.List.{List, [], _∷_}
+use mathlib.Core.List.{List}
 use Prim.Native.Nat.{ℕ, suc, _+_, _-_, _≤_, _<_}
 use native.Mathlib.Omega.{arith}
 use lib.Dec.{eqb}
-use lib.ListN.{length, drop, drop-of-length-le}
+use lib.ListN.{drop, drop-of-length-le}
 use Rattle.double.specs.laws.Calls.{asks-nothing}
 use Rattle.list.specs.rules.Stars.{stars, countOf, nth}
 use Rattle.list.specs.rules.Find.{indexOf}

@@ -1,15 +1,15 @@
 -- The reader shows star i at the i-th record's start, and none at the end. Assumes nothing.
-use mathlib.Core.Path.{_≡_, sym, ap, _∙_}
+use mathlib.Core.Path.{_≡_, sym, ap}
 use mathlib.Core.Bool.{true}
 use mathlib.Core.List.{List}
-use Prim.Native.Nat.{ℕ, _+_, _*_, _/_, _%_, _≤_, _<_}
+use Prim.Native.Nat.{ℕ, _+_, _*_, _/_, _%_, _<_}
 use native.Mathlib.Omega.{arith}
 use lib.ListN.{length}
 use borrow.Author.Tests.{lt-ltb, le-ltb, le-leb, eq-eqb}
 use Rattle.quantity.specs.rules.Answer.{answered}
-use Rattle.list.specs.rules.Record.{width, starAt}
+use Rattle.list.specs.rules.Record.{width}
 use Rattle.list.specs.rules.Stars.{isList, countOf, nth}
-use Rattle.list.specs.rules.Reader.{Sight, sight, none, isPlace, readRule}
+use Rattle.list.specs.rules.Reader.{sight, none, isPlace, readRule}
 use Rattle.list.specs.laws.Stars.{whole, nth-is, inside}
 use Rattle.list.specs.declared.Star.{Star}
 

@@ -7,7 +7,7 @@ use lib.ListN.{length, drop, length-drop, length-append}
 use lib.Seq.{drop-at, getD-drop}
 use Rattle.lent.specs.rules.Rows.{upto}
 use Rattle.lent.specs.laws.Upto.{upto-same}
-use Rattle.list.specs.rules.Record.{width, starAt, starBytes, Fitting}
+use Rattle.list.specs.rules.Record.{width, starAt, starBytes}
 use Rattle.list.specs.rules.Stars.{countOf, stars, listBytes, AllFitting, Bytes}
 use Rattle.list.specs.laws.Record.{length-star, star-back, star-fits, record-here, star-drop}
 use Rattle.list.specs.declared.Star.{Star}

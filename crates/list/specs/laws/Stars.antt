@@ -2,17 +2,16 @@
 use mathlib.Core.Path.{_≡_, refl, sym, ap, _∙_}
 use mathlib.Core.Bool.{Bool, true, false, _&&_}
 use mathlib.Core.List.{List, [], _∷_, _++_}
-use Prim.Native.Nat.{ℕ, _+_, _*_, _/_, _%_, _≤_, _<_}
+use Prim.Native.Nat.{ℕ, _+_, _*_, _%_, _≤_, _<_}
 use native.Mathlib.Numerals.{add-one}
 use native.Mathlib.Omega.{arith}
 use lib.Dec.{leb, eqb}
-use lib.ListN.{length, getD, drop, take, List·getD-eq-default}
+use lib.ListN.{length, drop, take, List·getD-eq-default}
 use lib.Seq.{drop-cons, take-suc, take-length}
 use borrow.Author.Tests.{leb-true, eqb-true}
 use Rattle.lent.specs.laws.Upto.{length-upto, getD-upto}
 use Rattle.list.specs.rules.Record.{width, starAt}
 use Rattle.list.specs.rules.Stars.{mostStars, isList, countOf, stars, nought, nth}
-use Rattle.list.specs.declared.Star.{Star}
 
 both : (a b : Bool) → (a && b) ≡ true → (a ≡ true) × (b ≡ true)
 both true b h = (refl, h)

@@ -4,10 +4,10 @@ use mathlib.Core.Bool.{cond}
 use mathlib.Core.List.{List, [], _∷_}
 use lib.Dec.{eqb, ltb}
 use lib.IntN.{ℤ}
-use lib.ListN.{length}
+use lib.ListN.{length, getD}
 use Rattle.quantity.specs.rules.Answer.{Answer, answered, refused}
 use Rattle.list.specs.rules.Record.{inRange}
-use Rattle.list.specs.rules.Stars.{isList, countOf, stars, nth}
+use Rattle.list.specs.rules.Stars.{isList, stars, nought}
 use Rattle.list.specs.declared.Star.{Star}
 use Rattle.list.specs.declared.Found.{Found}
 use Rattle.list.specs.declared.Found.the-variants.{At, Refused}
@@ -31,8 +31,8 @@ indexOf number (r ∷ rs) = cond (eqb (r .number) number) 0 (suc (indexOf number
 abbrev pub entry : ℕ → Star → Answer Entry
 entry i r = cond (inRange r) (answered (record { index = i; asc = r .asc; dec = r .dec })) (refused 9)
 
-abbrev pub entryAt : List ℕ → ℕ → Answer Entry
-entryAt s i = cond (ltb i (countOf s)) (entry i (nth s i)) (refused 10)
+abbrev pub entryAt : List Star → ℕ → Answer Entry
+entryAt rs i = cond (ltb i (length rs)) (entry i (getD rs i nought)) (refused 10)
 
 abbrev pub findRule : List ℕ → ℕ → Answer Entry
-findRule s number = cond (isList s) (entryAt s (indexOf number (stars s))) (refused 8)
+findRule s number = cond (isList s) (entryAt (stars s) (indexOf number (stars s))) (refused 8)

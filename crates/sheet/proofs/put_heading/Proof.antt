@@ -1,7 +1,6 @@
 -- `sheet::put_heading` meets its contract. Assumes nothing.
 use borrow.Author.Needs.{needs}
 use Rattle.double.specs.laws.Calls.{asks-nothing}
-use mathlib.Core.Path.{refl}
 use mathlib.Core.List.{append-assoc}
 use Rattle.lent.specs.laws.Writing.{after, same}
 use Rattle.sheet.specs.rules.Sheet.{heading}

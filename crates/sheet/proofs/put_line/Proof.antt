@@ -2,8 +2,7 @@
 use borrow.Author.Needs.{needs}
 use mathlib.Core.Path.{_≡_, sym, ap, _∙_}
 use mathlib.Core.Bool.{true, false}
-use mathlib.Core.List.{List, _++_, append-assoc}
-use Prim.Native.Nat.{ℕ}
+use mathlib.Core.List.{_++_, append-assoc}
 use lib.IntN.{ℤ}
 use Rattle.double.specs.laws.Calls.{asks-nothing}
 use Rattle.signed.specs.laws.Signed.{signed-word}

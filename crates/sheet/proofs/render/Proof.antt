@@ -1,8 +1,8 @@
 -- `sheet::render` meets its contract. Assumes nothing.
 use borrow.Author.Needs.{needs}
-use mathlib.Core.Path.{_≡_, sym, ap, _∙_}
+use mathlib.Core.Path.{_≡_, ap, _∙_}
 use mathlib.Core.List.{List, _++_}
-use Prim.Native.Nat.{ℕ, _+_, _≤_, min}
+use Prim.Native.Nat.{ℕ, _+_, _≤_}
 use native.Mathlib.Nat.{zero-add}
 use native.Mathlib.Omega.{arith}
 use lib.ListN.{length, drop}
@@ -11,7 +11,6 @@ use Rattle.double.specs.laws.Calls.{asks-nothing}
 use Rattle.quantity.specs.rules.Answer.{answered}
 use Rattle.lent.specs.rules.Writing.{Wrote}
 use Rattle.lent.specs.laws.Writing.{whole, kept}
-use Rattle.list.specs.rules.Stars.{Bytes}
 use Rattle.sheet.specs.rules.Sheet.{sheetOf}
 use Rattle.sheet.specs.rules.Render.{room}
 use Rattle.sheet.specs.laws.Room.{has-room}

@@ -1,20 +1,20 @@
 -- The sheet of any bytes has room in `room` bytes. Assumes nothing.
-use mathlib.Core.Path.{_≡_, refl, sym, ap, _∙_}
+use mathlib.Core.Path.{_≡_, refl}
 use mathlib.Core.Bool.{Bool, true, false, cond}
 use mathlib.Core.List.{List, [], _∷_, _++_}
-use Prim.Native.Nat.{ℕ, suc, _+_, _*_, _-_, _≤_, _<_}
+use Prim.Native.Nat.{ℕ, _+_, _*_, _-_, _≤_, _<_}
 use native.Mathlib.Omega.{arith}
 use lib.IntN.{ℤ, pos, negsuc, natAbs}
 use lib.ListN.{length, length-append}
 use Rattle.signed.specs.rules.Signed.{count}
 use Rattle.list.specs.rules.Record.{inRange, Fitting}
-use Rattle.list.specs.rules.Stars.{mostStars, isList, countOf, stars, AllFitting, Bytes}
+use Rattle.list.specs.rules.Stars.{isList, countOf, stars, AllFitting, Bytes}
 use Rattle.list.specs.laws.Stars.{whole, few, length-stars}
 use Rattle.list.specs.laws.RoundTrips.{bytes-back}
 use Rattle.list.specs.declared.Star.{Star}
 use Rattle.text.specs.rules.Number.{decimal, signedDecimal}
 use Rattle.text.specs.laws.Number.{decimal-short, signed-short}
-use Rattle.sheet.specs.rules.Sheet.{space, okEnd, badEnd, goodWord, badWord, lineEnd, starsWord, refusedLine, line, lines, goods, heading, footing, sheetOf}
+use Rattle.sheet.specs.rules.Sheet.{space, okEnd, badEnd, refusedLine, line, lines, goods, heading, footing, sheetOf}
 use Rattle.sheet.specs.rules.Render.{room}
 use Rattle.sheet.specs.laws.Sheet.{goods-most}
 

@@ -1,6 +1,6 @@
 -- `signed::word_of` meets its contract. Assumes nothing.
 use borrow.Author.Needs.{needs}
-use mathlib.Core.Path.{_≡_, sym, ap, _∙_}
+use mathlib.Core.Path.{sym, ap, _∙_}
 use Prim.Native.Nat.{ℕ, _-_}
 use mir.Syntax.{w32}
 use mir.Val.{toZ, ofZ}

@@ -1,15 +1,15 @@
 -- A signed number and its word say the same. Assumes nothing.
-use mathlib.Core.Path.{_≡_, refl, sym, ap, subst, _∙_}
+use mathlib.Core.Path.{_≡_, refl}
 use mathlib.Core.Bool.{Bool, true, false}
 use Prim.Native.Nat.{ℕ, suc, _-_, _<_}
 use native.Mathlib.Omega.{arith}
 use lib.Dec.{ltb}
-use lib.IntN.{ℤ, pos, negsuc, natAbs}
+use lib.IntN.{ℤ, pos, negsuc}
 use mir.Syntax.{w32}
 use mir.Val.{sel}
 use mir.Facts.{toZ-ofZ, ofZ-toZ}
 use borrow.Author.Tests.{ltb-true, ltb-false}
-use Rattle.signed.specs.rules.Signed.{negative, count, wordOf, signedOf, HasWord}
+use Rattle.signed.specs.rules.Signed.{wordOf, signedOf, HasWord}
 
 pub signed-word : (z : ℤ) → HasWord z → signedOf (wordOf z) ≡ z
 signed-word z h = toZ-ofZ {w = w32} (record { sfits = h })
