@@ -38,7 +38,7 @@ fn length_case(buffer: &[u8], n: usize) {
 
 fn place_case(bytes: &[u8], place: usize) {
     number(b"place ", place as u64);
-    match list::star_at(bytes, place) {
+    match reader::shown_at(bytes, place) {
         Shown::Next(star, next) => {
             number(b" star ", star.number as u64);
             number(b" ", star.asc as u64);

@@ -23,3 +23,10 @@ pub fn next<'a>(reader: Reader<'a>) -> Shown
 {
     list::star_at(reader.bytes, reader.place)
 }
+
+// What stands at a place of the bytes, through a reader. Whoever calls this one holds no reader.
+pub fn shown_at(bytes: &[u8], place: usize) -> Shown
+    ensures { λ r. ⌜ shownSight r ≡ readRule (now (bytes .entry)) place ⌝ }
+{
+    next(make(bytes, place))
+}
