@@ -37,6 +37,7 @@ pub const MOST_STARS: usize = 5000;
 
 const MOST_BYTES: usize = WIDTH * MOST_STARS;
 
+// A byte as a word.
 fn wide(x: u8) -> u32
     ensures { λ r. ⌜ (r ≡ x) × (r < 256) ⌝ }
 {

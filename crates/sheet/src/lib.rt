@@ -20,6 +20,7 @@ pub enum Written {
 // Bytes of the longest sheet, at most: forty a star, and sixty more.
 pub const ROOM: usize = 60 + 40 * list::MOST_STARS;
 
+// Each `put_` writes its text from the place on, and answers the place after it. This one: a star's line.
 fn put_line(out: &mut [u8], at: usize, star: Star) -> usize
     ensures { λ r. ⌜ Wrote (now (out .entry)) at (line star) (now (out .exit)) r ⌝ }
 {
@@ -34,6 +35,7 @@ fn put_line(out: &mut [u8], at: usize, star: Star) -> usize
     lent::put(out, a, b" bad\n")
 }
 
+// A line for each star.
 fn put_lines(out: &mut [u8], at: usize, bytes: &[u8]) -> usize
     ensures { λ r. ⌜ Wrote (now (out .entry)) at (lines (stars (now (bytes .entry)))) (now (out .exit)) r ⌝ }
 {
@@ -47,6 +49,7 @@ fn put_lines(out: &mut [u8], at: usize, bytes: &[u8]) -> usize
     place
 }
 
+// 1 for a star in range, and else 0.
 fn good(star: Star) -> usize
     ensures { λ r. ⌜ r ≡ cond (inRange star) 1 0 ⌝ }
 {
@@ -67,6 +70,7 @@ fn goods(bytes: &[u8]) -> usize
     sum
 }
 
+// How many stars there are.
 fn put_heading(out: &mut [u8], at: usize, n: usize) -> usize
     ensures { λ r. ⌜ Wrote (now (out .entry)) at (heading n) (now (out .exit)) r ⌝ }
 {
@@ -75,6 +79,7 @@ fn put_heading(out: &mut [u8], at: usize, n: usize) -> usize
     lent::put(out, b, b"\n")
 }
 
+// How many are good, and how many bad.
 fn put_footing(out: &mut [u8], at: usize, good: usize, bad: usize) -> usize
     ensures { λ r. ⌜ Wrote (now (out .entry)) at (footing good bad) (now (out .exit)) r ⌝ }
 {
@@ -85,6 +90,7 @@ fn put_footing(out: &mut [u8], at: usize, good: usize, bad: usize) -> usize
     lent::put(out, d, b"\n")
 }
 
+// The whole sheet, from the slice's start on.
 fn put_sheet(out: &mut [u8], bytes: &[u8]) -> usize
     ensures { λ r. ⌜ Wrote (now (out .entry)) 0 (sheetOf (now (bytes .entry))) (now (out .exit)) r ⌝ }
 {
