@@ -39,7 +39,8 @@ pub fn sol_aberr(dist: f64) -> One
 
 // ---- the arguments
 
-// The century t, and at it the eleven arguments in radians: the longitudes of the planets and of the Moon, and the Moon's D, M' and F.
+// The century t, and at it the eleven arguments in radians: the longitudes of Venus to Neptune (l2 to l8) and of the Moon (l1),
+// and the Moon's D, M' and F.
 struct Arguments {
     t: f64,
     l2: f64,
@@ -92,9 +93,9 @@ fn wave_of(x: Rad) -> Wave
     }
 }
 
-// ---- the rows: each adds its terms to the sums v
+// ---- the rows: each adds its terms to the sums so far, from the sine and cosine of its argument A
 
-// The Earth's velocity, in the unit in which light has 17314463350.
+// The Earth's velocity along the axes of J2000, in 10^-8 AU a day.
 pub struct Velocity {
     pub x: f64,
     pub y: f64,
@@ -507,7 +508,7 @@ pub fn velocity_on(day: f64) -> Velocity
 
 // ---- a star (Ron and Vondrák; Meeus, chapter 23)
 
-// The speed of light, in the unit of the rows.
+// The speed of light, in the unit of the velocity.
 const LIGHT: f64 = 17314463350.0;
 
 // Aberration of a direction under the Earth's velocity.

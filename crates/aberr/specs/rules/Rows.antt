@@ -1,4 +1,4 @@
--- The 36 rows in source order: each adds its terms to the sums v, from the sine and cosine of its argument.
+-- The 36 rows in source order: each adds its terms to the sums v so far, from the sine and cosine of its argument A, here a.
 -- Rows 19, 21 and 31 to 35 keep the crate's grouping.
 use lib.Ieee.{neg}
 use Rattle.double.specs.rules.Operations.{_⊕_, _⊖_, _⊗_}

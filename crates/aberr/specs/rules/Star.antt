@@ -12,7 +12,7 @@ use Rattle.aberr.specs.declared.Velocity.{Velocity}
 use Rattle.aberr.specs.rules.Numbers.{n17314463350}
 use Rattle.aberr.specs.rules.Velocity.{velocityOf}
 
--- the speed of light, in the unit of the rows
+-- the speed of light, in the unit of the velocity
 abbrev pub light : Float
 light = n17314463350
 

@@ -1,4 +1,4 @@
--- The Earth's velocity on a day: the sums over the 36 rows.
+-- The Earth's velocity on a day, along the axes of J2000, in 10^-8 AU a day: the sums over the 36 rows.
 use mathlib.Core.List.{List, [], _∷_}
 use lib.Ieee.{Float}
 use Rattle.double.specs.rules.Operations.{zero}
