@@ -60,8 +60,17 @@ pub extern "C" fn brundelak_julian_cent(day: f64, out: &mut f64) -> u8
 
 // The observer's place from the Earth's centre. Refusals: 1; 3; 4; 5.
 #[no_mangle]
-pub extern "C" fn brundelak_rho_sin_cos_phi(lat: f64, height: f64, first: &mut f64, second: &mut f64) -> u8
+pub extern "C" fn brundelak_rho_sin_cos_phi(
+    lat: f64,
+    height: f64,
+    first: &mut f64,
+    second: &mut f64,
+) -> u8
     ensures { λ n. ⌜ ToldTwo (rhoSinCosPhiRule (record { 0 = lat }) height) n (now (first .entry)) (now (second .entry)) (now (first .exit)) (now (second .exit)) ⌝ }
 {
-    give_two(helpers::earth::Earth::rho_sin_cos_phi(Rad(lat), height), first, second)
+    give_two(
+        helpers::earth::Earth::rho_sin_cos_phi(Rad(lat), height),
+        first,
+        second,
+    )
 }
