@@ -1,5 +1,5 @@
 // What leads from a catalogue place to a place on a day: precession, nutation, aberration and the chain.
-ghost use Rattle.brundelak.specs.rules.Boundary.{ToldThree, ToldTwo};
+ghost use Rattle.brundelak.specs.rules.Boundary.{Told, ToldThree, ToldTwo};
 ghost use Rattle.precess.specs.rules.Annual.{annualPrecessRule};
 ghost use Rattle.precess.specs.rules.Equatorial.{precessEqCoordsRule};
 ghost use Rattle.precess.specs.rules.Fk4.{precessEqCoordsFK5Rule};
@@ -7,6 +7,10 @@ ghost use Rattle.precess.specs.rules.Ecliptic.{precessEclCoordsRule};
 ghost use Rattle.precess.specs.rules.Orbit.{precessOrbElementsRule};
 ghost use Rattle.nutation.specs.rules.Sum.{nutationRule};
 ghost use Rattle.nutation.specs.rules.Point.{nutationInEqCoordsRule};
+ghost use Rattle.aberr.specs.rules.Sun.{solAberrRule};
+ghost use Rattle.aberr.specs.rules.Star.{stellAberrInEqCoordsRule};
+ghost use Rattle.chain.specs.rules.Chain.{chainRule};
+use crate::give::give;
 use crate::give::give_three;
 use crate::give::give_two;
 use quantity::EqPoint;
@@ -146,4 +150,45 @@ pub extern "C" fn brundelak_nutation_in_eq_coords(
         first,
         second,
     )
+}
+
+// Solar aberration at a distance. Refusals: 1; 5.
+#[no_mangle]
+pub extern "C" fn brundelak_sol_aberr(dist: f64, out: &mut f64) -> u8
+    ensures { λ n. ⌜ Told (solAberrRule dist) n (now (out .entry)) (now (out .exit)) ⌝ }
+{
+    give(aberr::sol_aberr(dist), out)
+}
+
+// Stellar aberration in right ascension and declination. Refusals: 1; 2; 3; 4.
+#[no_mangle]
+pub extern "C" fn brundelak_stell_aberr_in_eq_coords(
+    asc: f64,
+    dec: f64,
+    day: f64,
+    first: &mut f64,
+    second: &mut f64,
+) -> u8
+    ensures { λ n. ⌜ ToldTwo (stellAberrInEqCoordsRule (record { asc = asc; dec = dec }) day) n (now (first .entry)) (now (second .entry)) (now (first .exit)) (now (second .exit)) ⌝ }
+{
+    give_two(
+        aberr::stell_aberr_in_eq_coords(EqPoint { asc: asc, dec: dec }, day),
+        first,
+        second,
+    )
+}
+
+// A star's place from one day to another: precession, nutation, aberration. Refusals: 1; 2; 3; 7; 4.
+#[no_mangle]
+pub extern "C" fn brundelak_chain(
+    asc: f64,
+    dec: f64,
+    day1: f64,
+    day2: f64,
+    first: &mut f64,
+    second: &mut f64,
+) -> u8
+    ensures { λ n. ⌜ ToldTwo (chainRule (record { 0 = asc }) (record { 0 = dec }) day1 day2) n (now (first .entry)) (now (second .entry)) (now (first .exit)) (now (second .exit)) ⌝ }
+{
+    give_two(chain::chain(Rad(asc), Rad(dec), day1, day2), first, second)
 }

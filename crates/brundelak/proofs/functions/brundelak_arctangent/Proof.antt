@@ -1,22 +1,11 @@
-use borrow.Author.Needs.{needs}
+-- `brundelak::functions::brundelak_arctangent` meets its contract. Assumes nothing.
+use Rattle.double.specs.laws.Calls.{asks-nothing}
+use Rattle.brundelak.specs.laws.Boundary.{told}
 use Rattle.brundelak.proofs.functions.brundelak_arctangent.Statement.{statement}
 use Rattle.brundelak.proofs.functions.brundelak_arctangent.Tie as tie
-use Rattle.brundelak.proofs.functions.brundelak_arctangent.Reads as reads
-use Rattle.brundelak.proofs.functions.brundelak_arctangent.Lts as lts
-use Rattle.brundelak.proofs.give.give.Reads as give-reads
-use Rattle.elementary.proofs.arctangent.Reads as arctangent-reads
 
--- src/functions.rt:39:10
-arctangent-requires : tie.Need-arctangent-requires
-arctangent-requires c κs = search needs
-
--- src/functions.rt:39:5
-give-requires : tie.Need-give-requires
-give-requires c κs = search needs
-
--- src/functions.rt:35:1
 returns : tie.Need-returns
-returns c = ?
+returns c = told (c .before .before .arctangent .ensures) (c .give .ensures)
 
 pub brundelak-arctangent-spec : {M : Type 1} → statement M
-brundelak-arctangent-spec = tie.close (tie.spec arctangent-requires give-requires returns)
+brundelak-arctangent-spec = tie.close (tie.spec asks-nothing asks-nothing returns)

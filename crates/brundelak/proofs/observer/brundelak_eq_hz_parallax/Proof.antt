@@ -1,22 +1,11 @@
-use borrow.Author.Needs.{needs}
+-- `brundelak::observer::brundelak_eq_hz_parallax` meets its contract. Assumes nothing.
+use Rattle.double.specs.laws.Calls.{asks-nothing}
+use Rattle.brundelak.specs.laws.Boundary.{told}
 use Rattle.brundelak.proofs.observer.brundelak_eq_hz_parallax.Statement.{statement}
 use Rattle.brundelak.proofs.observer.brundelak_eq_hz_parallax.Tie as tie
-use Rattle.brundelak.proofs.observer.brundelak_eq_hz_parallax.Reads as reads
-use Rattle.brundelak.proofs.observer.brundelak_eq_hz_parallax.Lts as lts
-use Rattle.brundelak.proofs.give.give.Reads as give-reads
-use Rattle.parallax.proofs.eq_hz_parallax.Reads as eq-hz-parallax-reads
 
--- src/observer.rt:20:10
-eq-hz-parallax-requires : tie.Need-eq-hz-parallax-requires
-eq-hz-parallax-requires c κs = search needs
-
--- src/observer.rt:20:5
-give-requires : tie.Need-give-requires
-give-requires c κs = search needs
-
--- src/observer.rt:16:1
 returns : tie.Need-returns
-returns c = ?
+returns c = told (c .before .before .eq-hz-parallax .ensures) (c .give .ensures)
 
 pub brundelak-eq-hz-parallax-spec : {M : Type 1} → statement M
-brundelak-eq-hz-parallax-spec = tie.close (tie.spec eq-hz-parallax-requires give-requires returns)
+brundelak-eq-hz-parallax-spec = tie.close (tie.spec asks-nothing asks-nothing returns)

@@ -1,23 +1,11 @@
-use borrow.Author.Needs.{needs}
+-- `brundelak::reduction::brundelak_precess_orb_elements` meets its contract. Assumes nothing.
+use Rattle.double.specs.laws.Calls.{asks-nothing}
+use Rattle.brundelak.specs.laws.Boundary.{told-three}
 use Rattle.brundelak.proofs.reduction.brundelak_precess_orb_elements.Statement.{statement}
 use Rattle.brundelak.proofs.reduction.brundelak_precess_orb_elements.Tie as tie
-use Rattle.brundelak.proofs.reduction.brundelak_precess_orb_elements.Reads as reads
-use Rattle.brundelak.proofs.reduction.brundelak_precess_orb_elements.Lts as lts
-use Rattle.brundelak.proofs.give.give_three.Reads as give-three-reads
-use Rattle.precess.proofs.precess_orb_elements.Reads as precess-orb-elements-reads
 
--- src/reduction.rt:52:16
-precess-orb-elements-requires : tie.Need-precess-orb-elements-requires
-precess-orb-elements-requires c κs = search needs
-
--- src/reduction.rt:52:5
-give-three-requires : tie.Need-give-three-requires
-give-three-requires c κs = search needs
-
--- src/reduction.rt:48:1
 returns : tie.Need-returns
-returns c = ?
+returns c = told-three (c .before .before .before .before .precess-orb-elements .ensures) (c .give-three .ensures)
 
 pub brundelak-precess-orb-elements-spec : {M : Type 1} → statement M
-brundelak-precess-orb-elements-spec =
-    tie.close (tie.spec precess-orb-elements-requires give-three-requires returns)
+brundelak-precess-orb-elements-spec = tie.close (tie.spec asks-nothing asks-nothing returns)
