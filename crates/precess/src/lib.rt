@@ -34,7 +34,7 @@ pub fn days_refusal(day1: f64, day2: f64) -> u8
 }
 
 // Refusals of a longitude, a latitude and two days: 1; 2; 3.
-fn place_refusal(long: Rad, lat: Rad, day1: f64, day2: f64) -> u8
+pub fn place_refusal(long: Rad, lat: Rad, day1: f64, day2: f64) -> u8
     ensures { λ r. ⌜ r ≡ placeRefusal long lat day1 day2 ⌝ }
 {
     quantity::lower(

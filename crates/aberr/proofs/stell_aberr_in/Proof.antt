@@ -1,0 +1,12 @@
+-- `aberr::stell_aberr_in` meets its contract. Assumes nothing.
+use Rattle.double.specs.laws.Calls.{asks-nothing}
+use Rattle.aberr.specs.rules.Star.{stellAberrInEqCoordsIn}
+use Rattle.aberr.proofs.stell_aberr_in.Statement.{statement}
+use Rattle.aberr.proofs.stell_aberr_in.Tie as tie
+
+returns : tie.Need-returns
+unfolding stellAberrInEqCoordsIn
+returns c = cc
+
+pub stell-aberr-in-spec : {M : Type 1} → statement M
+stell-aberr-in-spec = tie.close (tie.spec asks-nothing asks-nothing asks-nothing returns)

@@ -1,0 +1,11 @@
+-- `brundelak::functions::brundelak_arcsine` meets its contract. Assumes nothing.
+use Rattle.double.specs.laws.Calls.{asks-nothing}
+use Rattle.brundelak.specs.laws.Boundary.{told}
+use Rattle.brundelak.proofs.functions.brundelak_arcsine.Statement.{statement}
+use Rattle.brundelak.proofs.functions.brundelak_arcsine.Tie as tie
+
+returns : tie.Need-returns
+returns c = told (c .before .before .arcsine .ensures) (c .give .ensures)
+
+pub brundelak-arcsine-spec : {M : Type 1} → statement M
+brundelak-arcsine-spec = tie.close (tie.spec asks-nothing asks-nothing returns)

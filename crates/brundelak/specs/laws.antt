@@ -1,0 +1,2 @@
+-- What is proved of the boundary. Theorems only.
+pub mod Boundary

@@ -1,0 +1,76 @@
+// The helpers of section 3.
+ghost use Rattle.brundelak.specs.rules.Boundary.{Told, ToldTwo, numberOfDegrees, numberOfRadians};
+ghost use Rattle.helpers.specs.rules.Angle.{degFrmDmsRule, degFrmHmsRule, toRadiansRule, limitTo360Rule, limitToTwoPIRule};
+ghost use Rattle.helpers.specs.rules.Time.{julianCentRule};
+ghost use Rattle.helpers.specs.rules.Earth.{rhoSinCosPhiRule};
+use crate::give::degrees_number;
+use crate::give::give;
+use crate::give::give_two;
+use crate::give::radians_number;
+use quantity::Deg;
+use quantity::Rad;
+
+// Seconds of arc to degrees. Refusals: 1.
+#[no_mangle]
+pub extern "C" fn brundelak_deg_frm_dms(seconds: f64, out: &mut f64) -> u8
+    ensures { λ n. ⌜ Told (numberOfDegrees (degFrmDmsRule seconds)) n (now (out .entry)) (now (out .exit)) ⌝ }
+{
+    give(degrees_number(helpers::angle::deg_frm_dms(seconds)), out)
+}
+
+// Seconds of time to degrees. Refusals: 1.
+#[no_mangle]
+pub extern "C" fn brundelak_deg_frm_hms(seconds: f64, out: &mut f64) -> u8
+    ensures { λ n. ⌜ Told (numberOfDegrees (degFrmHmsRule seconds)) n (now (out .entry)) (now (out .exit)) ⌝ }
+{
+    give(degrees_number(helpers::angle::deg_frm_hms(seconds)), out)
+}
+
+// Degrees to radians. Refusals: 1.
+#[no_mangle]
+pub extern "C" fn brundelak_to_radians(x: f64, out: &mut f64) -> u8
+    ensures { λ n. ⌜ Told (numberOfRadians (toRadiansRule (record { 0 = x }))) n (now (out .entry)) (now (out .exit)) ⌝ }
+{
+    give(radians_number(helpers::angle::to_radians(Deg(x))), out)
+}
+
+// Degrees folded into one turn. Refusals: 1.
+#[no_mangle]
+pub extern "C" fn brundelak_limit_to_360(x: f64, out: &mut f64) -> u8
+    ensures { λ n. ⌜ Told (numberOfDegrees (limitTo360Rule (record { 0 = x }))) n (now (out .entry)) (now (out .exit)) ⌝ }
+{
+    give(degrees_number(helpers::angle::limit_to_360(Deg(x))), out)
+}
+
+// Radians folded into one turn. Refusals: 1.
+#[no_mangle]
+pub extern "C" fn brundelak_limit_to_two_pi(x: f64, out: &mut f64) -> u8
+    ensures { λ n. ⌜ Told (numberOfRadians (limitToTwoPIRule (record { 0 = x }))) n (now (out .entry)) (now (out .exit)) ⌝ }
+{
+    give(radians_number(helpers::angle::limit_to_two_PI(Rad(x))), out)
+}
+
+// Centuries from 2451545.0 to a day. Refusals: 1; 2.
+#[no_mangle]
+pub extern "C" fn brundelak_julian_cent(day: f64, out: &mut f64) -> u8
+    ensures { λ n. ⌜ Told (julianCentRule day) n (now (out .entry)) (now (out .exit)) ⌝ }
+{
+    give(helpers::time::julian_cent(day), out)
+}
+
+// The observer's place from the Earth's centre. Refusals: 1; 3; 4; 5.
+#[no_mangle]
+pub extern "C" fn brundelak_rho_sin_cos_phi(
+    lat: f64,
+    height: f64,
+    first: &mut f64,
+    second: &mut f64,
+) -> u8
+    ensures { λ n. ⌜ ToldTwo (rhoSinCosPhiRule (record { 0 = lat }) height) n (now (first .entry)) (now (second .entry)) (now (first .exit)) (now (second .exit)) ⌝ }
+{
+    give_two(
+        helpers::earth::Earth::rho_sin_cos_phi(Rad(lat), height),
+        first,
+        second,
+    )
+}

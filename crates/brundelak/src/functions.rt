@@ -1,0 +1,56 @@
+// The elementary functions, and the root.
+ghost use Rattle.brundelak.specs.rules.Boundary.{Told};
+ghost use Rattle.elementary.specs.rules.Sine.{sineRule, cosineRule, tangentRule};
+ghost use Rattle.elementary.specs.rules.Arctangent.{arctangentRule};
+ghost use Rattle.elementary.specs.rules.Arcsine.{arcsineRule};
+ghost use Rattle.root.specs.rules.Root.{rootRule};
+use crate::give::give;
+use quantity::Rad;
+
+// The sine of an angle. Refusals: 1; 3 past 400000.0.
+#[no_mangle]
+pub extern "C" fn brundelak_sine(x: f64, out: &mut f64) -> u8
+    ensures { λ n. ⌜ Told (sineRule (record { 0 = x })) n (now (out .entry)) (now (out .exit)) ⌝ }
+{
+    give(elementary::sine(Rad(x)), out)
+}
+
+// The cosine of an angle. Refusals: 1; 3 past 400000.0.
+#[no_mangle]
+pub extern "C" fn brundelak_cosine(x: f64, out: &mut f64) -> u8
+    ensures { λ n. ⌜ Told (cosineRule (record { 0 = x })) n (now (out .entry)) (now (out .exit)) ⌝ }
+{
+    give(elementary::cosine(Rad(x)), out)
+}
+
+// The tangent of an angle. Refusals: 1; 3 past 400000.0; 4 past 1.57.
+#[no_mangle]
+pub extern "C" fn brundelak_tangent(x: f64, out: &mut f64) -> u8
+    ensures { λ n. ⌜ Told (tangentRule (record { 0 = x })) n (now (out .entry)) (now (out .exit)) ⌝ }
+{
+    give(elementary::tangent(Rad(x)), out)
+}
+
+// The arctangent of (y, x). Refusals: 1.
+#[no_mangle]
+pub extern "C" fn brundelak_arctangent(y: f64, x: f64, out: &mut f64) -> u8
+    ensures { λ n. ⌜ Told (arctangentRule y x) n (now (out .entry)) (now (out .exit)) ⌝ }
+{
+    give(elementary::arctangent(y, x), out)
+}
+
+// The arcsine of a number. Refusals: 1; 7 past 1.
+#[no_mangle]
+pub extern "C" fn brundelak_arcsine(s: f64, out: &mut f64) -> u8
+    ensures { λ n. ⌜ Told (arcsineRule s) n (now (out .entry)) (now (out .exit)) ⌝ }
+{
+    give(elementary::arcsine(s), out)
+}
+
+// The square root of a number. Refusals: 1; 5 below zero.
+#[no_mangle]
+pub extern "C" fn brundelak_root(x: f64, out: &mut f64) -> u8
+    ensures { λ n. ⌜ Told (rootRule x) n (now (out .entry)) (now (out .exit)) ⌝ }
+{
+    give(root::square_root(x), out)
+}

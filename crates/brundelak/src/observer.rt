@@ -1,0 +1,92 @@
+// What depends on the observer: parallax.
+ghost use Rattle.brundelak.specs.rules.Boundary.{Told, ToldThree, ToldTwo, numbersOfPoint};
+ghost use Rattle.parallax.specs.rules.Horizontal.{eqHzParallaxRule};
+ghost use Rattle.parallax.specs.rules.Equatorial.{topocentEqCoordsRule};
+ghost use Rattle.parallax.specs.rules.Ecliptic.{topopcentEclCoordsRule};
+use crate::give::give;
+use crate::give::give_three;
+use crate::give::give_two;
+use crate::give::point_numbers;
+use quantity::EclPoint;
+use quantity::EqPoint;
+use quantity::GeographPoint;
+use quantity::Rad;
+
+// Equatorial horizontal parallax at a distance. Refusals: 1; 5.
+#[no_mangle]
+pub extern "C" fn brundelak_eq_hz_parallax(dist: f64, out: &mut f64) -> u8
+    ensures { λ n. ⌜ Told (eqHzParallaxRule dist) n (now (out .entry)) (now (out .exit)) ⌝ }
+{
+    give(parallax::eq_hz_parallax(dist), out)
+}
+
+// Topocentric right ascension and declination. Refusals: 1; 3; 4; 5.
+#[no_mangle]
+pub extern "C" fn brundelak_topocent_eq_coords(
+    asc: f64,
+    dec: f64,
+    parallax: f64,
+    long: f64,
+    lat: f64,
+    height: f64,
+    sidereal: f64,
+    first: &mut f64,
+    second: &mut f64,
+) -> u8
+    ensures { λ n. ⌜ ToldTwo (numbersOfPoint (topocentEqCoordsRule (record { asc = asc; dec = dec }) (record { 0 = parallax }) (record { long = long; lat = lat }) height (record { 0 = sidereal }))) n (now (first .entry)) (now (second .entry)) (now (first .exit)) (now (second .exit)) ⌝ }
+{
+    give_two(
+        point_numbers(parallax::topocent_eq_coords(
+            EqPoint { asc: asc, dec: dec },
+            Rad(parallax),
+            GeographPoint {
+                long: long,
+                lat: lat,
+            },
+            height,
+            Rad(sidereal),
+        )),
+        first,
+        second,
+    )
+}
+
+// Topocentric ecliptic longitude, latitude and semidiameter. Refusals: 1; 3; 4; 5; 6; 7.
+#[no_mangle]
+pub extern "C" fn brundelak_topopcent_ecl_coords(
+    ecl_long: f64,
+    ecl_lat: f64,
+    parallax: f64,
+    long: f64,
+    lat: f64,
+    height: f64,
+    sidereal: f64,
+    oblq: f64,
+    semidiameter: f64,
+    first: &mut f64,
+    second: &mut f64,
+    third: &mut f64,
+) -> u8
+    ensures { λ n. ⌜ ToldThree (topopcentEclCoordsRule (record { long = «ecl_long»; lat = «ecl_lat» }) (record { 0 = parallax }) (record { long = long; lat = lat }) height (record { 0 = sidereal }) (record { 0 = oblq }) (record { 0 = semidiameter })) n (now (first .entry)) (now (second .entry)) (now (third .entry)) (now (first .exit)) (now (second .exit)) (now (third .exit)) ⌝ }
+{
+    give_three(
+        parallax::topopcent_ecl_coords(
+            EclPoint {
+                long: ecl_long,
+                lat: ecl_lat,
+            },
+            Rad(parallax),
+            GeographPoint {
+                long: long,
+                lat: lat,
+            },
+            height,
+            Rad(sidereal),
+            Rad(oblq),
+            Rad(semidiameter),
+        ),
+        first,
+        second,
+        third,
+    )
+}

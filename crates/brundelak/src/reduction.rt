@@ -1,0 +1,194 @@
+// What leads from a catalogue place to a place on a day: precession, nutation, aberration and the chain.
+ghost use Rattle.brundelak.specs.rules.Boundary.{Told, ToldThree, ToldTwo};
+ghost use Rattle.precess.specs.rules.Annual.{annualPrecessRule};
+ghost use Rattle.precess.specs.rules.Equatorial.{precessEqCoordsRule};
+ghost use Rattle.precess.specs.rules.Fk4.{precessEqCoordsFK5Rule};
+ghost use Rattle.precess.specs.rules.Ecliptic.{precessEclCoordsRule};
+ghost use Rattle.precess.specs.rules.Orbit.{precessOrbElementsRule};
+ghost use Rattle.nutation.specs.rules.Sum.{nutationRule};
+ghost use Rattle.nutation.specs.rules.Point.{nutationInEqCoordsRule};
+ghost use Rattle.aberr.specs.rules.Sun.{solAberrRule};
+ghost use Rattle.aberr.specs.rules.Star.{stellAberrInEqCoordsRule};
+ghost use Rattle.chain.specs.rules.Chain.{chainRule};
+use crate::give::give;
+use crate::give::give_three;
+use crate::give::give_two;
+use quantity::EqPoint;
+use quantity::Rad;
+
+// Annual precession. Refusals: 1; 2; 3; 4.
+#[no_mangle]
+pub extern "C" fn brundelak_annual_precess(
+    asc: f64,
+    dec: f64,
+    day: f64,
+    first: &mut f64,
+    second: &mut f64,
+) -> u8
+    ensures { λ n. ⌜ ToldTwo (annualPrecessRule (record { 0 = asc }) (record { 0 = dec }) day) n (now (first .entry)) (now (second .entry)) (now (first .exit)) (now (second .exit)) ⌝ }
+{
+    give_two(
+        precess::annual_precess(Rad(asc), Rad(dec), day),
+        first,
+        second,
+    )
+}
+
+// Equatorial coordinates from one day to another. Refusals: 1; 2; 3; 7.
+#[no_mangle]
+pub extern "C" fn brundelak_precess_eq_coords(
+    old_asc: f64,
+    old_dec: f64,
+    day1: f64,
+    day2: f64,
+    first: &mut f64,
+    second: &mut f64,
+) -> u8
+    ensures { λ n. ⌜ ToldTwo (precessEqCoordsRule (record { 0 = «old_asc» }) (record { 0 = «old_dec» }) day1 day2) n (now (first .entry)) (now (second .entry)) (now (first .exit)) (now (second .exit)) ⌝ }
+{
+    give_two(
+        precess::precess_eq_coords(Rad(old_asc), Rad(old_dec), day1, day2),
+        first,
+        second,
+    )
+}
+
+// Coordinates of the FK4 system from one day to another. Refusals: 1; 2; 3; 7.
+#[no_mangle]
+pub extern "C" fn brundelak_precess_eq_coords_fk5(
+    old_asc: f64,
+    old_dec: f64,
+    day1: f64,
+    day2: f64,
+    first: &mut f64,
+    second: &mut f64,
+) -> u8
+    ensures { λ n. ⌜ ToldTwo (precessEqCoordsFK5Rule (record { 0 = «old_asc» }) (record { 0 = «old_dec» }) day1 day2) n (now (first .entry)) (now (second .entry)) (now (first .exit)) (now (second .exit)) ⌝ }
+{
+    give_two(
+        precess::precess_eq_coords_FK5(Rad(old_asc), Rad(old_dec), day1, day2),
+        first,
+        second,
+    )
+}
+
+// Ecliptic coordinates from one day to another. Refusals: 1; 2; 3; 7.
+#[no_mangle]
+pub extern "C" fn brundelak_precess_ecl_coords(
+    old_long: f64,
+    old_lat: f64,
+    day1: f64,
+    day2: f64,
+    first: &mut f64,
+    second: &mut f64,
+) -> u8
+    ensures { λ n. ⌜ ToldTwo (precessEclCoordsRule (record { 0 = «old_long» }) (record { 0 = «old_lat» }) day1 day2) n (now (first .entry)) (now (second .entry)) (now (first .exit)) (now (second .exit)) ⌝ }
+{
+    give_two(
+        precess::precess_ecl_coords(Rad(old_long), Rad(old_lat), day1, day2),
+        first,
+        second,
+    )
+}
+
+// Orbital elements from one day to another. Refusals: 1; 2; 3; 7; 6; 7.
+#[no_mangle]
+pub extern "C" fn brundelak_precess_orb_elements(
+    old_inc: f64,
+    old_arg_perih: f64,
+    old_long_ascend_node: f64,
+    day1: f64,
+    day2: f64,
+    first: &mut f64,
+    second: &mut f64,
+    third: &mut f64,
+) -> u8
+    ensures { λ n. ⌜ ToldThree (precessOrbElementsRule (record { 0 = «old_inc» }) (record { 0 = «old_arg_perih» }) (record { 0 = «old_long_ascend_node» }) day1 day2) n (now (first .entry)) (now (second .entry)) (now (third .entry)) (now (first .exit)) (now (second .exit)) (now (third .exit)) ⌝ }
+{
+    give_three(
+        precess::precess_orb_elements(
+            Rad(old_inc),
+            Rad(old_arg_perih),
+            Rad(old_long_ascend_node),
+            day1,
+            day2,
+        ),
+        first,
+        second,
+        third,
+    )
+}
+
+// Nutation in longitude and obliquity. Refusals: 1; 2.
+#[no_mangle]
+pub extern "C" fn brundelak_nutation(day: f64, first: &mut f64, second: &mut f64) -> u8
+    ensures { λ n. ⌜ ToldTwo (nutationRule day) n (now (first .entry)) (now (second .entry)) (now (first .exit)) (now (second .exit)) ⌝ }
+{
+    give_two(nutation::nutation(day), first, second)
+}
+
+// Nutation in right ascension and declination. Refusals: 1; 3; 4.
+#[no_mangle]
+pub extern "C" fn brundelak_nutation_in_eq_coords(
+    asc: f64,
+    dec: f64,
+    nut_in_long: f64,
+    nut_in_oblq: f64,
+    tru_oblq: f64,
+    first: &mut f64,
+    second: &mut f64,
+) -> u8
+    ensures { λ n. ⌜ ToldTwo (nutationInEqCoordsRule (record { asc = asc; dec = dec }) (record { 0 = «nut_in_long» }) (record { 0 = «nut_in_oblq» }) (record { 0 = «tru_oblq» })) n (now (first .entry)) (now (second .entry)) (now (first .exit)) (now (second .exit)) ⌝ }
+{
+    give_two(
+        nutation::nutation_in_eq_coords(
+            EqPoint { asc: asc, dec: dec },
+            Rad(nut_in_long),
+            Rad(nut_in_oblq),
+            Rad(tru_oblq),
+        ),
+        first,
+        second,
+    )
+}
+
+// Solar aberration at a distance. Refusals: 1; 5.
+#[no_mangle]
+pub extern "C" fn brundelak_sol_aberr(dist: f64, out: &mut f64) -> u8
+    ensures { λ n. ⌜ Told (solAberrRule dist) n (now (out .entry)) (now (out .exit)) ⌝ }
+{
+    give(aberr::sol_aberr(dist), out)
+}
+
+// Stellar aberration in right ascension and declination. Refusals: 1; 2; 3; 4.
+#[no_mangle]
+pub extern "C" fn brundelak_stell_aberr_in_eq_coords(
+    asc: f64,
+    dec: f64,
+    day: f64,
+    first: &mut f64,
+    second: &mut f64,
+) -> u8
+    ensures { λ n. ⌜ ToldTwo (stellAberrInEqCoordsRule (record { asc = asc; dec = dec }) day) n (now (first .entry)) (now (second .entry)) (now (first .exit)) (now (second .exit)) ⌝ }
+{
+    give_two(
+        aberr::stell_aberr_in_eq_coords(EqPoint { asc: asc, dec: dec }, day),
+        first,
+        second,
+    )
+}
+
+// A star's place from one day to another: precession, nutation, aberration. Refusals: 1; 2; 3; 7; 4.
+#[no_mangle]
+pub extern "C" fn brundelak_chain(
+    asc: f64,
+    dec: f64,
+    day1: f64,
+    day2: f64,
+    first: &mut f64,
+    second: &mut f64,
+) -> u8
+    ensures { λ n. ⌜ ToldTwo (chainRule (record { 0 = asc }) (record { 0 = dec }) day1 day2) n (now (first .entry)) (now (second .entry)) (now (first .exit)) (now (second .exit)) ⌝ }
+{
+    give_two(chain::chain(Rad(asc), Rad(dec), day1, day2), first, second)
+}

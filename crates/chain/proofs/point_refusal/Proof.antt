@@ -1,0 +1,10 @@
+-- `chain::point_refusal` meets its contract. Assumes nothing.
+use Rattle.double.specs.laws.Calls.{asks-nothing}
+use Rattle.chain.proofs.point_refusal.Statement.{statement}
+use Rattle.chain.proofs.point_refusal.Tie as tie
+
+returns : tie.Need-returns
+returns c = cc
+
+pub point-refusal-spec : {M : Type 1} → statement M
+point-refusal-spec = tie.close (tie.spec asks-nothing asks-nothing asks-nothing returns)

@@ -1,0 +1,19 @@
+-- `chain::reduced_at` meets its contract. Assumes nothing.
+use Rattle.double.specs.laws.Calls.{asks-nothing}
+use Rattle.quantity.specs.laws.Answer.{refuses, goes-on}
+use Rattle.chain.specs.rules.Night.{reducedAt}
+use Rattle.chain.proofs.reduced_at.Statement.{statement}
+use Rattle.chain.proofs.reduced_at.Tie as tie
+
+returns : tie.Need-returns
+unfolding reducedAt
+returns c = refuses _ (rw (c .before .before .point-refusal .ensures) at (c .before .lower .ensures)) (c .if1 .taken)
+
+returns-2 : tie.Need-returns-2
+unfolding reducedAt
+returns-2 c =
+    let start = c .before .before .before .before .before .before in
+    goes-on (rw (start .before .before .point-refusal .ensures) at (start .before .lower .ensures)) (start .if1 .left) (cc)
+
+pub reduced-at-spec : {M : Type 1} → statement M
+reduced-at-spec = tie.close (tie.spec asks-nothing asks-nothing returns asks-nothing asks-nothing asks-nothing asks-nothing returns-2)

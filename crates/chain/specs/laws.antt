@@ -1,0 +1,3 @@
+-- What is proved of the chain, for callers to cite. Theorems only.
+pub mod Constants
+pub mod Night

@@ -1,0 +1,39 @@
+-- The chain as a night does it: what two days fix, and a star's reduction under it.
+use lib.Ieee.{Float}
+use Rattle.double.specs.rules.Operations.{_⊕_}
+use Rattle.quantity.specs.declared.Rad.{Rad}
+use Rattle.quantity.specs.declared.EqPoint.{EqPoint}
+use Rattle.quantity.specs.declared.Shift.{Shift}
+use Rattle.quantity.specs.rules.Answer.{Answer, answered, Pair, pair, unless, then}
+use Rattle.quantity.specs.rules.Refusal.{lower}
+use Rattle.elementary.specs.rules.Sine.{sineOf, cosineOf}
+use Rattle.elementary.specs.rules.Direction.{directionOf}
+use Rattle.precess.specs.declared.EqTurns.{EqTurns}
+use Rattle.precess.specs.rules.Equatorial.{eqTurnsOf, turnedIn}
+use Rattle.nutation.specs.declared.Nutations.{Nutations}
+use Rattle.nutation.specs.rules.Sum.{nutationOf}
+use Rattle.nutation.specs.rules.Point.{nutationAt}
+use Rattle.aberr.specs.declared.Velocity.{Velocity}
+use Rattle.aberr.specs.rules.Velocity.{velocityOf}
+use Rattle.aberr.specs.rules.Star.{aberrAt}
+use Rattle.chain.specs.declared.Night.{Night}
+use Rattle.chain.specs.rules.Obliquity.{obliquityOf}
+use Rattle.chain.specs.rules.Chain.{point, pointRefusal, anglesRefusal}
+
+unfoldable pub gathered : EqTurns → Nutations → Rad → Velocity → Night
+gathered turns n oblq v =
+    record { turns = turns; nutation = n; «sin_oblq» = sineOf oblq; «cos_oblq» = cosineOf oblq; velocity = v; refusal = anglesRefusal n oblq }
+
+unfoldable pub nightOf : Float → Float → Night
+nightOf day1 day2 = gathered (eqTurnsOf day1 day2) (nutationOf day2) (obliquityOf day2) (velocityOf day2)
+
+unfoldable pub moved : EqPoint → Shift → Shift → Answer Pair
+moved p n a = answered (pair ((p .asc ⊕ n .asc) ⊕ a .asc) ((p .dec ⊕ n .dec) ⊕ a .dec))
+
+unfoldable pub reducedAt : EqPoint → Night → Answer Pair
+reducedAt p night =
+    unless (lower (pointRefusal p) (night .refusal))
+    (moved p (nutationAt (directionOf p) (night .nutation) (night .«sin_oblq») (night .«cos_oblq»)) (aberrAt (directionOf p) (night .velocity)))
+
+unfoldable pub reducedIn : Rad → Rad → Night → Answer Pair
+reducedIn asc dec night = then (turnedIn asc dec (night .turns)) (λ (p : Pair). reducedAt (point p) night)

@@ -1,0 +1,151 @@
+// The chain (section 7): a star's place from one day to another by precession, nutation and aberration. Angles are in radians.
+// What the two days fix is a night, worked out once for a whole list. Rules: specs/rules, in reading order in specs/rules.antt.
+ghost use mathlib.Core.Path.{_≡_};
+ghost use Rattle.quantity.specs.rules.Answer.{shownTwo};
+ghost use Rattle.precess.specs.rules.Days.{placeRefusal};
+ghost use Rattle.chain.specs.rules.Obliquity.{meanObliquity, obliquityOf};
+ghost use Rattle.chain.specs.rules.Chain.{pointRefusal, anglesRefusal, chainRule};
+ghost use Rattle.chain.specs.rules.Night.{gathered, nightOf, moved, reducedAt, reducedIn};
+use aberr::Velocity;
+use helpers::angle;
+use helpers::time;
+use nutation::Nutations;
+use precess::EqTurns;
+use quantity::Deg;
+use quantity::EqPoint;
+use quantity::Rad;
+use quantity::Shift;
+use quantity::Two;
+
+// ---- the obliquity
+
+// The mean obliquity at a century (Meeus 22.2).
+fn mean_obliquity(c: f64) -> Deg
+    ensures { λ r. ⌜ r ≡ meanObliquity c ⌝ }
+{
+    Deg(
+        84381.448 / 3600.0
+            - c * (46.8150 / 3600.0 + c * (0.00059 / 3600.0 - c * (0.001813 / 3600.0))),
+    )
+}
+
+// The mean obliquity on a day.
+fn obliquity_on(day: f64) -> Rad
+    ensures { λ r. ⌜ r ≡ obliquityOf day ⌝ }
+{
+    angle::radians(mean_obliquity(time::century(day)))
+}
+
+// ---- the night
+
+// All that two days fix: precession's turns, nutation, the sine and cosine of the obliquity, the Earth's velocity, and the refusal of
+// the three angles that nutation goes by, 0 where there is none.
+pub struct Night {
+    pub turns: EqTurns,
+    pub nutation: Nutations,
+    pub sin_oblq: f64,
+    pub cos_oblq: f64,
+    pub velocity: Velocity,
+    pub refusal: u8,
+}
+
+// Refusals of nutation in longitude and in obliquity and of the obliquity: 1; 3.
+fn angles_refusal(n: Nutations, oblq: Rad) -> u8
+    ensures { λ r. ⌜ r ≡ anglesRefusal n oblq ⌝ }
+{
+    quantity::lower(
+        quantity::angle_refusal(Rad(n.long)),
+        quantity::lower(
+            quantity::angle_refusal(Rad(n.oblq)),
+            quantity::angle_refusal(oblq),
+        ),
+    )
+}
+
+// A night from its parts.
+fn gathered(turns: EqTurns, n: Nutations, oblq: Rad, v: Velocity) -> Night
+    ensures { λ r. ⌜ r ≡ gathered turns n oblq v ⌝ }
+{
+    let e = elementary::fold(oblq);
+    Night {
+        turns: turns,
+        nutation: n,
+        sin_oblq: e.sine(),
+        cos_oblq: e.cosine(),
+        velocity: v,
+        refusal: angles_refusal(n, oblq),
+    }
+}
+
+// The night of two days.
+pub fn night_of(day1: f64, day2: f64) -> Night
+    ensures { λ r. ⌜ r ≡ nightOf day1 day2 ⌝ }
+{
+    gathered(
+        precess::eq_turns(day1, day2),
+        nutation::nutation_on(day2),
+        obliquity_on(day2),
+        aberr::velocity_on(day2),
+    )
+}
+
+// ---- a star under a night
+
+// Refusals of a point whose declination goes into a tangent: 1; 3; 4.
+fn point_refusal(p: EqPoint) -> u8
+    ensures { λ r. ⌜ r ≡ pointRefusal p ⌝ }
+{
+    quantity::lower(
+        quantity::angle_refusal(Rad(p.asc)),
+        quantity::steep_refusal(Rad(p.dec)),
+    )
+}
+
+// A precessed point with its nutation and its aberration added, in that order.
+fn moved(p: EqPoint, n: Shift, a: Shift) -> Two
+    ensures { λ r. ⌜ shownTwo r ≡ moved p n a ⌝ }
+{
+    Two::Are((p.asc + n.asc) + a.asc, (p.dec + n.dec) + a.dec)
+}
+
+// A precessed point under a night. Refusals: 4.
+fn reduced_at(p: EqPoint, night: Night) -> Two
+    ensures { λ r. ⌜ shownTwo r ≡ reducedAt p night ⌝ }
+{
+    let no = quantity::lower(point_refusal(p), night.refusal);
+    if no != 0 {
+        return Two::Refused(no);
+    }
+    let d = elementary::toward(p);
+    let nutations = night.nutation;
+    let velocity = night.velocity;
+    moved(
+        p,
+        nutation::nutation_at(d, nutations, night.sin_oblq, night.cos_oblq),
+        aberr::aberr_at(d, velocity),
+    )
+}
+
+// A star's place under a night, of a place that is not refused. Refusals: 7; 4.
+pub fn reduced_in(asc: Rad, dec: Rad, night: Night) -> Two
+    ensures { λ r. ⌜ shownTwo r ≡ reducedIn asc dec night ⌝ }
+{
+    let turns = night.turns;
+    match precess::turned_in(asc, dec, turns) {
+        Two::Are(a, d) => reduced_at(EqPoint { asc: a, dec: d }, night),
+        Two::Refused(n) => Two::Refused(n),
+    }
+}
+
+// ---- the chain
+
+// A star's place on the second day from its place on the first. Refusals: 1; 2; 3; then 7, and 4 for the precessed declination.
+pub fn chain(asc: Rad, dec: Rad, day1: f64, day2: f64) -> Two
+    ensures { λ r. ⌜ shownTwo r ≡ chainRule asc dec day1 day2 ⌝ }
+{
+    let no = precess::place_refusal(asc, dec, day1, day2);
+    if no != 0 {
+        return Two::Refused(no);
+    }
+    reduced_in(asc, dec, night_of(day1, day2))
+}

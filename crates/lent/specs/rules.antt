@@ -1,0 +1,3 @@
+-- What a reader must believe of writing into a lent slice. Definitions only.
+pub mod Writing
+pub mod Rows

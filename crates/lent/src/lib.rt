@@ -1,0 +1,37 @@
+// Bytes written into a lent slice. What finds no place there is left out, so that no call asks anything.
+// Rules: specs/rules, in reading order in specs/rules.antt.
+ghost use Prim.Native.Nat.{min};
+ghost use mathlib.Core.Path.{_≡_};
+ghost use mathlib.Core.List.{[], _∷_};
+ghost use Rattle.lent.specs.rules.Writing.{Wrote};
+
+// One byte from the place on, and the place after it.
+pub fn put_byte(out: &mut [u8], at: usize, b: u8) -> usize
+    ensures { λ r. ⌜ Wrote (now (out .entry)) at (b ∷ []) (now (out .exit)) r ⌝ }
+{
+    if at < out.len() {
+        out[at] = b;
+        return at + 1;
+    }
+    out.len()
+}
+
+// The lower of a place and a slice's end: where a text would begin.
+pub fn within(at: usize, end: usize) -> usize
+    ensures { λ r. ⌜ r ≡ min at end ⌝ }
+{
+    if at < end { at } else { end }
+}
+
+// All of src from the place on, and the place after it.
+pub fn put(out: &mut [u8], at: usize, src: &[u8]) -> usize
+    ensures { λ r. ⌜ Wrote (now (out .entry)) at (now (src .entry)) (now (out .exit)) r ⌝ }
+{
+    let mut place = within(at, out.len());
+    let mut i = 0;
+    while i < src.len() {
+        place = put_byte(out, place, src[i]);
+        i += 1;
+    }
+    place
+}

@@ -1,0 +1,65 @@
+-- `list::find` meets its contract: at each return the tests that led there say which case of the rule holds. Assumes nothing.
+use borrow.Author.Tests.{lt-ltb, le-ltb, not-true, not-false}
+use mathlib.Core.Path.{_≡_, sym, ap, _∙_}
+use mathlib.Core.Bool.{Bool, true, cond}
+use mathlib.Core.List.{List}
+use Prim.Native.Nat.{ℕ, _≤_, _<_}
+use native.Mathlib.Omega.{arith}
+use lib.IntN.{ℤ}
+use Rattle.double.specs.laws.Calls.{asks-nothing}
+use Rattle.quantity.specs.rules.Answer.{answered, refused}
+use Rattle.signed.specs.laws.Signed.{signed-word}
+use Rattle.list.specs.rules.Stars.{isList, stars, countOf, nth}
+use Rattle.list.specs.laws.Stars.{length-stars}
+use Rattle.list.specs.rules.Find.{indexOf, entry, findRule}
+use Rattle.list.specs.declared.Star.{Star}
+use Rattle.list.proofs.find.Statement.{statement}
+use Rattle.list.proofs.find.Tie as tie
+
+-- the index that was found, past the end and before it
+module _ (s : List ℕ) (number i : ℕ) (t : isList s ≡ true) (e : i ≡ indexOf number (stars s)) where
+  absent : countOf s ≤ i → refused 10 ≡ findRule s number
+  absent h = rw (t, ← e, length-stars s, le-ltb i (countOf s) h)
+
+  present : i < countOf s → (r : Star) → r ≡ nth s i → entry i r ≡ findRule s number
+  present h r f = rw (t, ← e, length-stars s, lt-ltb i (countOf s) h) (ap (entry i) f)
+
+returns : tie.Need-returns
+returns c = simp (sym (c .before .is-list .ensures) ∙ not-true _ (c .if1 .taken))
+
+returns-2 : tie.Need-returns-2
+returns-2 c =
+    let at-index = c .before .before in
+    absent _ _ (at-index .index-of .result) (sym (at-index .before .before .is-list .ensures) ∙ not-false _ (at-index .before .if1 .left)) (at-index .index-of .ensures)
+    (omega (arith, c .before .count .ensures, c .if2 .taken))
+
+-- the star was found, and the answer is its entry
+module _ (c : tie.After-nth) where
+  abbrev at-index : tie.After-index-of
+  at-index = c .before .before .before
+
+  found : entry (at-index .index-of .result) (c .nth .result) ≡ findRule (at-index .before .before .before .before .args .bytes .now) (at-index .before .before .before .before .args .number)
+  found =
+      present _ _ (at-index .index-of .result) (sym (at-index .before .before .is-list .ensures) ∙ not-false _ (at-index .before .if1 .left)) (at-index .index-of .ensures)
+      (omega (arith, c .before .before .count .ensures, c .before .if2 .left))
+      (c .nth .result)
+      (c .nth .ensures)
+
+returns-3 : tie.Need-returns-3
+returns-3 c =
+    let at-star = c .before .before .before in
+    let i = at-star .before .before .before .index-of .result in
+    let r = at-star .nth .result in
+    ap (λ (z : ℤ). answered (record { index = i; asc = r .asc; dec = z })) (signed-word (r .dec) (c .struct-told .given .1 .1 .0 .1))
+    ∙ ap (λ (b : Bool). cond b (answered (record { index = i; asc = r .asc; dec = r .dec })) (refused 9)) (sym (c .before .if3 .taken) ∙ c .before .before .in-range .ensures)
+    ∙ found at-star
+
+returns-4 : tie.Need-returns-4
+returns-4 c =
+    let at-star = c .before .before in
+    let i = at-star .before .before .before .index-of .result in
+    let r = at-star .nth .result in
+    ap (λ (b : Bool). cond b (answered (record { index = i; asc = r .asc; dec = r .dec })) (refused 9)) (sym (c .if3 .left) ∙ c .before .in-range .ensures) ∙ found at-star
+
+pub find-spec : {M : Type 1} → statement M
+find-spec = tie.close (tie.spec asks-nothing returns asks-nothing asks-nothing returns-2 asks-nothing asks-nothing returns-3 returns-4)

@@ -1,0 +1,78 @@
+-- `list::index_of` meets its contract: what is found in the stars that are left, i after the first, is what is found. Assumes nothing.
+use borrow.Author.Needs.{needs}
+use borrow.Author.Tests.{eq-eqb, ne-eqb}
+use mathlib.Core.Path.{_≡_, sym, ap, _∙_}
+use mathlib.Core.Bool.{Bool, true, false, cond}
+use mathlib.Core.List.{List}
+use Prim.Native.Nat.{ℕ, suc, _+_, _-_, _≤_, _<_}
+use native.Mathlib.Omega.{arith}
+use lib.Dec.{eqb}
+use lib.ListN.{drop, drop-of-length-le}
+use Rattle.double.specs.laws.Calls.{asks-nothing}
+use Rattle.list.specs.rules.Stars.{stars, countOf, nth}
+use Rattle.list.specs.rules.Find.{indexOf}
+use Rattle.list.specs.laws.Stars.{from, length-stars}
+use Rattle.list.specs.declared.Star.{Star}
+use Rattle.list.proofs.index_of.Statement.{statement}
+use Rattle.list.proofs.index_of.Tie as tie
+
+-- what is found in the stars from i on
+abbrev left : List ℕ → ℕ → ℕ → ℕ
+left s number i = indexOf number (drop i (stars s))
+
+module _ (s : List ℕ) (number i : ℕ) (h : i < countOf s) (r : Star) (e : r ≡ nth s i) where
+  step : (b : Bool) → eqb (r .number) number ≡ b → left s number i ≡ cond b 0 (suc (left s number (i + 1)))
+  unfolding indexOf
+  step b t =
+      ap (indexOf number) (from s i h)
+      ∙ ap (λ (b : Bool). cond b 0 (suc (left s number (i + 1)))) (ap (λ (x : Star). eqb (x .number) number) (sym e) ∙ t)
+
+  hit : r .number ≡ number → left s number i ≡ 0
+  hit t = step true (eq-eqb _ _ t)
+
+  miss : (r .number ≡ number → ⊥) → left s number i ≡ suc (left s number (i + 1))
+  miss t = step false (ne-eqb _ _ t)
+
+none : (s : List ℕ) (number i : ℕ) → countOf s ≤ i → left s number i ≡ 0
+unfolding indexOf
+none s number i h = ap (indexOf number) (drop-of-length-le (stars s) {i = i} (rw length-stars h))
+
+abbrev Inv-loop : tie.InvT-loop
+Inv-loop bytes number n i₀ i = (i ≤ n) × ((n ≡ countOf bytes) × (i + left bytes number i ≡ indexOf number (stars bytes)))
+
+abbrev μ-loop : tie.MeasureT-loop
+μ-loop bytes number n i₀ i = n - i
+
+loop-holds : tie.Need-loop-holds Inv-loop μ-loop
+loop-holds c = (search needs, (c .count .ensures, omega arith))
+
+-- in a turn i is an index of the list
+index : (c : tie.In-loop Inv-loop μ-loop) → c .before .loop .i < countOf (c .before .before .before .before .args .bytes .now)
+index c = omega arith
+
+returns : tie.Need-returns Inv-loop μ-loop
+returns c =
+    let turn = c .before .before in
+    omega (arith, turn .before .before .loop .inv .1 .1, hit _ _ _ (index (turn .before)) (turn .nth .result) (turn .nth .ensures) (c .if1 .taken))
+
+add-i : tie.Need-add-i Inv-loop μ-loop
+add-i c = search needs
+
+loop-less : tie.Need-loop-less Inv-loop μ-loop
+loop-less c = search needs
+
+loop-again : tie.Need-loop-again Inv-loop μ-loop
+loop-again c =
+    let turn = c .before .before in (
+      omega arith,
+      (
+        turn .before .before .loop .inv .1 .0,
+        omega (arith, turn .before .before .loop .inv .1 .1, miss _ _ _ (index (turn .before)) (turn .nth .result) (turn .nth .ensures) (c .if1 .left)),
+      ),
+    )
+
+returns-2 : tie.Need-returns-2 Inv-loop μ-loop
+returns-2 c = omega (arith, c .before .loop .inv, none (c .before .before .before .before .args .bytes .now) (c .before .before .before .before .args .number) (c .before .loop .i) (omega arith))
+
+pub index-of-spec : {M : Type 1} → statement M
+index-of-spec = tie.close (tie.spec Inv-loop μ-loop asks-nothing loop-holds asks-nothing returns add-i loop-less loop-again returns-2)

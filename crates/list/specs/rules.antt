@@ -1,0 +1,5 @@
+-- What a reader must believe of the stored list (section 7), in the paper's order. Definitions only.
+pub mod Record
+pub mod Stars
+pub mod Reader
+pub mod Find

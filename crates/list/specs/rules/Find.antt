@@ -1,0 +1,38 @@
+-- The first star with a number: 8, then 10, then 9.
+use Prim.Native.Nat.{ℕ, suc}
+use mathlib.Core.Bool.{cond}
+use mathlib.Core.List.{List, [], _∷_}
+use lib.Dec.{eqb, ltb}
+use lib.IntN.{ℤ}
+use lib.ListN.{length, getD}
+use Rattle.quantity.specs.rules.Answer.{Answer, answered, refused}
+use Rattle.list.specs.rules.Record.{inRange}
+use Rattle.list.specs.rules.Stars.{isList, stars, nought}
+use Rattle.list.specs.declared.Star.{Star}
+use Rattle.list.specs.declared.Found.{Found}
+use Rattle.list.specs.declared.Found.the-variants.{At, Refused}
+
+-- a found star: its index, and the record's other fields
+pub record Entry : Type 0 where
+  pub index : ℕ
+  pub asc : ℕ
+  pub dec : ℤ
+
+abbrev pub shownFound : Found → Answer Entry
+shownFound (At i asc dec) = answered (record { index = i; asc = asc; dec = dec })
+shownFound (Refused n) = refused n
+
+-- the index of the first star with the number, or how many there are where none has it
+unfoldable pub indexOf : ℕ → List Star → ℕ
+indexOf number [] = 0
+indexOf number (r ∷ rs) = cond (eqb (r .number) number) 0 (suc (indexOf number rs))
+
+-- the star itself, at index i
+abbrev pub entry : ℕ → Star → Answer Entry
+entry i r = cond (inRange r) (answered (record { index = i; asc = r .asc; dec = r .dec })) (refused 9)
+
+abbrev pub entryAt : List Star → ℕ → Answer Entry
+entryAt rs i = cond (ltb i (length rs)) (entry i (getD rs i nought)) (refused 10)
+
+abbrev pub findRule : List ℕ → ℕ → Answer Entry
+findRule s number = cond (isList s) (entryAt (stars s) (indexOf number (stars s))) (refused 8)

@@ -1,0 +1,45 @@
+-- A star's record: three words of four bytes, low byte first. Number and right ascension are unsigned, the declination signed.
+use Prim.Native.Nat.{ℕ, _+_, _*_, _/_, _%_, _<_}
+use mathlib.Core.Bool.{Bool, _&&_}
+use mathlib.Core.List.{List, [], _∷_, _++_}
+use lib.Dec.{ltb, leb}
+use lib.IntN.{natAbs}
+use lib.ListN.{getD}
+use Rattle.signed.specs.rules.Signed.{wordOf, signedOf, HasWord}
+use Rattle.list.specs.declared.Star.{Star}
+
+-- bytes of a record
+abbrev pub width : ℕ
+width = 12
+
+-- the word that stands from a place on
+unfoldable pub wordAt : List ℕ → ℕ → ℕ
+wordAt s at = getD s at 0 + 256 * getD s (at + 1) 0 + 65536 * getD s (at + 2) 0 + 16777216 * getD s (at + 3) 0
+
+-- the star whose record stands from a place on, in range or not
+unfoldable pub starAt : List ℕ → ℕ → Star
+starAt s at = record { number = wordAt s at; asc = wordAt s (at + 4); dec = signedOf (wordAt s (at + 8)) }
+
+-- in milliarcseconds: right ascension below a turn, declination at most a quarter turn in size
+unfoldable pub inRange : Star → Bool
+inRange r = ltb (r .asc) 1296000000 && leb (natAbs (r .dec)) 324000000
+
+-- a record written: its words, and their bytes
+abbrev pub wordsOf : Star → List ℕ
+wordsOf r = r .number ∷ r .asc ∷ wordOf (r .dec) ∷ []
+
+unfoldable pub wordBytes : ℕ → List ℕ
+wordBytes n = n % 256 ∷ n / 256 % 256 ∷ n / 65536 % 256 ∷ n / 16777216 ∷ []
+
+abbrev pub wordsBytes : List ℕ → List ℕ
+wordsBytes [] = []
+wordsBytes (n ∷ ns) = wordBytes n ++ wordsBytes ns
+
+unfoldable pub starBytes : Star → List ℕ
+starBytes r = wordsBytes (wordsOf r)
+
+-- each field has a word
+pub record Fitting (r : Star) : Type 0 where
+  pub number : r .number < 4294967296
+  pub asc : r .asc < 4294967296
+  pub dec : HasWord (r .dec)

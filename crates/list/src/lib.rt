@@ -1,0 +1,183 @@
+// The stored list (section 7): record, reader and find. Above the record all speaks of a list of stars.
+// Rules: specs/rules, in reading order in specs/rules.antt.
+ghost use mathlib.Core.Path.{_≡_};
+ghost use Prim.Native.Nat.{_+_, _≤_, _<_};
+ghost use lib.ListN.{length};
+ghost use Rattle.lent.specs.rules.Writing.{Wrote};
+ghost use Rattle.list.specs.rules.Record.{width, wordAt, starAt, inRange, wordBytes, starBytes};
+ghost use Rattle.list.specs.rules.Stars.{isList, countOf, stars, nth};
+ghost use Rattle.list.specs.rules.Reader.{shownSight, readRule};
+ghost use Rattle.list.specs.rules.Find.{shownFound, indexOf, findRule};
+
+// A star's record: its number, and its right ascension and declination in milliarcseconds.
+pub struct Star {
+    pub number: u32,
+    pub asc: u32,
+    pub dec: i32,
+}
+
+// What the reader shows: a star and the place after it, that none is left, or a refusal.
+pub enum Shown {
+    Next(Star, usize),
+    End,
+    Refused(u8),
+}
+
+// A found star: its index, right ascension and declination; or a refusal.
+pub enum Found {
+    At(usize, u32, i32),
+    Refused(u8),
+}
+
+// Bytes of a record.
+pub const WIDTH: usize = 12;
+
+// Stars of a list, at most.
+pub const MOST_STARS: usize = 5000;
+
+const MOST_BYTES: usize = WIDTH * MOST_STARS;
+
+// A byte as a word.
+fn wide(x: u8) -> u32
+    ensures { λ r. ⌜ (r ≡ x) × (r < 256) ⌝ }
+{
+    x as u32
+}
+
+// The word that stands from the place on.
+fn word_at(bytes: &[u8], at: usize) -> u32
+    requires { ⌜ at + 4 ≤ length (now bytes) ⌝ }
+    ensures { λ r. ⌜ r ≡ wordAt (now (bytes .entry)) at ⌝ }
+{
+    wide(bytes[at])
+        + 256 * wide(bytes[at + 1])
+        + 65536 * wide(bytes[at + 2])
+        + 16777216 * wide(bytes[at + 3])
+}
+
+// The star whose record stands from the place on.
+fn record_at(bytes: &[u8], at: usize) -> Star
+    requires { ⌜ at + width ≤ length (now bytes) ⌝ }
+    ensures { λ r. ⌜ r ≡ starAt (now (bytes .entry)) at ⌝ }
+{
+    Star {
+        number: word_at(bytes, at),
+        asc: word_at(bytes, at + 4),
+        dec: signed::signed_of(word_at(bytes, at + 8)),
+    }
+}
+
+// Whether right ascension is below a turn, and declination at most a quarter turn in size.
+pub fn in_range(star: Star) -> bool
+    ensures { λ r. ⌜ r ≡ inRange star ⌝ }
+{
+    if star.asc < 1296000000 {
+        return signed::size(star.dec) <= 324000000;
+    }
+    false
+}
+
+// A word's bytes from the place on, and the place after them.
+fn put_word(out: &mut [u8], at: usize, word: u32) -> usize
+    ensures { λ r. ⌜ Wrote (now (out .entry)) at (wordBytes word) (now (out .exit)) r ⌝ }
+{
+    let a = lent::put_byte(out, at, (word % 256) as u8);
+    let b = lent::put_byte(out, a, (word / 256 % 256) as u8);
+    let c = lent::put_byte(out, b, (word / 65536 % 256) as u8);
+    lent::put_byte(out, c, (word / 16777216) as u8)
+}
+
+// A record's bytes from the place on, and the place after them.
+pub fn put_star(out: &mut [u8], at: usize, star: Star) -> usize
+    ensures { λ r. ⌜ Wrote (now (out .entry)) at (starBytes star) (now (out .exit)) r ⌝ }
+{
+    let a = put_word(out, at, star.number);
+    let b = put_word(out, a, star.asc);
+    put_word(out, b, signed::word_of(star.dec))
+}
+
+// Whether the bytes are whole records, and no more of them than a list may have.
+pub fn is_list(bytes: &[u8]) -> bool
+    ensures { λ r. ⌜ r ≡ isList (now (bytes .entry)) ⌝ }
+{
+    if bytes.len() <= MOST_BYTES {
+        return bytes.len() % WIDTH == 0;
+    }
+    false
+}
+
+// How many stars.
+pub fn count(bytes: &[u8]) -> usize
+    ensures { λ r. ⌜ r ≡ countOf (now (bytes .entry)) ⌝ }
+{
+    bytes.len() / WIDTH
+}
+
+// Star i, in range or not; past the last one a star of zeros.
+pub fn nth(bytes: &[u8], i: usize) -> Star
+    ensures { λ r. ⌜ r ≡ nth (now (bytes .entry)) i ⌝ }
+{
+    if i < count(bytes) {
+        return record_at(bytes, i * WIDTH);
+    }
+    Star {
+        number: 0,
+        asc: 0,
+        dec: 0,
+    }
+}
+
+// What stands at a place of a list: a star, in range or not, or at the end none.
+// Refusals: 8 for bytes that are no list, and for a place past the end or not at a record's start.
+pub fn star_at(bytes: &[u8], place: usize) -> Shown
+    ensures { λ r. ⌜ shownSight r ≡ readRule (now (bytes .entry)) place ⌝ }
+{
+    if !is_list(bytes) {
+        return Shown::Refused(8);
+    }
+    if place > bytes.len() {
+        return Shown::Refused(8);
+    }
+    if place % WIDTH != 0 {
+        return Shown::Refused(8);
+    }
+    if place == bytes.len() {
+        return Shown::End;
+    }
+    Shown::Next(record_at(bytes, place), place + WIDTH)
+}
+
+// The index of the first star with the number, or how many stars there are where none has it.
+pub fn index_of(bytes: &[u8], number: u32) -> usize
+    ensures { λ r. ⌜ r ≡ indexOf number (stars (now (bytes .entry))) ⌝ }
+{
+    let n = count(bytes);
+    let mut i = 0;
+    while i < n {
+        let star = nth(bytes, i);
+        if star.number == number {
+            return i;
+        }
+        i += 1;
+    }
+    n
+}
+
+// The first star with the number: its index, right ascension and declination.
+// Refusals: 8 for bytes that are no list; 10 where no star has the number; 9 where that star is out of range.
+pub fn find(bytes: &[u8], number: u32) -> Found
+    ensures { λ r. ⌜ shownFound r ≡ findRule (now (bytes .entry)) number ⌝ }
+{
+    if !is_list(bytes) {
+        return Found::Refused(8);
+    }
+    let i = index_of(bytes, number);
+    if i >= count(bytes) {
+        return Found::Refused(10);
+    }
+    let star = nth(bytes, i);
+    if in_range(star) {
+        return Found::At(i, star.asc, star.dec);
+    }
+    Found::Refused(9)
+}

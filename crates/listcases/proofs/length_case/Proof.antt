@@ -1,0 +1,50 @@
+-- `listcases::length_case` meets its contract. Assumes nothing.
+use borrow.Author.Needs.{needs}
+use mathlib.Core.Path.{sym}
+use lib.Seq.{length-take-le}
+use Rattle.double.specs.laws.Calls.{asks-nothing}
+use Rattle.listcases.proofs.length_case.Statement.{statement}
+use Rattle.listcases.proofs.length_case.Tie as tie
+
+slice-aggregate-bytes : tie.Need-slice-aggregate-bytes
+slice-aggregate-bytes c = sym (length-take-le _ _ (c .before .if1 .taken))
+
+slice-aggregate-number : tie.Need-slice-aggregate-number
+slice-aggregate-number c = search needs
+
+slice-aggregate-number-2 : tie.Need-slice-aggregate-number-2
+slice-aggregate-number-2 c = search needs
+
+slice-aggregate-write-all : tie.Need-slice-aggregate-write-all
+slice-aggregate-write-all c = search needs
+
+slice-aggregate-write-all-2 : tie.Need-slice-aggregate-write-all-2
+slice-aggregate-write-all-2 c = search needs
+
+returns : tie.Need-returns
+returns c = search needs
+
+returns-2 : tie.Need-returns-2
+returns-2 c = search needs
+
+returns-3 : tie.Need-returns-3
+returns-3 c = search needs
+
+pub length-case-spec : {M : Type 1} → statement M
+length-case-spec =
+    tie.close
+    (tie.spec
+    slice-aggregate-bytes
+    slice-aggregate-number
+    asks-nothing
+    slice-aggregate-number-2
+    asks-nothing
+    asks-nothing
+    asks-nothing
+    slice-aggregate-write-all
+    asks-nothing
+    slice-aggregate-write-all-2
+    asks-nothing
+    returns
+    returns-2
+    returns-3)

@@ -1,0 +1,33 @@
+-- `sheet::put_heading` meets its contract. Assumes nothing.
+use borrow.Author.Needs.{needs}
+use Rattle.double.specs.laws.Calls.{asks-nothing}
+use mathlib.Core.List.{append-assoc}
+use Rattle.lent.specs.laws.Writing.{after, same}
+use Rattle.sheet.specs.rules.Sheet.{heading}
+use Rattle.sheet.proofs.put_heading.Statement.{statement}
+use Rattle.sheet.proofs.put_heading.Tie as tie
+
+slice-aggregate-put : tie.Need-slice-aggregate-put
+slice-aggregate-put c = search needs
+
+slice-aggregate-put-2 : tie.Need-slice-aggregate-put-2
+slice-aggregate-put-2 c = search needs
+
+same-length : tie.Need-same-length
+same-length c = search needs
+
+returns : tie.Need-returns
+unfolding heading
+returns c = same (simp append-assoc) (after (after (c .before .before .before .before .before .before .before .before .before .before .before .put .ensures) (c .before .before .before .before .before .before .before .put-decimal .ensures)) (c .before .before .put2 .ensures))
+
+pub put-heading-spec : {M : Type 1} → statement M
+put-heading-spec =
+    tie.close
+    (tie.spec
+    slice-aggregate-put
+    asks-nothing
+    asks-nothing
+    slice-aggregate-put-2
+    asks-nothing
+    same-length
+    returns)

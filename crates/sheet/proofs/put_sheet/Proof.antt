@@ -1,0 +1,67 @@
+-- `sheet::put_sheet` meets its contract: heading, lines and footing, one after the other. Assumes nothing.
+use borrow.Author.Needs.{needs}
+use mathlib.Core.Path.{_≡_, sym, _∙_}
+use mathlib.Core.Bool.{true, false}
+use mathlib.Core.List.{List, _++_, append-assoc}
+use Prim.Native.Nat.{ℕ, _-_}
+use native.Mathlib.Omega.{arith}
+use borrow.Author.Tests.{not-true, not-false}
+use Rattle.double.specs.laws.Calls.{asks-nothing}
+use Rattle.lent.specs.laws.Writing.{after, same}
+use Rattle.list.specs.rules.Stars.{isList, countOf, stars}
+use Rattle.list.specs.laws.Stars.{length-stars}
+use Rattle.sheet.specs.rules.Sheet.{lines, goods, heading, footing, sheetOf, refusedLine}
+use Rattle.sheet.specs.laws.Sheet.{goods-most}
+use Rattle.sheet.proofs.put_sheet.Statement.{statement}
+use Rattle.sheet.proofs.put_sheet.Tie as tie
+
+no-list : (s : List ℕ) → isList s ≡ false → refusedLine ≡ sheetOf s
+unfolding sheetOf
+no-list s e = simp e
+
+-- n and good are what was counted
+a-list : (s : List ℕ) (n good : ℕ) → isList s ≡ true → n ≡ countOf s → good ≡ goods (stars s) → heading n ++ lines (stars s) ++ footing good (n - good) ≡ sheetOf s
+unfolding sheetOf
+a-list s n good t e g = simp (append-assoc, t, e, g)
+
+slice-aggregate-put : tie.Need-slice-aggregate-put
+slice-aggregate-put c = search needs
+
+same-length : tie.Need-same-length
+same-length c = search needs
+
+returns : tie.Need-returns
+returns c = same (no-list (c .before .before .before .before .before .before .before .before .before .args .bytes .now) (sym (c .before .before .before .before .before .before .is-list .ensures) ∙ not-true _ (c .before .before .before .before .before .if1 .taken))) (c .before .before .put .ensures)
+
+sub-put-footing : tie.Need-sub-put-footing
+sub-put-footing c =
+    let s = c .before .before .before .before .before .before .before .before .before .before .before .before .before .before .before .args .bytes .now in
+    omega (arith, c .before .before .before .before .before .before .before .before .before .goods .ensures, c .before .before .before .before .before .before .before .before .before .before .count .ensures, goods-most (stars s), length-stars s)
+
+same-length-2 : tie.Need-same-length-2
+same-length-2 c = search needs
+
+returns-2 : tie.Need-returns-2
+returns-2 c =
+    let counted = c .before .before .before .before .before .before .before .before .before .before .before .before in
+    let test = sym (counted .before .before .before .is-list .ensures) ∙ not-false _ (counted .before .before .if1 .left) in
+    same (a-list (counted .before .before .before .before .before .before .args .bytes .now) (counted .before .count .result) (counted .goods .result) test (counted .before .count .ensures) (counted .goods .ensures))
+    (after (after (c .before .before .before .before .before .before .before .before .before .before .put-heading .ensures) (c .before .before .before .before .before .before .put-lines .ensures)) (c .before .before .put-footing .ensures))
+
+pub put-sheet-spec : {M : Type 1} → statement M
+put-sheet-spec =
+    tie.close
+    (tie.spec
+    asks-nothing
+    slice-aggregate-put
+    asks-nothing
+    same-length
+    returns
+    asks-nothing
+    asks-nothing
+    asks-nothing
+    asks-nothing
+    sub-put-footing
+    asks-nothing
+    same-length-2
+    returns-2)

@@ -1,0 +1,2 @@
+-- What is proved of signed numbers, for callers to cite. Theorems only.
+pub mod Signed

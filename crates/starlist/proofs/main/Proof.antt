@@ -1,0 +1,59 @@
+-- `starlist::main` meets its contract: what is printed are bytes of the sheet's slice. Assumes nothing.
+use borrow.Author.Needs.{needs}
+use mathlib.Core.Path.{sym, subst}
+use Prim.Native.Nat.{_≤_}
+use lib.ListN.{length}
+use lib.Seq.{length-take-le}
+use Rattle.double.specs.laws.Calls.{asks-nothing}
+use Rattle.sheet.specs.rules.Render.{bytesOf}
+use Rattle.sheet.specs.declared.Written.{Written}
+use Rattle.starlist.proofs.main.Statement.{statement}
+use Rattle.starlist.proofs.main.Tie as tie
+
+slice-aggregate-read-full : tie.Need-slice-aggregate-read-full
+slice-aggregate-read-full c = search needs
+
+array-share-prefix-input : tie.Need-array-share-prefix-input
+array-share-prefix-input c = search needs
+
+slice-aggregate-render : tie.Need-slice-aggregate-render
+slice-aggregate-render c = search needs
+
+slice-aggregate-render-2 : tie.Need-slice-aggregate-render-2
+slice-aggregate-render-2 c = search needs
+
+enum-known-k : tie.Need-enum-known-k
+enum-known-k c = search needs
+
+array-share-prefix-out : tie.Need-array-share-prefix-out
+array-share-prefix-out c = subst (λ (w : Written). bytesOf w ≤ length (c .before .before .before .before .render .last .1 .0)) (c .before .k .given .1) (c .before .before .before .before .render .ensures .1 .1)
+
+slice-aggregate-write-all : tie.Need-slice-aggregate-write-all
+slice-aggregate-write-all c = sym (length-take-le _ _ (array-share-prefix-out (c .before)))
+
+enum-told : tie.Need-enum-told
+enum-told c = search needs
+
+returns : tie.Need-returns
+returns c = search needs
+
+returns-2 : tie.Need-returns-2
+returns-2 c = search needs
+
+pub main-spec : {M : Type 1} → statement M
+main-spec =
+    tie.close
+    (tie.spec
+    slice-aggregate-read-full
+    asks-nothing
+    array-share-prefix-input
+    slice-aggregate-render
+    slice-aggregate-render-2
+    asks-nothing
+    enum-known-k
+    array-share-prefix-out
+    slice-aggregate-write-all
+    asks-nothing
+    enum-told
+    returns
+    returns-2)

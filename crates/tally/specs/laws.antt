@@ -1,0 +1,2 @@
+-- What is proved of the tally, for callers to cite. Theorems only.
+pub mod Tally

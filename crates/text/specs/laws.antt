@@ -1,0 +1,2 @@
+-- What is proved of numbers as text, for callers to cite. Theorems only.
+pub mod Number
