@@ -12,3 +12,11 @@ pub mod Horizontal
 pub mod Observer
 pub mod TopocentEq
 pub mod TopopcentEcl
+pub mod NutationArguments
+pub mod NutationSum
+pub mod NutationPoint
+pub mod SunAberration
+pub mod Rows1To12
+pub mod Rows13To24
+pub mod Rows25To36
+pub mod StarAberration
