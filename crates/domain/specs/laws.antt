@@ -1,6 +1,6 @@
 -- What holds on the stated domain. Theorems only.
 pub mod Outcome
-pub mod Functions
+pub mod Elementary
 pub mod Near
 pub mod Days
 pub mod Annual

@@ -13,17 +13,17 @@ use Rattle.elementary.specs.laws.Accepted.{lower-none}
 use Rattle.nutation.specs.rules.Point.{nutationAt, nutationInRefusal, nutationInEqCoordsIn, nutationInEqCoordsRule}
 use Rattle.conditions.specs.laws.Accepted.{none-of-three, angle-between, angle-sine, angle-cosine, steep-tangent}
 use Rattle.domain.specs.notions.Outcome.{Outcome, Never}
-use Rattle.domain.specs.notions.Within.{BothFinite}
+use Rattle.domain.specs.notions.Within.{BothFinite, BothWithin}
 use Rattle.domain.specs.laws.Outcome.{outcome-answered, rule-answers, rule-refuses}
-use Rattle.domain.specs.laws.Near.{within}
+use Rattle.domain.specs.laws.Near.{within, both-finite}
 
 module _ (p : EqPoint) (long oblq tru : Rad) where
   abbrev shifted : Pair
   shifted = pair (nutationInEqCoordsIn p long oblq tru .asc) (nutationInEqCoordsIn p long oblq tru .dec)
 
-  outcome : nutationInRefusal p long oblq tru ≡ 0 → Outcome BothFinite Never (answered shifted)
+  pub nutation-in-outcome : {Q : ℕ → Type 0} → nutationInRefusal p long oblq tru ≡ 0 → Outcome (BothWithin 4194304) Q (answered shifted)
   unfolding nutationInEqCoordsIn nutationAt directionOf isFinite le neg add sub mul ofBits round
-  outcome e =
+  nutation-in-outcome e =
       let asc : Rad = record { 0 = p .asc } in
       let dec : Rad = record { 0 = p .dec } in
       let n = lower-none (lower (angleRefusal asc) (steepRefusal dec)) (lower (angleRefusal long) (lower (angleRefusal oblq) (angleRefusal tru))) e in
@@ -37,12 +37,13 @@ module _ (p : EqPoint) (long oblq tru : Rad) where
       let s = known (angle-sine tru (k .2)) in
       let c = known (angle-cosine tru (k .2)) in
       outcome-answered shifted
-      (within 4194304 (L ⊠ (c ⊞ s ⊠ sa ⊠ tan) ⊟ ca ⊠ tan ⊠ O) tt .finite, within 1024 (s ⊠ ca ⊠ L ⊞ sa ⊠ O) tt .finite)
+      (within 4194304 (L ⊠ (c ⊞ s ⊠ sa ⊠ tan) ⊟ ca ⊠ tan ⊠ O) tt, within 4194304 (s ⊠ ca ⊠ L ⊞ sa ⊠ O) tt)
 
   pub nutation-in-eq-coords-finite : (v : Pair) → nutationInEqCoordsRule p long oblq tru ≡ answered v → BothFinite v
   unfolding nutationInEqCoordsRule
-  nutation-in-eq-coords-finite = rule-answers (nutationInRefusal p long oblq tru) (answered shifted) outcome
+  nutation-in-eq-coords-finite =
+      rule-answers (nutationInRefusal p long oblq tru) (answered shifted) (λ e. both-finite 4194304 (nutation-in-outcome {Q = Never} e))
 
   pub nutation-in-eq-coords-refuses : nutationInRefusal p long oblq tru ≡ 0 → (n : ℕ) → nutationInEqCoordsRule p long oblq tru ≡ refused n → ⊥
   unfolding nutationInEqCoordsRule
-  nutation-in-eq-coords-refuses = rule-refuses (nutationInRefusal p long oblq tru) (answered shifted) outcome
+  nutation-in-eq-coords-refuses = rule-refuses (nutationInRefusal p long oblq tru) (answered shifted) nutation-in-outcome

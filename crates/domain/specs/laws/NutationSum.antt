@@ -2,16 +2,15 @@
 -- Assumes nothing.
 use Prim.Native.Nat.{ℕ}
 use mathlib.Core.Path.{_≡_}
-use mathlib.Core.Bool.{Bool}
 use mathlib.Core.List.{List, [], _∷_}
 use lib.Dec.{T}
-use lib.Ieee.{Float, binary64, neg, add, sub, mul, div, le, ofBits, ofInt, round}
+use lib.Ieee.{Float, binary64, neg, add, mul, div, le, ofBits, ofInt, round}
 use lib.Ieee.Fits.{and-l, and-r}
 use Rattle.double.specs.rules.Operations.{zero, one, _⊕_}
 use Rattle.double.specs.rules.Sign.{isFinite, size}
 use Rattle.double.specs.rules.Order.{_≼_, Between}
 use Rattle.double.specs.rules.Table.{over}
-use Rattle.double.specs.notions.Range.{Range, unknown, _to_, In, addRange, inside, Expr, known, con, _⊞_, _⊠_, _⧄_, value, range}
+use Rattle.double.specs.notions.Range.{Range, unknown, _to_, In, addRange, inside, Expr, known, con, _⊞_, _⊠_, _⧄_}
 use Rattle.double.specs.laws.Between.{between-itself}
 use Rattle.double.specs.laws.Interval.{sound, bounded}
 use Rattle.quantity.specs.rules.Answer.{answered, refused, Pair, pair}
@@ -23,7 +22,7 @@ use Rattle.nutation.specs.declared.Nutations.{Nutations}
 use Rattle.nutation.specs.rules.Numbers.{n10}
 use Rattle.nutation.specs.rules.Arguments.{moonOf}
 use Rattle.nutation.specs.rules.Rows.{rows}
-use Rattle.nutation.specs.rules.Sum.{whole, argumentOf, unit, share, longShare, oblqShare, withRow, summed, none, converted, nutationOf, nutationRule}
+use Rattle.nutation.specs.rules.Sum.{whole, argumentOf, unit, share, withRow, summed, none, converted, nutationOf, nutationRule}
 use Rattle.domain.specs.notions.Outcome.{Outcome, Never}
 use Rattle.domain.specs.notions.Within.{Within, BothFinite}
 use Rattle.domain.specs.notions.Nutation.{Moon, Row, EachRow, MoonNear, argumentRange, argumentsNear, shareRange, longRange, oblqRange}

@@ -20,10 +20,10 @@ use Rattle.aberr.specs.rules.Velocity.{rows, summed, none, velocityOf}
 use Rattle.aberr.specs.rules.Star.{light, aberrAt, stellAberrRefusal, stellAberrInEqCoordsIn, stellAberrInEqCoordsRule}
 use Rattle.conditions.specs.laws.Accepted.{angle-sine, angle-cosine, steep-far}
 use Rattle.domain.specs.notions.Outcome.{Outcome, Never}
-use Rattle.domain.specs.notions.Within.{Within, BothFinite}
+use Rattle.domain.specs.notions.Within.{Within, BothFinite, BothWithin}
 use Rattle.domain.specs.notions.Aberration.{Held}
 use Rattle.domain.specs.laws.Outcome.{outcome-answered, rule-answers, rule-refuses}
-use Rattle.domain.specs.laws.Near.{within}
+use Rattle.domain.specs.laws.Near.{within, both-finite}
 use Rattle.domain.specs.laws.Days.{century-within}
 use Rattle.domain.specs.laws.Rows1To12.{row1-held, row2-held, row3-held, row4-held, row5-held, row6-held, row7-held, row8-held, row9-held, row10-held, row11-held, row12-held}
 use Rattle.domain.specs.laws.Rows13To24.{row13-held, row14-held, row15-held, row16-held, row17-held, row18-held, row19-held, row20-held, row21-held, row22-held, row23-held, row24-held}
@@ -82,9 +82,9 @@ module _ (p : EqPoint) (day : Float) where
   abbrev shifted : Pair
   shifted = pair (stellAberrInEqCoordsIn p day .asc) (stellAberrInEqCoordsIn p day .dec)
 
-  outcome : stellAberrRefusal p day ≡ 0 → Outcome BothFinite Never (answered shifted)
+  pub stell-aberr-outcome : {Q : ℕ → Type 0} → stellAberrRefusal p day ≡ 0 → Outcome (BothWithin 8) Q (answered shifted)
   unfolding stellAberrInEqCoordsIn aberrAt directionOf velocityOf isFinite le neg add sub mul div ofBits round
-  outcome e =
+  stell-aberr-outcome e =
       let asc : Rad = record { 0 = p .asc } in
       let dec : Rad = record { 0 = p .dec } in
       let n = lower-none (lower (angleRefusal asc) (steepRefusal dec)) (dayRefusal day) e in
@@ -96,12 +96,13 @@ module _ (p : EqPoint) (day : Float) where
       let cd = known (cosine-steep dec (steep-accepted dec (m .1))) in
       let top = within 16777216 ((known (held .x) ⊠ ca ⊞ known (held .y) ⊠ sa) ⊠ sd ⊟ known (held .z) ⊠ cd) tt in
       outcome-answered shifted
-      (within 8 ((known (held .y) ⊠ ca ⊟ known (held .x) ⊠ sa) ⧄ (con light ⊠ cd)) tt .finite, within 8 (known (between-neg top) ⧄ con light) tt .finite)
+      (within 8 ((known (held .y) ⊠ ca ⊟ known (held .x) ⊠ sa) ⧄ (con light ⊠ cd)) tt, within 8 (known (between-neg top) ⧄ con light) tt)
 
   pub stell-aberr-in-eq-coords-finite : (v : Pair) → stellAberrInEqCoordsRule p day ≡ answered v → BothFinite v
   unfolding stellAberrInEqCoordsRule
-  stell-aberr-in-eq-coords-finite = rule-answers (stellAberrRefusal p day) (answered shifted) outcome
+  stell-aberr-in-eq-coords-finite =
+      rule-answers (stellAberrRefusal p day) (answered shifted) (λ e. both-finite 8 (stell-aberr-outcome {Q = Never} e))
 
   pub stell-aberr-in-eq-coords-refuses : stellAberrRefusal p day ≡ 0 → (n : ℕ) → stellAberrInEqCoordsRule p day ≡ refused n → ⊥
   unfolding stellAberrInEqCoordsRule
-  stell-aberr-in-eq-coords-refuses = rule-refuses (stellAberrRefusal p day) (answered shifted) outcome
+  stell-aberr-in-eq-coords-refuses = rule-refuses (stellAberrRefusal p day) (answered shifted) stell-aberr-outcome
