@@ -20,3 +20,4 @@ pub mod Rows1To12
 pub mod Rows13To24
 pub mod Rows25To36
 pub mod StarAberration
+pub mod Chain

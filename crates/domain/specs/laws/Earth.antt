@@ -21,7 +21,7 @@ use Rattle.domain.specs.notions.Outcome.{Outcome, Never}
 use Rattle.domain.specs.notions.Within.{Within, BothFinite, BothWithin}
 use Rattle.domain.specs.laws.Outcome.{outcome-answered, outcome-wider, outcome-then, rule-answers, rule-refuses}
 use Rattle.domain.specs.laws.Elementary.{arctangent-outcome}
-use Rattle.domain.specs.laws.Near.{within, both-finite, near-far, near-sine, near-cosine}
+use Rattle.domain.specs.laws.Near.{within, near-far, near-sine, near-cosine}
 
 module _ (lat : Rad) (height : Float) (L : steepRefusal lat ≡ 0) (H : heightRefusal height ≡ 0) where
   -- u, which goes into a sine
@@ -52,7 +52,7 @@ module _ (lat : Rad) (height : Float) where
   outcome : rhoRefusal lat height ≡ 0 → Outcome BothFinite Never (rhoIn lat height)
   outcome e =
       let n = lower-none (steepRefusal lat) (heightRefusal height) e in
-      both-finite 2 (rho-outcome lat height (n .0) (n .1))
+      outcome-wider (λ p i. (i .0 .finite, i .1 .finite)) (rho-outcome lat height (n .0) (n .1))
 
   pub rho-sin-cos-phi-finite : (p : Pair) → rhoSinCosPhiRule lat height ≡ answered p → BothFinite p
   rho-sin-cos-phi-finite = rule-answers (rhoRefusal lat height) (rhoIn lat height) outcome

@@ -11,19 +11,13 @@ use Rattle.double.specs.laws.Order.{le-trans}
 use Rattle.double.specs.laws.Between.{between→size}
 use Rattle.double.specs.laws.Interval.{bounded}
 use Rattle.quantity.specs.declared.Rad.{Rad}
-use Rattle.quantity.specs.rules.Answer.{Answer, Pair}
 use Rattle.elementary.specs.rules.Sine.{sineOf, cosineOf, farthestAlone}
 use Rattle.elementary.specs.laws.Sine.{sine-between, cosine-between}
-use Rattle.domain.specs.notions.Outcome.{Outcome}
-use Rattle.domain.specs.notions.Within.{Within, BothWithin, BothFinite}
-use Rattle.domain.specs.laws.Outcome.{outcome-wider}
+use Rattle.domain.specs.notions.Within.{Within}
 
 -- an expression's value lies within n, as its range does
 pub within : (n : ℕ) (e : Expr) → T (inside (neg (over n 1)) (over n 1) (range binary64 e)) → Within n (value binary64 e)
 within n e t = bounded binary64 (neg (over n 1)) (over n 1) e t
-
-pub both-finite : (n : ℕ) {Q : ℕ → Type 0} {a : Answer Pair} → Outcome (BothWithin n) Q a → Outcome BothFinite Q a
-both-finite n o = outcome-wider (λ p i. (i .0 .finite, i .1 .finite)) o
 
 -- and up to 400000.0
 pub up-to-farthest : (e : Expr) → T (inside (neg farthestAlone) farthestAlone (range binary64 e)) → size (value binary64 e) ≼ farthestAlone

@@ -15,15 +15,15 @@ use Rattle.conditions.specs.laws.Accepted.{none-of-three, angle-between, angle-
 use Rattle.domain.specs.notions.Outcome.{Outcome, Never}
 use Rattle.domain.specs.notions.Within.{BothFinite, BothWithin}
 use Rattle.domain.specs.laws.Outcome.{outcome-answered, rule-answers, rule-refuses}
-use Rattle.domain.specs.laws.Near.{within, both-finite}
+use Rattle.domain.specs.laws.Near.{within}
 
 module _ (p : EqPoint) (long oblq tru : Rad) where
   abbrev shifted : Pair
   shifted = pair (nutationInEqCoordsIn p long oblq tru .asc) (nutationInEqCoordsIn p long oblq tru .dec)
 
-  pub nutation-in-outcome : {Q : ℕ → Type 0} → nutationInRefusal p long oblq tru ≡ 0 → Outcome (BothWithin 4194304) Q (answered shifted)
+  outcome : nutationInRefusal p long oblq tru ≡ 0 → Outcome (BothWithin 4194304) Never (answered shifted)
   unfolding nutationInEqCoordsIn nutationAt directionOf isFinite le neg add sub mul ofBits round
-  nutation-in-outcome e =
+  outcome e =
       let asc : Rad = record { 0 = p .asc } in
       let dec : Rad = record { 0 = p .dec } in
       let n = lower-none (lower (angleRefusal asc) (steepRefusal dec)) (lower (angleRefusal long) (lower (angleRefusal oblq) (angleRefusal tru))) e in
@@ -39,11 +39,15 @@ module _ (p : EqPoint) (long oblq tru : Rad) where
       outcome-answered shifted
       (within 4194304 (L ⊠ (c ⊞ s ⊠ sa ⊠ tan) ⊟ ca ⊠ tan ⊠ O) tt, within 4194304 (s ⊠ ca ⊠ L ⊞ sa ⊠ O) tt)
 
-  pub nutation-in-eq-coords-finite : (v : Pair) → nutationInEqCoordsRule p long oblq tru ≡ answered v → BothFinite v
+  pub nutation-in-eq-coords-answers : (v : Pair) → nutationInEqCoordsRule p long oblq tru ≡ answered v → BothWithin 4194304 v
   unfolding nutationInEqCoordsRule
-  nutation-in-eq-coords-finite =
-      rule-answers (nutationInRefusal p long oblq tru) (answered shifted) (λ e. both-finite 4194304 (nutation-in-outcome {Q = Never} e))
+  nutation-in-eq-coords-answers = rule-answers (nutationInRefusal p long oblq tru) (answered shifted) outcome
+
+  pub nutation-in-eq-coords-finite : (v : Pair) → nutationInEqCoordsRule p long oblq tru ≡ answered v → BothFinite v
+  nutation-in-eq-coords-finite v e =
+      let i = nutation-in-eq-coords-answers v e in
+      (i .0 .finite, i .1 .finite)
 
   pub nutation-in-eq-coords-refuses : nutationInRefusal p long oblq tru ≡ 0 → (n : ℕ) → nutationInEqCoordsRule p long oblq tru ≡ refused n → ⊥
   unfolding nutationInEqCoordsRule
-  nutation-in-eq-coords-refuses = rule-refuses (nutationInRefusal p long oblq tru) (answered shifted) nutation-in-outcome
+  nutation-in-eq-coords-refuses = rule-refuses (nutationInRefusal p long oblq tru) (answered shifted) outcome

@@ -24,7 +24,7 @@ use Rattle.nutation.specs.rules.Arguments.{moonOf}
 use Rattle.nutation.specs.rules.Rows.{rows}
 use Rattle.nutation.specs.rules.Sum.{whole, argumentOf, unit, share, withRow, summed, none, converted, nutationOf, nutationRule}
 use Rattle.domain.specs.notions.Outcome.{Outcome, Never}
-use Rattle.domain.specs.notions.Within.{Within, BothFinite}
+use Rattle.domain.specs.notions.Within.{Within, BothFinite, BothWithin}
 use Rattle.domain.specs.notions.Nutation.{Moon, Row, EachRow, MoonNear, argumentRange, argumentsNear, shareRange, longRange, oblqRange}
 use Rattle.domain.specs.laws.Outcome.{outcome-answered, rule-answers, rule-refuses}
 use Rattle.domain.specs.laws.Near.{within, near-far, near-sine, near-cosine}
@@ -112,15 +112,20 @@ module _ (day : Float) (accepted : dayRefusal day ≡ 0) where
       let z : Between zero zero zero = between-itself {c = zero} (unfold isFinite ofBits in tt) in
       summed-between moon near rows none (zero to zero) rows-near z z (neg one) one long-degree oblq-degree
 
-  nutation-outcome : Outcome BothFinite Never (answered (pair (nutationOf day .long) (nutationOf day .oblq)))
+  nutation-outcome : Outcome (BothWithin 1) Never (answered (pair (nutationOf day .long) (nutationOf day .oblq)))
   unfolding nutationOf converted isFinite le neg mul ofBits round
   nutation-outcome =
       outcome-answered (pair (nutationOf day .long) (nutationOf day .oblq))
-      (within 1 (known (sums-between .0) ⊠ con degree) tt .finite, within 1 (known (sums-between .1) ⊠ con degree) tt .finite)
+      (within 1 (known (sums-between .0) ⊠ con degree) tt, within 1 (known (sums-between .1) ⊠ con degree) tt)
+
+pub nutation-answers : (day : Float) (v : Pair) → nutationRule day ≡ answered v → BothWithin 1 v
+unfolding nutationRule
+nutation-answers day = rule-answers (dayRefusal day) (answered (pair (nutationOf day .long) (nutationOf day .oblq))) (nutation-outcome day)
 
 pub nutation-finite : (day : Float) (v : Pair) → nutationRule day ≡ answered v → BothFinite v
-unfolding nutationRule
-nutation-finite day = rule-answers (dayRefusal day) (answered (pair (nutationOf day .long) (nutationOf day .oblq))) (nutation-outcome day)
+nutation-finite day v e =
+    let i = nutation-answers day v e in
+    (i .0 .finite, i .1 .finite)
 
 pub nutation-refuses : (day : Float) → dayRefusal day ≡ 0 → (n : ℕ) → nutationRule day ≡ refused n → ⊥
 unfolding nutationRule

@@ -23,7 +23,7 @@ use Rattle.domain.specs.notions.Outcome.{Outcome, Never}
 use Rattle.domain.specs.notions.Within.{Within, BothFinite, BothWithin}
 use Rattle.domain.specs.notions.Aberration.{Held}
 use Rattle.domain.specs.laws.Outcome.{outcome-answered, rule-answers, rule-refuses}
-use Rattle.domain.specs.laws.Near.{within, both-finite}
+use Rattle.domain.specs.laws.Near.{within}
 use Rattle.domain.specs.laws.Days.{century-within}
 use Rattle.domain.specs.laws.Rows1To12.{row1-held, row2-held, row3-held, row4-held, row5-held, row6-held, row7-held, row8-held, row9-held, row10-held, row11-held, row12-held}
 use Rattle.domain.specs.laws.Rows13To24.{row13-held, row14-held, row15-held, row16-held, row17-held, row18-held, row19-held, row20-held, row21-held, row22-held, row23-held, row24-held}
@@ -82,9 +82,9 @@ module _ (p : EqPoint) (day : Float) where
   abbrev shifted : Pair
   shifted = pair (stellAberrInEqCoordsIn p day .asc) (stellAberrInEqCoordsIn p day .dec)
 
-  pub stell-aberr-outcome : {Q : ℕ → Type 0} → stellAberrRefusal p day ≡ 0 → Outcome (BothWithin 8) Q (answered shifted)
+  outcome : stellAberrRefusal p day ≡ 0 → Outcome (BothWithin 8) Never (answered shifted)
   unfolding stellAberrInEqCoordsIn aberrAt directionOf velocityOf isFinite le neg add sub mul div ofBits round
-  stell-aberr-outcome e =
+  outcome e =
       let asc : Rad = record { 0 = p .asc } in
       let dec : Rad = record { 0 = p .dec } in
       let n = lower-none (lower (angleRefusal asc) (steepRefusal dec)) (dayRefusal day) e in
@@ -98,11 +98,15 @@ module _ (p : EqPoint) (day : Float) where
       outcome-answered shifted
       (within 8 ((known (held .y) ⊠ ca ⊟ known (held .x) ⊠ sa) ⧄ (con light ⊠ cd)) tt, within 8 (known (between-neg top) ⧄ con light) tt)
 
-  pub stell-aberr-in-eq-coords-finite : (v : Pair) → stellAberrInEqCoordsRule p day ≡ answered v → BothFinite v
+  pub stell-aberr-in-eq-coords-answers : (v : Pair) → stellAberrInEqCoordsRule p day ≡ answered v → BothWithin 8 v
   unfolding stellAberrInEqCoordsRule
-  stell-aberr-in-eq-coords-finite =
-      rule-answers (stellAberrRefusal p day) (answered shifted) (λ e. both-finite 8 (stell-aberr-outcome {Q = Never} e))
+  stell-aberr-in-eq-coords-answers = rule-answers (stellAberrRefusal p day) (answered shifted) outcome
+
+  pub stell-aberr-in-eq-coords-finite : (v : Pair) → stellAberrInEqCoordsRule p day ≡ answered v → BothFinite v
+  stell-aberr-in-eq-coords-finite v e =
+      let i = stell-aberr-in-eq-coords-answers v e in
+      (i .0 .finite, i .1 .finite)
 
   pub stell-aberr-in-eq-coords-refuses : stellAberrRefusal p day ≡ 0 → (n : ℕ) → stellAberrInEqCoordsRule p day ≡ refused n → ⊥
   unfolding stellAberrInEqCoordsRule
-  stell-aberr-in-eq-coords-refuses = rule-refuses (stellAberrRefusal p day) (answered shifted) stell-aberr-outcome
+  stell-aberr-in-eq-coords-refuses = rule-refuses (stellAberrRefusal p day) (answered shifted) outcome
