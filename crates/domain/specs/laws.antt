@@ -1,7 +1,4 @@
 -- What holds on the stated domain. Theorems only.
-pub mod Outcome
-pub mod Elementary
-pub mod Near
 pub mod Days
 pub mod Annual
 pub mod Equatorial

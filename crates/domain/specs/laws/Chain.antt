@@ -28,10 +28,10 @@ use Rattle.aberr.specs.rules.Star.{stellAberrRefusal, stellAberrInEqCoordsIn, s
 use Rattle.chain.specs.rules.Numbers.{n84381·448, n46·8150, n0·00059, n0·001813}
 use Rattle.chain.specs.rules.Obliquity.{meanObliquity, obliquityOf}
 use Rattle.chain.specs.rules.Chain.{point, rad, sum, fromPoint, chainRule}
-use Rattle.domain.specs.notions.Outcome.{Outcome, FourOrSeven}
-use Rattle.domain.specs.notions.Within.{Within, IsPlace, BothFinite, BothWithin}
-use Rattle.domain.specs.laws.Outcome.{outcome-answered, outcome-then}
-use Rattle.domain.specs.laws.Near.{within}
+use Rattle.conditions.specs.notions.Outcome.{Outcome, FourOrSeven}
+use Rattle.conditions.specs.notions.Within.{Within, IsPlace, BothFinite, BothWithin}
+use Rattle.conditions.specs.laws.Outcome.{outcome-answered, outcome-then}
+use Rattle.conditions.specs.laws.Near.{within}
 use Rattle.domain.specs.laws.Days.{century-within, second-accepted, place-accepted}
 use Rattle.domain.specs.laws.Equatorial.{precess-eq-coords-answers, precess-eq-coords-refuses}
 use Rattle.domain.specs.laws.NutationSum.{nutation-answers, nutation-refuses}

@@ -19,7 +19,7 @@ use Rattle.helpers.specs.rules.Time.{daysOfCentury, centuryOf}
 use Rattle.precess.specs.rules.Numbers.{n36525, n2415020·3135, n36524·2199}
 use Rattle.precess.specs.rules.Days.{spanOf, daysRefusal, placeRefusal}
 use Rattle.precess.specs.rules.Fk4.{fk4Century, fk4Span}
-use Rattle.domain.specs.notions.Within.{Within}
+use Rattle.conditions.specs.notions.Within.{Within}
 
 finite-epoch : Finite epoch
 unfolding isFinite ofBits

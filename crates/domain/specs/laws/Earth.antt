@@ -17,11 +17,11 @@ use Rattle.elementary.specs.laws.Accepted.{lower-none, height-accepted}
 use Rattle.elementary.specs.laws.Sine.{sine-between, cosine-between}
 use Rattle.helpers.specs.rules.Earth.{ratio, radius, rhoAt, rhoIn, rhoRefusal, rhoSinCosPhiRule}
 use Rattle.conditions.specs.laws.Accepted.{steep-far, steep-tangent}
-use Rattle.domain.specs.notions.Outcome.{Outcome, Never}
-use Rattle.domain.specs.notions.Within.{Within, BothFinite, BothWithin}
-use Rattle.domain.specs.laws.Outcome.{outcome-answered, outcome-wider, outcome-then, rule-answers, rule-refuses}
-use Rattle.domain.specs.laws.Elementary.{arctangent-outcome}
-use Rattle.domain.specs.laws.Near.{within, near-far, near-sine, near-cosine}
+use Rattle.conditions.specs.notions.Outcome.{Outcome, Never}
+use Rattle.conditions.specs.notions.Within.{Within, BothFinite, BothWithin}
+use Rattle.conditions.specs.laws.Outcome.{outcome-answered, outcome-wider, outcome-then, rule-answers, rule-refuses}
+use Rattle.conditions.specs.laws.Elementary.{arctangent-outcome}
+use Rattle.conditions.specs.laws.Near.{within, near-far, near-sine, near-cosine}
 
 module _ (lat : Rad) (height : Float) (L : steepRefusal lat ≡ 0) (H : heightRefusal height ≡ 0) where
   -- u, which goes into a sine

@@ -20,12 +20,12 @@ use Rattle.precess.specs.rules.Numbers.{n0·000598, n47·0029, n0·06603, m0·0
 use Rattle.precess.specs.rules.Days.{spanOf, daysRefusal, placeRefusal}
 use Rattle.precess.specs.rules.Ecliptic.{eclNu, eclPi, eclRho, eclTurned, eclTurnsOf, eclPlaced, eclTurnedIn, precessEclCoordsRule}
 use Rattle.conditions.specs.laws.Accepted.{angle-between, latitude-sine, latitude-cosine}
-use Rattle.domain.specs.notions.Outcome.{Outcome, Seven}
-use Rattle.domain.specs.notions.Within.{Within, IsPlace, BothFinite}
+use Rattle.conditions.specs.notions.Outcome.{Outcome, Seven}
+use Rattle.conditions.specs.notions.Within.{Within, IsPlace, BothFinite}
 use Rattle.domain.specs.notions.Turns.{EclTurnsNear}
-use Rattle.domain.specs.laws.Outcome.{outcome-with, outcome-both, rule-answers, rule-refuses}
-use Rattle.domain.specs.laws.Elementary.{arctangent-outcome, arcsine-outcome}
-use Rattle.domain.specs.laws.Near.{within, near-far, near-sine, near-cosine}
+use Rattle.conditions.specs.laws.Outcome.{outcome-with, outcome-both, rule-answers, rule-refuses}
+use Rattle.conditions.specs.laws.Elementary.{arctangent-outcome, arcsine-outcome}
+use Rattle.conditions.specs.laws.Near.{within, near-far, near-sine, near-cosine}
 use Rattle.domain.specs.laws.Days.{century-within, span-within, first-accepted, place-accepted}
 
 -- ---- the angles that two days fix

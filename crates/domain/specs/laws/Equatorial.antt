@@ -21,12 +21,12 @@ use Rattle.precess.specs.rules.Days.{spanOf, daysRefusal, placeRefusal}
 use Rattle.precess.specs.rules.Equatorial.{eqXi, eqZeta, eqTheta, turnsOf, eqTurnsOf, placed, turnedIn, precessEqCoordsRule}
 use Rattle.precess.specs.rules.Fk4.{fk4Century, fk4Span, fk4Xi, fk4Zeta, fk4Theta, degreesAsRadians, fk4TurnsOf, precessEqCoordsFK5Rule}
 use Rattle.conditions.specs.laws.Accepted.{angle-between, latitude-sine, latitude-cosine}
-use Rattle.domain.specs.notions.Outcome.{Outcome, Seven}
-use Rattle.domain.specs.notions.Within.{Within, IsPlace, BothFinite}
+use Rattle.conditions.specs.notions.Outcome.{Outcome, Seven}
+use Rattle.conditions.specs.notions.Within.{Within, IsPlace, BothFinite}
 use Rattle.domain.specs.notions.Turns.{EqTurnsNear}
-use Rattle.domain.specs.laws.Outcome.{outcome-with, outcome-both, rule-answers, rule-refuses}
-use Rattle.domain.specs.laws.Elementary.{arctangent-outcome, arcsine-outcome}
-use Rattle.domain.specs.laws.Near.{within, near-far, near-sine, near-cosine}
+use Rattle.conditions.specs.laws.Outcome.{outcome-with, outcome-both, rule-answers, rule-refuses}
+use Rattle.conditions.specs.laws.Elementary.{arctangent-outcome, arcsine-outcome}
+use Rattle.conditions.specs.laws.Near.{within, near-far, near-sine, near-cosine}
 use Rattle.domain.specs.laws.Days.{century-within, span-within, fk4-century-within, fk4-span-within, first-accepted, place-accepted}
 
 -- ---- the angles that two days fix

@@ -19,9 +19,9 @@ use Rattle.elementary.specs.rules.Sine.{foldedSine}
 use Rattle.elementary.specs.laws.Accepted.{distance-accepted}
 use Rattle.elementary.specs.laws.Arcsine.{arcsine-refuses-seven}
 use Rattle.parallax.specs.rules.Horizontal.{sunParallax, eqHzParallaxIn, eqHzParallaxRule}
-use Rattle.domain.specs.notions.Outcome.{Outcome, Never}
-use Rattle.domain.specs.laws.Outcome.{rule-answers, rule-refuses}
-use Rattle.domain.specs.laws.Elementary.{arcsine-outcome}
+use Rattle.conditions.specs.notions.Outcome.{Outcome, Never}
+use Rattle.conditions.specs.laws.Outcome.{rule-answers, rule-refuses}
+use Rattle.conditions.specs.laws.Elementary.{arcsine-outcome}
 
 module _ (dist : Float) where
   -- the arcsine's argument is 1 at most in size

@@ -12,10 +12,10 @@ use Rattle.elementary.specs.rules.Direction.{directionOf}
 use Rattle.elementary.specs.laws.Accepted.{lower-none}
 use Rattle.nutation.specs.rules.Point.{nutationAt, nutationInRefusal, nutationInEqCoordsIn, nutationInEqCoordsRule}
 use Rattle.conditions.specs.laws.Accepted.{none-of-three, angle-between, angle-sine, angle-cosine, steep-tangent}
-use Rattle.domain.specs.notions.Outcome.{Outcome, Never}
-use Rattle.domain.specs.notions.Within.{BothFinite, BothWithin}
-use Rattle.domain.specs.laws.Outcome.{outcome-answered, rule-answers, rule-refuses}
-use Rattle.domain.specs.laws.Near.{within}
+use Rattle.conditions.specs.notions.Outcome.{Outcome, Never}
+use Rattle.conditions.specs.notions.Within.{BothFinite, BothWithin}
+use Rattle.conditions.specs.laws.Outcome.{outcome-answered, rule-answers, rule-refuses}
+use Rattle.conditions.specs.laws.Near.{within}
 
 module _ (p : EqPoint) (long oblq tru : Rad) where
   abbrev shifted : Pair

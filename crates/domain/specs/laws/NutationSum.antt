@@ -23,11 +23,11 @@ use Rattle.nutation.specs.rules.Numbers.{n10}
 use Rattle.nutation.specs.rules.Arguments.{moonOf}
 use Rattle.nutation.specs.rules.Rows.{rows}
 use Rattle.nutation.specs.rules.Sum.{whole, argumentOf, unit, share, withRow, summed, none, converted, nutationOf, nutationRule}
-use Rattle.domain.specs.notions.Outcome.{Outcome, Never}
-use Rattle.domain.specs.notions.Within.{Within, BothFinite, BothWithin}
+use Rattle.conditions.specs.notions.Outcome.{Outcome, Never}
+use Rattle.conditions.specs.notions.Within.{Within, BothFinite, BothWithin}
 use Rattle.domain.specs.notions.Nutation.{Moon, Row, EachRow, MoonNear, argumentRange, argumentsNear, shareRange, longRange, oblqRange}
-use Rattle.domain.specs.laws.Outcome.{outcome-answered, rule-answers, rule-refuses}
-use Rattle.domain.specs.laws.Near.{within, near-far, near-sine, near-cosine}
+use Rattle.conditions.specs.laws.Outcome.{outcome-answered, rule-answers, rule-refuses}
+use Rattle.conditions.specs.laws.Near.{within, near-far, near-sine, near-cosine}
 use Rattle.domain.specs.laws.Days.{century-within}
 use Rattle.domain.specs.laws.NutationArguments.{moon-near}
 

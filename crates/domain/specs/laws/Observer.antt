@@ -10,11 +10,11 @@ use Rattle.quantity.specs.rules.Refusal.{lower, angleRefusal, steepRefusal, hei
 use Rattle.elementary.specs.rules.Arctangent.{arctangentIn}
 use Rattle.elementary.specs.laws.Accepted.{lower-none}
 use Rattle.parallax.specs.rules.Observer.{observerRefusal}
-use Rattle.domain.specs.notions.Outcome.{Outcome}
-use Rattle.domain.specs.notions.Within.{Within}
-use Rattle.domain.specs.laws.Outcome.{outcome-wider}
-use Rattle.domain.specs.laws.Elementary.{arctangent-outcome}
-use Rattle.domain.specs.laws.Near.{within}
+use Rattle.conditions.specs.notions.Outcome.{Outcome}
+use Rattle.conditions.specs.notions.Within.{Within}
+use Rattle.conditions.specs.laws.Outcome.{outcome-wider}
+use Rattle.conditions.specs.laws.Elementary.{arctangent-outcome}
+use Rattle.conditions.specs.laws.Near.{within}
 
 pub observer-accepted : (parallax : Rad) (place : GeographPoint) (height : Float) (sidereal : Rad) → observerRefusal parallax place height sidereal ≡ 0
     → (angleRefusal parallax ≡ 0) × (angleRefusal sidereal ≡ 0) × (angleRefusal (record { 0 = place .long }) ≡ 0) × (steepRefusal (record { 0 = place .lat }) ≡ 0) × (heightRefusal height ≡ 0)

@@ -24,12 +24,12 @@ use Rattle.precess.specs.rules.Days.{daysRefusal}
 use Rattle.precess.specs.rules.Ecliptic.{eclTurnsOf}
 use Rattle.precess.specs.rules.Orbit.{leanedOf, newInclination, newNode, nodeAndPerihelion, orbitFrom, orbitIn, orbitRefusal, precessOrbElementsRule}
 use Rattle.conditions.specs.laws.Accepted.{none-of-three, angle-between, angle-sine, angle-cosine}
-use Rattle.domain.specs.notions.Outcome.{Outcome, SixOrSeven}
-use Rattle.domain.specs.notions.Within.{Within, AllFinite}
+use Rattle.conditions.specs.notions.Outcome.{Outcome, SixOrSeven}
+use Rattle.conditions.specs.notions.Within.{Within, AllFinite}
 use Rattle.domain.specs.notions.Turns.{EclTurnsNear}
-use Rattle.domain.specs.laws.Outcome.{outcome-answered, outcome-refused, outcome-cond, outcome-wider, outcome-with, outcome-then, outcome-both, rule-answers, rule-refuses}
-use Rattle.domain.specs.laws.Elementary.{arctangent-outcome, arcsine-outcome, arcsine-number-outcome, quotient-not-nan, root-outcome}
-use Rattle.domain.specs.laws.Near.{within, near-far, near-sine, near-cosine}
+use Rattle.conditions.specs.laws.Outcome.{outcome-answered, outcome-refused, outcome-cond, outcome-wider, outcome-with, outcome-then, outcome-both, rule-answers, rule-refuses}
+use Rattle.conditions.specs.laws.Elementary.{arctangent-outcome, arcsine-outcome, arcsine-number-outcome, quotient-not-nan, root-outcome}
+use Rattle.conditions.specs.laws.Near.{within, near-far, near-sine, near-cosine}
 use Rattle.domain.specs.laws.Ecliptic.{ecl-turns-near}
 
 module _ (inc perih node : Rad) (turns : EclTurns) (I : angleRefusal inc ≡ 0) (P : angleRefusal perih ≡ 0) (O : angleRefusal node ≡ 0) (N : EclTurnsNear turns) where

@@ -11,9 +11,9 @@ use Rattle.aberr.specs.declared.Velocity.{Velocity}
 use Rattle.aberr.specs.rules.Numbers.{n1, n2, n3, n4, n5, n6, n7, n8, n9, n10, n11, n15, n16, n17, n19, n21}
 use Rattle.aberr.specs.rules.Arguments.{argumentsOf, rad, waveOf}
 use Rattle.aberr.specs.rules.Rows.{row13, row14, row15, row16, row17, row18, row19, row20, row21, row22, row23, row24}
-use Rattle.domain.specs.notions.Within.{Within}
+use Rattle.conditions.specs.notions.Within.{Within}
 use Rattle.domain.specs.notions.Aberration.{Held, l2, l3, l5, l7, l8}
-use Rattle.domain.specs.laws.Near.{within, up-to-farthest}
+use Rattle.conditions.specs.laws.Near.{within, up-to-farthest}
 
 module _ (t : Float) (T : Within 20 t) where
   pub row13-argument : size (n2 ⊗ argumentsOf t .l2 ⊖ argumentsOf t .l3) ≼ farthestAlone

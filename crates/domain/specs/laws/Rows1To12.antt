@@ -11,9 +11,9 @@ use Rattle.aberr.specs.declared.Velocity.{Velocity}
 use Rattle.aberr.specs.rules.Numbers.{n2, n3, n4, n5, n6, n8, n9, n10, n11, n12, n13, n15, n16, n25, n26, n28, n30, n31, n32, n33, n36, n39, n48, n55, n59, n61, n94, n95, n107, n130, n141, n147, n156, n159, n193, n216, n236, n282, n285, n358, n446, n486, n656, n657, n715, n2559, n5904, n6434, n11141, n25697, n28007, n684185, n1578089, n1719914}
 use Rattle.aberr.specs.rules.Arguments.{argumentsOf, rad, waveOf}
 use Rattle.aberr.specs.rules.Rows.{row1, row2, row3, row4, row5, row6, row7, row8, row9, row10, row11, row12}
-use Rattle.domain.specs.notions.Within.{Within}
+use Rattle.conditions.specs.notions.Within.{Within}
 use Rattle.domain.specs.notions.Aberration.{Held, l3, l4, l5, l6, l1, m1, f}
-use Rattle.domain.specs.laws.Near.{within, up-to-farthest}
+use Rattle.conditions.specs.laws.Near.{within, up-to-farthest}
 
 module _ (t : Float) (T : Within 20 t) where
   pub row1-argument : size (argumentsOf t .l3) ≼ farthestAlone

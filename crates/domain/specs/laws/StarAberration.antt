@@ -19,11 +19,11 @@ use Rattle.aberr.specs.rules.Arguments.{argumentsOf}
 use Rattle.aberr.specs.rules.Velocity.{rows, summed, none, velocityOf}
 use Rattle.aberr.specs.rules.Star.{light, aberrAt, stellAberrRefusal, stellAberrInEqCoordsIn, stellAberrInEqCoordsRule}
 use Rattle.conditions.specs.laws.Accepted.{angle-sine, angle-cosine, steep-far}
-use Rattle.domain.specs.notions.Outcome.{Outcome, Never}
-use Rattle.domain.specs.notions.Within.{Within, BothFinite, BothWithin}
+use Rattle.conditions.specs.notions.Outcome.{Outcome, Never}
+use Rattle.conditions.specs.notions.Within.{Within, BothFinite, BothWithin}
 use Rattle.domain.specs.notions.Aberration.{Held}
-use Rattle.domain.specs.laws.Outcome.{outcome-answered, rule-answers, rule-refuses}
-use Rattle.domain.specs.laws.Near.{within}
+use Rattle.conditions.specs.laws.Outcome.{outcome-answered, rule-answers, rule-refuses}
+use Rattle.conditions.specs.laws.Near.{within}
 use Rattle.domain.specs.laws.Days.{century-within}
 use Rattle.domain.specs.laws.Rows1To12.{row1-held, row2-held, row3-held, row4-held, row5-held, row6-held, row7-held, row8-held, row9-held, row10-held, row11-held, row12-held}
 use Rattle.domain.specs.laws.Rows13To24.{row13-held, row14-held, row15-held, row16-held, row17-held, row18-held, row19-held, row20-held, row21-held, row22-held, row23-held, row24-held}

@@ -11,9 +11,9 @@ use Rattle.elementary.specs.laws.Accepted.{distance-accepted}
 use Rattle.helpers.specs.rules.Angle.{arc, radiansOf}
 use Rattle.aberr.specs.rules.Numbers.{n20·4898}
 use Rattle.aberr.specs.rules.Sun.{solAberrOf, solAberrRule}
-use Rattle.domain.specs.notions.Outcome.{Outcome, Never}
-use Rattle.domain.specs.laws.Outcome.{outcome-answered, rule-answers, rule-refuses}
-use Rattle.domain.specs.laws.Near.{within}
+use Rattle.conditions.specs.notions.Outcome.{Outcome, Never}
+use Rattle.conditions.specs.laws.Outcome.{outcome-answered, rule-answers, rule-refuses}
+use Rattle.conditions.specs.laws.Near.{within}
 
 module _ (dist : Float) where
   outcome : distanceRefusal dist ≡ 0 → Outcome Finite Never (answered (solAberrOf dist))

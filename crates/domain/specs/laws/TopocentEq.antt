@@ -22,10 +22,10 @@ use Rattle.coords.specs.rules.HourAngle.{hrAnglFrmObserverLong}
 use Rattle.parallax.specs.rules.Observer.{centreOf, observerRefusal}
 use Rattle.parallax.specs.rules.Equatorial.{eastward, ahead, topocentDec, topocentFrom, topocentAt, topocentIn, topocentRefusal, topocentEqCoordsRule}
 use Rattle.conditions.specs.laws.Accepted.{angle-between, angle-sine, latitude-sine, latitude-cosine}
-use Rattle.domain.specs.notions.Outcome.{Outcome, Never}
-use Rattle.domain.specs.notions.Within.{Within, PointFinite}
-use Rattle.domain.specs.laws.Outcome.{outcome-answered, outcome-then, rule-answers, rule-refuses}
-use Rattle.domain.specs.laws.Near.{within, near-far, near-sine, near-cosine}
+use Rattle.conditions.specs.notions.Outcome.{Outcome, Never}
+use Rattle.conditions.specs.notions.Within.{Within, PointFinite}
+use Rattle.conditions.specs.laws.Outcome.{outcome-answered, outcome-then, rule-answers, rule-refuses}
+use Rattle.conditions.specs.laws.Near.{within, near-far, near-sine, near-cosine}
 use Rattle.domain.specs.laws.Earth.{rho-outcome}
 use Rattle.domain.specs.laws.Observer.{observer-accepted, arctangent-near}
 

@@ -23,11 +23,11 @@ use Rattle.helpers.specs.laws.Limit.{limited-radians}
 use Rattle.parallax.specs.rules.Observer.{centreOf, observerRefusal}
 use Rattle.parallax.specs.rules.Ecliptic.{nearby, longTop, latTop, semidiameterIn, eclipticFrom, eclipticAlong, eclipticAt, eclipticIn, topopcentRefusal, topopcentEclCoordsRule}
 use Rattle.conditions.specs.laws.Accepted.{angle-sine, angle-cosine, latitude-sine, latitude-cosine}
-use Rattle.domain.specs.notions.Outcome.{Outcome, SixOrSeven}
-use Rattle.domain.specs.notions.Within.{Within, AllFinite}
-use Rattle.domain.specs.laws.Outcome.{outcome-answered, outcome-refused, outcome-cond, outcome-then, rule-answers, rule-refuses}
-use Rattle.domain.specs.laws.Elementary.{arcsine-number-outcome, quotient-not-nan}
-use Rattle.domain.specs.laws.Near.{within, near-far, near-cosine}
+use Rattle.conditions.specs.notions.Outcome.{Outcome, SixOrSeven}
+use Rattle.conditions.specs.notions.Within.{Within, AllFinite}
+use Rattle.conditions.specs.laws.Outcome.{outcome-answered, outcome-refused, outcome-cond, outcome-then, rule-answers, rule-refuses}
+use Rattle.conditions.specs.laws.Elementary.{arcsine-number-outcome, quotient-not-nan}
+use Rattle.conditions.specs.laws.Near.{within, near-far, near-cosine}
 use Rattle.domain.specs.laws.Earth.{rho-outcome}
 use Rattle.domain.specs.laws.Observer.{observer-accepted, arctangent-near}
 

@@ -10,7 +10,7 @@ use Rattle.nutation.specs.rules.Numbers.{n10}
 use Rattle.nutation.specs.rules.Arguments.{moonOf}
 use Rattle.nutation.specs.rules.Rows.{rows}
 use Rattle.nutation.specs.rules.Sum.{whole, unit}
-use Rattle.domain.specs.notions.Within.{Within}
+use Rattle.conditions.specs.notions.Within.{Within}
 
 -- ---- the sorts of the arguments and of the rows, by a value of each
 

@@ -4,7 +4,7 @@ use Rattle.double.specs.rules.Operations.{one}
 use Rattle.double.specs.rules.Order.{Between}
 use Rattle.precess.specs.declared.EqTurns.{EqTurns}
 use Rattle.precess.specs.declared.EclTurns.{EclTurns}
-use Rattle.domain.specs.notions.Within.{Within}
+use Rattle.conditions.specs.notions.Within.{Within}
 
 pub record EqTurnsNear (turns : EqTurns) : Type 0 where
   pub xi : Within 1024 (turns .xi)

@@ -25,8 +25,8 @@ use Rattle.elementary.specs.rules.Arctangent.{arctangentOf, arctangentIn}
 use Rattle.elementary.specs.rules.Arcsine.{arcsineIn}
 use Rattle.elementary.specs.laws.Arctangent.{arctangent-at-most-pi}
 use Rattle.elementary.specs.laws.Arcsine.{arcsine-at-most-half, arcsine-refuses-seven}
-use Rattle.domain.specs.notions.Outcome.{Outcome}
-use Rattle.domain.specs.laws.Outcome.{outcome-answered, outcome-refused}
+use Rattle.conditions.specs.notions.Outcome.{Outcome}
+use Rattle.conditions.specs.laws.Outcome.{outcome-answered, outcome-refused}
 
 -- ---- arctangent
 

@@ -6,8 +6,8 @@ use lib.Dec.{T}
 use lib.Ieee.{Float}
 use Rattle.quantity.specs.rules.Answer.{Answer, answered, refused, Pair, pair, first, second, unless, with, then, both}
 use Rattle.elementary.specs.laws.Accepted.{answered-unless}
 use Rattle.conditions.specs.laws.Answers.{refused-not-answered}
-use Rattle.domain.specs.notions.Outcome.{Outcome}
+use Rattle.conditions.specs.notions.Outcome.{Outcome}
 
 -- ---- a value, and a refusal
 

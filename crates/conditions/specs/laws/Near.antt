@@ -13,7 +13,7 @@ use Rattle.double.specs.laws.Interval.{bounded}
 use Rattle.quantity.specs.declared.Rad.{Rad}
 use Rattle.elementary.specs.rules.Sine.{sineOf, cosineOf, farthestAlone}
 use Rattle.elementary.specs.laws.Sine.{sine-between, cosine-between}
-use Rattle.domain.specs.notions.Within.{Within}
+use Rattle.conditions.specs.notions.Within.{Within}
 
 -- an expression's value lies within n, as its range does
 pub within : (n : ℕ) (e : Expr) → T (inside (neg (over n 1)) (over n 1) (range binary64 e)) → Within n (value binary64 e)
