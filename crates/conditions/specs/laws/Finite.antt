@@ -144,20 +144,20 @@ dec-frm-hz-at-most-quarter-turn z a p v answer =
 pub dec-frm-hz-finite : (z a p : Rad) (v : Float) → decFrmHzRule z a p ≡ answered v → Finite v
 dec-frm-hz-finite z a p v answer = finite-of-quarter-turn v (dec-frm-hz-at-most-quarter-turn z a p v answer)
 
--- ---- equatorial and galactic
+-- ---- equatorial and galactic: the three angles that go into a sine, then the functions
 
-pole-far : size (radiansOf poleDec .0) ≼ farthestAlone
+pub pole-far : size (radiansOf poleDec .0) ≼ farthestAlone
 unfolding size le mul ofBits
 pole-far = tt
 
 -- 192.25 degrees less a
-node-far : (a : Rad) → angleRefusal a ≡ 0 → size (radiansOf poleAsc .0 ⊖ a .0) ≼ farthestAlone
+pub node-far : (a : Rad) → angleRefusal a ≡ 0 → size (radiansOf poleAsc .0 ⊖ a .0) ≼ farthestAlone
 unfolding isFinite le neg add sub mul ofBits round
 node-far a none =
     near-far (radiansOf poleAsc .0 ⊖ a .0) (within 2048 (con (radiansOf poleAsc .0) ⊟ known (angle-between a none)) tt)
 
 -- l less 123 degrees
-centre-far : (l : Rad) → angleRefusal l ≡ 0 → size (l .0 ⊖ radiansOf northLong .0) ≼ farthestAlone
+pub centre-far : (l : Rad) → angleRefusal l ≡ 0 → size (l .0 ⊖ radiansOf northLong .0) ≼ farthestAlone
 unfolding isFinite le neg add sub mul ofBits round
 centre-far l none =
     near-far (l .0 ⊖ radiansOf northLong .0) (within 2048 (known (angle-between l none) ⊟ con (radiansOf northLong .0)) tt)

@@ -18,6 +18,7 @@ use Rattle.quantity.specs.rules.Angle.{HALF}
 use Rattle.quantity.specs.rules.Answer.{Answer, answered, refused, Pair, pair, first, second, unless, then}
 use Rattle.quantity.specs.rules.Refusal.{past, dayRefusal, farthest, steepest, angleRefusal, latitudeRefusal, steepRefusal}
 use Rattle.quantity.specs.laws.Answer.{then-unless}
+use Rattle.elementary.specs.rules.Sine.{farthestAlone}
 use Rattle.elementary.specs.laws.Accepted.{answered-unless}
 use Rattle.helpers.specs.rules.Angle.{arc, degree}
 use Rattle.precess.specs.rules.Days.{placeRefusal}
@@ -31,7 +32,7 @@ use Rattle.chain.specs.rules.Chain.{point, rad, sum, fromPoint, chainRule}
 use Rattle.conditions.specs.notions.Outcome.{Outcome, FourOrSeven}
 use Rattle.conditions.specs.notions.Within.{Within, IsPlace, BothFinite, BothWithin}
 use Rattle.conditions.specs.laws.Outcome.{outcome-answered, outcome-then}
-use Rattle.conditions.specs.laws.Near.{within}
+use Rattle.conditions.specs.laws.Near.{within, near-far}
 use Rattle.domain.specs.laws.Days.{century-within, second-accepted, place-accepted}
 use Rattle.domain.specs.laws.Equatorial.{precess-eq-coords-answers, precess-eq-coords-refuses}
 use Rattle.domain.specs.laws.NutationSum.{nutation-answers, nutation-refuses}
@@ -70,6 +71,11 @@ obliquity-within day none =
     let C = known (century-within day none) in
     within 64
     ((con (arc n84381·448) ⊟ C ⊠ (con (arc n46·8150) ⊞ C ⊠ (con (arc n0·00059) ⊟ C ⊠ con (arc n0·001813)))) ⊠ con degree) tt
+
+-- the obliquity goes into a sine
+pub obliquity-far : (day : Float) → dayRefusal day ≡ 0 → size (obliquityOf day .0) ≼ farthestAlone
+unfolding isFinite le neg round
+obliquity-far day none = near-far (obliquityOf day .0) (within 2048 (known (obliquity-within day none)) tt)
 
 refused-four : (k : ℕ) (a : Answer Pair) (n : ℕ) → k ≡ 4 → unless k a ≡ refused n → n ≡ 4
 refused-four k a n f e = same (subst (λ (k : ℕ). unless k a ≡ refused n) f e)
