@@ -15,13 +15,20 @@ use Rattle.quantity.specs.rules.Angle.{HALF}
 use Rattle.quantity.specs.rules.Answer.{answered, refused}
 use Rattle.quantity.specs.rules.Refusal.{distanceRefusal}
 use Rattle.elementary.specs.rules.Fold.{fold}
-use Rattle.elementary.specs.rules.Sine.{foldedSine}
+use Rattle.elementary.specs.rules.Sine.{foldedSine, farthestAlone}
 use Rattle.elementary.specs.laws.Accepted.{distance-accepted}
 use Rattle.elementary.specs.laws.Arcsine.{arcsine-refuses-seven}
+use Rattle.helpers.specs.rules.Angle.{arc, radiansOf}
+use Rattle.parallax.specs.rules.Numbers.{n8·794}
 use Rattle.parallax.specs.rules.Horizontal.{sunParallax, eqHzParallaxIn, eqHzParallaxRule}
 use Rattle.conditions.specs.notions.Outcome.{Outcome, Never}
 use Rattle.conditions.specs.laws.Outcome.{rule-answers, rule-refuses}
 use Rattle.conditions.specs.laws.Elementary.{arcsine-outcome}
+
+-- 8.794 seconds go into a sine
+pub sun-parallax-far : size (radiansOf (record { 0 = arc n8·794 }) .0) ≼ farthestAlone
+unfolding size le mul div ofBits
+sun-parallax-far = tt
 
 module _ (dist : Float) where
   -- the arcsine's argument is 1 at most in size
