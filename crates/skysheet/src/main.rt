@@ -62,8 +62,9 @@ fn refusal(n: u8) {
     io::print_decimal(1, n as u64);
 }
 
-fn published(text: &[u8]) {
-    word(b"  published ");
+// What it is to be held against.
+fn beside(text: &[u8]) {
+    word(b"  ");
     word(text);
     word(b"\n");
 }
@@ -77,7 +78,7 @@ fn one(name: &[u8], a: One, unit: f64, figure: &[u8]) {
         }
         One::Refused(n) => refusal(n),
     }
-    published(figure);
+    beside(figure);
 }
 
 fn two(name: &[u8], a: Two, unit: f64, figure: &[u8]) {
@@ -91,7 +92,7 @@ fn two(name: &[u8], a: Two, unit: f64, figure: &[u8]) {
         }
         Two::Refused(n) => refusal(n),
     }
-    published(figure);
+    beside(figure);
 }
 
 fn three(name: &[u8], a: Three, unit: f64, figure: &[u8]) {
@@ -107,7 +108,7 @@ fn three(name: &[u8], a: Three, unit: f64, figure: &[u8]) {
         }
         Three::Refused(n) => refusal(n),
     }
-    published(figure);
+    beside(figure);
 }
 
 fn point(name: &[u8], a: Point, unit: f64, figure: &[u8]) {
@@ -121,7 +122,7 @@ fn point(name: &[u8], a: Point, unit: f64, figure: &[u8]) {
         }
         Point::Refused(n) => refusal(n),
     }
-    published(figure);
+    beside(figure);
 }
 
 // ---- the cases
@@ -131,26 +132,41 @@ fn deg(x: f64) -> Rad {
 }
 
 fn limits() {
-    one(b"day 3182045.0: century", time::julian_cent(3182045.0), 1.0, b"accepted");
-    one(b"the next double:", time::julian_cent(3182045.0000000005), 1.0, b"refused 2");
-    one(b"sol_aberr 0.0:", aberr::sol_aberr(0.0), SECONDS, b"refused 5");
+    one(
+        b"day 3182045.0: century",
+        time::julian_cent(3182045.0),
+        1.0,
+        b"expected: accepted",
+    );
+    one(
+        b"the next double:",
+        time::julian_cent(3182045.0000000005),
+        1.0,
+        b"expected: refused 2",
+    );
+    one(
+        b"sol_aberr 0.0:",
+        aberr::sol_aberr(0.0),
+        SECONDS,
+        b"expected: refused 5",
+    );
     three(
         b"inclination 0, equal days:",
         precess::precess_orb_elements(Rad(0.0), Rad(1.0), Rad(1.0), J2000, J2000),
         DEGREES,
-        b"refused 6",
+        b"expected: refused 6",
     );
     one(
         b"azimuth, declination 1.57:",
         coords::az_frm_eq(Rad(1.0), Rad(1.57), Rad(0.5)),
         DEGREES,
-        b"accepted",
+        b"expected: accepted",
     );
     one(
         b"the next double:",
         coords::az_frm_eq(Rad(1.0), Rad(1.5700000000000003), Rad(0.5)),
         DEGREES,
-        b"refused 4",
+        b"expected: refused 4",
     );
 }
 
@@ -159,67 +175,75 @@ fn frames() {
         b"11.a rho sin, rho cos:",
         Earth::rho_sin_cos_phi(deg(33.35611111111111), 1706.0),
         1.0,
-        b"0.546861 0.836339",
+        b"published: 0.546861 0.836339",
     );
     one(
         b"13.a longitude:",
         coords::ecl_long_frm_eq(deg(116.328942), deg(28.026183), deg(23.4392911)),
         DEGREES,
-        b"113.215630",
+        b"published: 113.215630",
     );
     one(
         b"13.a latitude:",
         coords::ecl_lat_frm_eq(deg(116.328942), deg(28.026183), deg(23.4392911)),
         DEGREES,
-        b"6.684170",
+        b"published: 6.684170",
     );
     one(
         b"13.a back, right ascension:",
         coords::asc_frm_ecl(deg(113.21563), deg(6.68417), deg(23.4392911)),
         DEGREES,
-        b"116.328942 (the last digit from rounded input)",
+        b"published: 116.328942 (the last digit from rounded input)",
     );
     one(
         b"13.a back, declination:",
         coords::dec_frm_ecl(deg(113.21563), deg(6.68417), deg(23.4392911)),
         DEGREES,
-        b"28.026183",
+        b"published: 28.026183",
     );
     one(
         b"13.b azimuth:",
-        coords::az_frm_eq(deg(64.352133), deg(-6.719891666666667), deg(38.92138888888889)),
+        coords::az_frm_eq(
+            deg(64.352133),
+            deg(-6.719891666666667),
+            deg(38.92138888888889),
+        ),
         DEGREES,
-        b"68.0337",
+        b"published: 68.0337",
     );
     one(
         b"13.b altitude:",
-        coords::alt_frm_eq(deg(64.352133), deg(-6.719891666666667), deg(38.92138888888889)),
+        coords::alt_frm_eq(
+            deg(64.352133),
+            deg(-6.719891666666667),
+            deg(38.92138888888889),
+        ),
         DEGREES,
-        b"15.1249",
+        b"published: 15.1249",
     );
     one(
         b"13.b back, hour angle:",
         coords::hr_angl_frm_hz(deg(68.0337), deg(15.1249), deg(38.92138888888889)),
         DEGREES,
-        b"64.352133 (rounded input)",
+        b"published: 64.352133 (rounded input)",
     );
     one(
         b"13.b back, declination:",
         coords::dec_frm_hz(deg(68.0337), deg(15.1249), deg(38.92138888888889)),
         DEGREES,
-        b"-6.719892 (the crate departs: cos az twice)",
+        b"published: -6.719892 (the crate departs: cos az twice)",
     );
     one(
         b"13 galactic longitude:",
         coords::gal_long_frm_eq(deg(267.2489166666667), deg(-14.718944444444444)),
         DEGREES,
-        b"12.9593",
+        b"published: 12.9593 (one turn less)",
     );
     one(
         b"13 galactic latitude:",
         coords::gal_lat_frm_eq(deg(267.2489166666667), deg(-14.718944444444444)),
         DEGREES,
-        b"6.0463",
+        b"published: 6.0463",
     );
 }
 
@@ -228,15 +252,20 @@ fn reductions() {
         b"21.b theta Persei:",
         precess::precess_eq_coords(deg(41.054063), deg(49.22775), J2000, 2462088.69),
         DEGREES,
-        b"41.547214 49.348483",
+        b"published: 41.547214 49.348483",
     );
     two(
         b"21.c Venus:",
         precess::precess_ecl_coords(deg(149.48194), deg(1.76549), J2000, 1643074.5),
         DEGREES,
-        b"118.704 1.615 (outside the stated days)",
+        b"published: 118.704 1.615 (outside the stated days)",
     );
-    two(b"22.a nutation:", nutation::nutation(2446895.5), SECONDS, b"-3.788 9.443");
+    two(
+        b"22.a nutation:",
+        nutation::nutation(2446895.5),
+        SECONDS,
+        b"published: -3.788 9.443",
+    );
     two(
         b"23.a nutation of a point:",
         nutation::nutation_in_eq_coords(
@@ -249,19 +278,7 @@ fn reductions() {
             deg(23.436),
         ),
         SECONDS,
-        b"15.843 6.218",
-    );
-    two(
-        b"23.a aberration of a point:",
-        aberr::stell_aberr_in_eq_coords(
-            EqPoint {
-                asc: deg(41.5472).0,
-                dec: deg(49.3485).0,
-            },
-            2462088.69,
-        ),
-        SECONDS,
-        b"30.045 6.697 (by another rule)",
+        b"published: 15.843 6.218",
     );
     three(
         b"24.a orbital elements:",
@@ -273,13 +290,23 @@ fn reductions() {
             2433282.4235,
         ),
         DEGREES,
-        b"47.1380 151.4782 48.6037",
+        b"published: 47.1380 151.4782 48.6037",
     );
-    one(b"25.a solar aberration:", aberr::sol_aberr(0.99766), SECONDS, b"-20.538");
+    one(
+        b"25.a solar aberration:",
+        aberr::sol_aberr(0.99766),
+        SECONDS,
+        b"published: -20.538",
+    );
 }
 
 fn parallaxes() {
-    one(b"40.a parallax:", parallax::eq_hz_parallax(0.37276), SECONDS, b"23.592");
+    one(
+        b"40.a parallax:",
+        parallax::eq_hz_parallax(0.37276),
+        SECONDS,
+        b"published: 23.592",
+    );
     point(
         b"40.a Mars:",
         parallax::topocent_eq_coords(
@@ -296,7 +323,7 @@ fn parallaxes() {
             deg(25.1875),
         ),
         DEGREES,
-        b"339.535583 -15.775000",
+        b"published: 339.535583 -15.775000",
     );
     three(
         b"40 exercise:",
@@ -316,7 +343,7 @@ fn parallaxes() {
             deg(0.2709722222222222),
         ),
         DEGREES,
-        b"181.801389 1.485306 0.273750 (the crate departs: N is below zero)",
+        b"published: 181.801389 1.485306 0.273750 (the crate departs: N is below zero)",
     );
 }
 
