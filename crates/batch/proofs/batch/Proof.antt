@@ -2,16 +2,13 @@
 -- statuses. Assumes nothing.
 use borrow.Author.Needs.{needs}
 use borrow.Author.Tests.{eq-eqb, ne-eqb}
-use mathlib.Core.Path.{_≡_, refl, sym, ap, _∙_}
-use mathlib.Core.List.{List, map}
-use Prim.Native.Nat.{ℕ, _-_, _≤_, _<_}
+use mathlib.Core.Path.{_≡_, sym, ap, _∙_}
+use mathlib.Core.List.{map}
+use Prim.Native.Nat.{_-_, _≤_, _<_}
 use native.Mathlib.Omega.{arith}
 use lib.ListN.{length, take}
-use lib.Ieee.{Float}
 use Rattle.double.specs.laws.Calls.{asks-nothing}
 use Rattle.quantity.specs.rules.Answer.{Answer, Pair, shownTwo}
-use Rattle.chain.specs.declared.Night.{Night}
-use Rattle.chain.specs.rules.Night.{nightOf}
 use Rattle.lent.specs.laws.Rows.{Row, start, store, finish}
 use Rattle.list.specs.declared.Star.{Star}
 use Rattle.list.specs.rules.Stars.{mostStars, countOf, nth}

@@ -1,5 +1,5 @@
 -- The whole call: what an accepted one has, its values by their places, and its tally. Assumes nothing.
-use Prim.Native.Nat.{ℕ, suc, _+_, _≤_, _<_}
+use Prim.Native.Nat.{ℕ, _+_, _≤_, _<_}
 use mathlib.Core.Path.{_≡_, refl, sym, ap, _∙_}
 use mathlib.Core.Bool.{Bool, true, false, cond, _&&_}
 use mathlib.Core.List.{List, [], _∷_, _++_, map}
@@ -18,7 +18,7 @@ use Rattle.list.specs.rules.Stars.{isList, countOf, stars, nought, nth}
 use Rattle.list.specs.laws.Stars.{length-stars, few}
 use Rattle.tally.specs.declared.Raised.{Raised}
 use Rattle.tally.specs.declared.Tally.{Tally}
-use Rattle.tally.specs.rules.Tally.{highest, fullest, places, raiseRule, times, tallyOf, empty, raisedBy, AllKnown}
+use Rattle.tally.specs.rules.Tally.{highest, places, raiseRule, times, tallyOf, empty, raisedBy, AllKnown}
 use Rattle.tally.specs.laws.Tally.{times-most, raise-more, counts-all}
 use Rattle.batch.specs.declared.Batched.{Batched}
 use Rattle.batch.specs.rules.Star.{starRule, statusOf}
@@ -88,3 +88,34 @@ module _ (s : List ℕ) (day1 day2 : Float) (days : daysRefusal day1 day2 ≡ 0)
 -- after the last turn
 pub raised-all : (s : List ℕ) (day1 day2 : Float) (i : ℕ) → i ≡ countOf s → take i (statusesOf s day1 day2) ≡ statusesOf s day1 day2
 raised-all s day1 day2 i e = ap (λ (n : ℕ). take n (statusesOf s day1 day2)) (e ∙ sym (how-many statusOf s day1 day2)) ∙ take-length (statusesOf s day1 day2)
+
+-- ---- what the rule of a call says of its tally, and that it fixes all
+
+module _ {s : List ℕ} {day1 day2 : Float} {status : List ℕ} {asc dec : List Float} {r : Batched} {status′ : List ℕ} {asc′ dec′ : List Float} (b : Batch s day1 day2 status asc dec r status′ asc′ dec′) where
+  module _ (none : batchRefusal s day1 day2 (length status) (length asc) (length dec) ≡ 0) where
+    tally-is : r .tally ≡ tallyOf (statusesOf s day1 day2)
+    tally-is = ap (λ (q : Batched). q .tally) (b .answer) ∙ ap (λ (t : Bool). cond t (tallyOf (statusesOf s day1 day2)) empty) (eq-eqb _ 0 none)
+
+    -- the slice's first bytes are the stars' statuses
+    bytes-are : take (countOf s) status′ ≡ statusesOf s day1 day2
+    bytes-are =
+        ap (take (countOf s)) (b .statuses ∙ ap (λ (t : Bool). cond t (statusesOf s day1 day2 ++ drop (length (statusesOf s day1 day2)) status) status) (eq-eqb _ 0 none))
+        ∙ take-at (statusesOf s day1 day2) (drop (length (statusesOf s day1 day2)) status) (countOf s) (how-many statusOf s day1 day2)
+
+    -- each count is the number of status bytes of that value
+    pub tally-counts-bytes : (k : ℕ) → k < places → getD (r .tally .counts) k 0 ≡ times k (take (countOf s) status′)
+    unfolding tallyOf
+    tally-counts-bytes k h =
+        ap (λ (t : Tally). getD (t .counts) k 0) tally-is
+        ∙ getD-upto places (λ (j : ℕ). times j (statusesOf s day1 day2)) k 0 h
+        ∙ ap (times k) (sym bytes-are)
+
+    -- the tally is the empty one, raised by each star's status in the list's order
+    pub tally-raised : r .tally ≡ raisedBy empty (statusesOf s day1 day2)
+    tally-raised =
+        let a = accepted s day1 day2 (length status) (length asc) (length dec) none in
+        tally-is ∙ sym (counts-all (statusesOf s day1 day2) (all-known s day1 day2 (a .days)) (omega (arith, how-many statusOf s day1 day2, few s (a .list))))
+
+  -- two calls that meet one contract answer alike and leave the slices alike
+  pub batch-fixes-all : {q : Batched} {status″ : List ℕ} {asc″ dec″ : List Float} → Batch s day1 day2 status asc dec q status″ asc″ dec″ → (r ≡ q) × ((status′ ≡ status″) × ((asc′ ≡ asc″) × (dec′ ≡ dec″)))
+  batch-fixes-all d = (b .answer ∙ sym (d .answer), (b .statuses ∙ sym (d .statuses), (b .ascs ∙ sym (d .ascs), b .decs ∙ sym (d .decs))))

@@ -1,6 +1,5 @@
 -- Every star's status is one that the tally knows. Assumes nothing.
 use Prim.Native.Nat.{ℕ, _≤_}
-use mathlib.Core.Path.{_≡_, refl}
 use mathlib.Core.Bool.{Bool, true, false, cond}
 use native.Mathlib.Omega.{arith}
 use lib.Dec.{eqb, leb}
@@ -9,7 +8,7 @@ use Rattle.double.specs.rules.Operations.{zero, one}
 use Rattle.double.specs.rules.Sign.{size, isFinite}
 use Rattle.quantity.specs.declared.Rad.{Rad}
 use Rattle.quantity.specs.declared.EqPoint.{EqPoint}
-use Rattle.quantity.specs.rules.Answer.{Answer, answered, refused, Pair, pair, unless, then, plus, both}
+use Rattle.quantity.specs.rules.Answer.{Answer, answered, refused, Pair, unless, then, plus, both}
 use Rattle.quantity.specs.rules.Refusal.{lower, past, angleRefusal, latitudeRefusal, steepRefusal}
 use Rattle.root.specs.rules.Root.{rootRule, rootRefusal}
 use Rattle.elementary.specs.rules.Arctangent.{arctangentIn}

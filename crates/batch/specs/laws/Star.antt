@@ -1,6 +1,6 @@
 -- A star under the night of two days that are not refused is answered as the chain answers it. Assumes nothing.
 use Prim.Native.Nat.{ℕ, zero, suc, _≤_}
-use mathlib.Core.Path.{_≡_, refl, sym, ap, _∙_, subst}
+use mathlib.Core.Path.{_≡_, refl, sym, ap, _∙_}
 use mathlib.Core.Bool.{cond}
 use lib.Dec.{eqb·suc-zero}
 use lib.Ieee.{Float}

@@ -10,7 +10,6 @@ use Rattle.quantity.specs.rules.Answer.{Answer, Pair}
 use Rattle.precess.specs.rules.Days.{daysRefusal}
 use Rattle.list.specs.declared.Star.{Star}
 use Rattle.list.specs.rules.Stars.{isList, countOf, stars}
-use Rattle.tally.specs.declared.Tally.{Tally}
 use Rattle.tally.specs.rules.Tally.{tallyOf, empty}
 use Rattle.batch.specs.declared.Batched.{Batched}
 use Rattle.batch.specs.rules.Star.{starRule, statusOf, firstOf, secondOf}
