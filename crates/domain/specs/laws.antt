@@ -1,6 +1,6 @@
 -- What holds on the stated domain. Theorems only.
 pub mod Outcome
-pub mod Functions
+pub mod Elementary
 pub mod Near
 pub mod Days
 pub mod Annual
@@ -12,3 +12,12 @@ pub mod Horizontal
 pub mod Observer
 pub mod TopocentEq
 pub mod TopopcentEcl
+pub mod NutationArguments
+pub mod NutationSum
+pub mod NutationPoint
+pub mod SunAberration
+pub mod Rows1To12
+pub mod Rows13To24
+pub mod Rows25To36
+pub mod StarAberration
+pub mod Chain

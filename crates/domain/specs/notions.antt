@@ -2,3 +2,5 @@
 pub mod Outcome
 pub mod Within
 pub mod Turns
+pub mod Nutation
+pub mod Aberration

@@ -7,7 +7,6 @@ use Rattle.double.specs.notions.Range.{known, con, _⊞_, _⊟_, _⊠_}
 use Rattle.quantity.specs.declared.Rad.{Rad}
 use Rattle.quantity.specs.rules.Answer.{answered, refused, Pair, pair}
 use Rattle.quantity.specs.rules.Refusal.{lower, dayRefusal, angleRefusal, steepRefusal}
-use Rattle.elementary.specs.rules.Fold.{fold}
 use Rattle.elementary.specs.rules.Sine.{sineOf, cosineOf, tangentOf}
 use Rattle.elementary.specs.laws.Accepted.{lower-none}
 use Rattle.double.specs.rules.Operations.{_⊕_, _⊗_}

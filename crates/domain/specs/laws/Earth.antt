@@ -18,9 +18,9 @@ use Rattle.elementary.specs.laws.Sine.{sine-between, cosine-between}
 use Rattle.helpers.specs.rules.Earth.{ratio, radius, rhoAt, rhoIn, rhoRefusal, rhoSinCosPhiRule}
 use Rattle.conditions.specs.laws.Accepted.{steep-far, steep-tangent}
 use Rattle.domain.specs.notions.Outcome.{Outcome, Never}
-use Rattle.domain.specs.notions.Within.{Within, BothFinite, BothWithinTwo}
+use Rattle.domain.specs.notions.Within.{Within, BothFinite, BothWithin}
 use Rattle.domain.specs.laws.Outcome.{outcome-answered, outcome-wider, outcome-then, rule-answers, rule-refuses}
-use Rattle.domain.specs.laws.Functions.{arctangent-outcome}
+use Rattle.domain.specs.laws.Elementary.{arctangent-outcome}
 use Rattle.domain.specs.laws.Near.{within, near-far, near-sine, near-cosine}
 
 module _ (lat : Rad) (height : Float) (L : steepRefusal lat ≡ 0) (H : heightRefusal height ≡ 0) where
@@ -34,7 +34,7 @@ module _ (lat : Rad) (height : Float) (L : steepRefusal lat ≡ 0) (H : heightRe
   pub u-far : (u : Float) → arctangentIn (ratio ⊗ tangentOf lat) one ≡ answered u → size u ≼ farthestAlone
   u-far u e = near-far u (u-outcome {Q = Never} .answers u e)
 
-  pub rho-outcome : {Q : ℕ → Type 0} → Outcome BothWithinTwo Q (rhoIn lat height)
+  pub rho-outcome : {Q : ℕ → Type 0} → Outcome (BothWithin 2) Q (rhoIn lat height)
   unfolding rhoIn isFinite le neg add mul div ofBits round
   rho-outcome =
       outcome-then (λ (u : Float). rhoAt (fold (record { 0 = u })) (fold lat) height)
@@ -42,9 +42,10 @@ module _ (lat : Rad) (height : Float) (L : steepRefusal lat ≡ 0) (H : heightRe
       let x : Rad = record { 0 = u } in
       let h = known (height-accepted height H) ⧄ con radius in
       outcome-answered
-      (pair (ratio ⊗ sineOf x ⊕ height ⊘ radius ⊗ sineOf lat) (cosineOf x ⊕ height ⊘ radius ⊗ cosineOf lat))
-      (within 2 (con ratio ⊠ known (near-sine x U) ⊞ h ⊠ known (sine-between lat (steep-far lat L))) tt,
-      within 2 (known (near-cosine x U) ⊞ h ⊠ known (cosine-between lat (steep-far lat L))) tt))
+      (pair (ratio ⊗ sineOf x ⊕ height ⊘ radius ⊗ sineOf lat) (cosineOf x ⊕ height ⊘ radius ⊗ cosineOf lat)) (
+        within 2 (con ratio ⊠ known (near-sine x U) ⊞ h ⊠ known (sine-between lat (steep-far lat L))) tt,
+        within 2 (known (near-cosine x U) ⊞ h ⊠ known (cosine-between lat (steep-far lat L))) tt,
+      ))
       (arctangentIn (ratio ⊗ tangentOf lat) one) u-outcome
 
 module _ (lat : Rad) (height : Float) where

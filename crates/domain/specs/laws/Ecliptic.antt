@@ -24,7 +24,7 @@ use Rattle.domain.specs.notions.Outcome.{Outcome, Seven}
 use Rattle.domain.specs.notions.Within.{Within, IsPlace, BothFinite}
 use Rattle.domain.specs.notions.Turns.{EclTurnsNear}
 use Rattle.domain.specs.laws.Outcome.{outcome-with, outcome-both, rule-answers, rule-refuses}
-use Rattle.domain.specs.laws.Functions.{arctangent-outcome, arcsine-outcome}
+use Rattle.domain.specs.laws.Elementary.{arctangent-outcome, arcsine-outcome}
 use Rattle.domain.specs.laws.Near.{within, near-far, near-sine, near-cosine}
 use Rattle.domain.specs.laws.Days.{century-within, span-within, first-accepted, place-accepted}
 
@@ -38,20 +38,20 @@ module _ (c t : Float) (C : Within 20 c) (S : Within 41 t) where
       within 1024
       (known S ⊠ (con (arc n47·0029) ⊟ known C ⊠ (con (arc n0·06603) ⊟ x) ⊞ known S ⊠ ((con (arc m0·03302) ⊞ x) ⊞ known S ⊠ con (arc n0·00006))) ⊠ con degree) tt
 
-  pi-within : Within 512 (radiansOf (eclPi c t) .0)
+  pi-within : Within 16 (radiansOf (eclPi c t) .0)
   unfolding eclPi isFinite le neg add sub mul div ofBits round
   pi-within =
-      within 512
+      within 16
       ((con n174·876384 ⊞ known C ⊠ (con (arc n3289·4789) ⊞ known C ⊠ con (arc n0·60622)) ⊟ known S ⊠ ((con (arc n869·8089) ⊞ known C ⊠ con (arc n0·50491)) ⊟ known S ⊠ con (arc n0·03536))) ⊠ con degree) tt
 
-  rho-within : Within 512 (radiansOf (eclRho c t) .0)
+  rho-within : Within 16 (radiansOf (eclRho c t) .0)
   unfolding eclRho isFinite le neg add sub mul div ofBits round
   rho-within =
       let y = known C ⊠ con (arc n0·000042) in
-      within 512
+      within 16
       (known S ⊠ (con (arc n5029·0966) ⊞ known C ⊠ (con (arc n2·22226) ⊟ y) ⊞ known S ⊠ ((con (arc n1·11113) ⊟ y) ⊟ known S ⊠ con (arc n0·000006))) ⊠ con degree) tt
 
-turns-near : (nu pi rho : Rad) → Within 1024 (nu .0) → Within 512 (pi .0) → Within 512 (rho .0) → EclTurnsNear (eclTurned nu pi rho)
+turns-near : (nu pi rho : Rad) → Within 1024 (nu .0) → Within 16 (pi .0) → Within 16 (rho .0) → EclTurnsNear (eclTurned nu pi rho)
 unfolding eclTurned isFinite le neg round
 turns-near nu pi rho N P R =
     let n = within 2048 (known N) tt in
@@ -95,8 +95,8 @@ module _ (long lat : Rad) (turns : EclTurns) (L : angleRefusal long ≡ 0) (B : 
       let x = cosineOf lat ⊗ cosineOf p in
       let s = turns .cosine ⊗ sineOf lat ⊕ turns .sine ⊗ cosineOf lat ⊗ sineOf p in
       let z = turns .rho ⊕ turns .pi in
-      outcome-both {P = Within 2048} (takenFrom z (arctangentIn y x)) (arcsineIn s)
-      (outcome-with (λ (v : Float). z ⊖ v) (λ v i. within 2048 ((known (N .rho) ⊞ known (N .pi)) ⊟ known i) tt) (arctangentIn y x)
+      outcome-both {P = Within 64} (takenFrom z (arctangentIn y x)) (arcsineIn s)
+      (outcome-with (λ (v : Float). z ⊖ v) (λ v i. within 64 ((known (N .rho) ⊞ known (N .pi)) ⊟ known i) tt) (arctangentIn y x)
       (arctangent-outcome y x (within 4 (known (N .cosine) ⊠ cb ⊠ sp ⊟ known (N .sine) ⊠ sb) tt .finite) (within 2 (cb ⊠ cp) tt .finite)))
       (arcsine-outcome refl s (within 4 (known (N .cosine) ⊠ sb ⊞ known (N .sine) ⊠ cb ⊠ sp) tt .finite))
 

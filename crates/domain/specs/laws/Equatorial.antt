@@ -2,19 +2,17 @@
 -- far below 400000.0, each answer is finite, and 7 is the only refusal that the work meets. Assumes nothing.
 use Prim.Native.Nat.{ℕ}
 use mathlib.Core.Path.{_≡_, refl}
-use lib.Ieee.{Float, binary64, neg, add, sub, mul, div, le, ofBits, round}
-use Rattle.double.specs.rules.Operations.{one, _⊕_, _⊖_, _⊗_}
+use lib.Ieee.{Float, neg, add, sub, mul, div, le, ofBits, round}
+use Rattle.double.specs.rules.Operations.{_⊕_, _⊖_, _⊗_}
 use Rattle.double.specs.rules.Sign.{size, isFinite}
-use Rattle.double.specs.rules.Order.{_≼_, Finite, Between}
+use Rattle.double.specs.rules.Order.{_≼_}
 use Rattle.double.specs.notions.Range.{Expr, known, con, _⊞_, _⊟_, _⊠_}
 use Rattle.quantity.specs.declared.Rad.{Rad}
-use Rattle.quantity.specs.rules.Angle.{HALF}
-use Rattle.quantity.specs.rules.Answer.{answered, refused, Pair, pair, first, second, plus}
-use Rattle.quantity.specs.rules.Refusal.{lower, angleRefusal, latitudeRefusal}
+use Rattle.quantity.specs.rules.Answer.{answered, refused, Pair, plus}
+use Rattle.quantity.specs.rules.Refusal.{angleRefusal, latitudeRefusal}
 use Rattle.elementary.specs.rules.Sine.{sineOf, cosineOf, farthestAlone}
 use Rattle.elementary.specs.rules.Arctangent.{arctangentIn}
 use Rattle.elementary.specs.rules.Arcsine.{arcsineIn}
-use Rattle.elementary.specs.laws.Accepted.{lower-none}
 use Rattle.helpers.specs.rules.Angle.{arc, degree, radiansOf}
 use Rattle.helpers.specs.rules.Time.{centuryOf}
 use Rattle.precess.specs.declared.EqTurns.{EqTurns}
@@ -27,7 +25,7 @@ use Rattle.domain.specs.notions.Outcome.{Outcome, Seven}
 use Rattle.domain.specs.notions.Within.{Within, IsPlace, BothFinite}
 use Rattle.domain.specs.notions.Turns.{EqTurnsNear}
 use Rattle.domain.specs.laws.Outcome.{outcome-with, outcome-both, rule-answers, rule-refuses}
-use Rattle.domain.specs.laws.Functions.{arctangent-outcome, arcsine-outcome}
+use Rattle.domain.specs.laws.Elementary.{arctangent-outcome, arcsine-outcome}
 use Rattle.domain.specs.laws.Near.{within, near-far, near-sine, near-cosine}
 use Rattle.domain.specs.laws.Days.{century-within, span-within, fk4-century-within, fk4-span-within, first-accepted, place-accepted}
 
@@ -43,10 +41,10 @@ module _ (c t : Float) (C : Within 20 c) (S : Within 41 t) where
       within 1024
       ((sharedExpr ⊞ known S ⊠ known S ⊠ ((con (arc n0·30188) ⊟ known C ⊠ con (arc n0·000344)) ⊞ known S ⊠ con (arc n0·017998))) ⊠ con degree) tt
 
-  zeta-within : Within 1024 (radiansOf (eqZeta c t) .0)
+  zeta-within : Within 32 (radiansOf (eqZeta c t) .0)
   unfolding eqZeta isFinite le neg add sub mul div ofBits round
   zeta-within =
-      within 1024
+      within 32
       ((sharedExpr ⊞ known S ⊠ known S ⊠ ((con (arc n1·09468) ⊟ known C ⊠ con (arc n0·000066)) ⊞ known S ⊠ con (arc n0·018203))) ⊠ con degree) tt
 
   theta-within : Within 2048 (radiansOf (eqTheta c t) .0)
@@ -57,16 +55,16 @@ module _ (c t : Float) (C : Within 20 c) (S : Within 41 t) where
       (known S ⊠ (con (arc n2004·3109) ⊞ known C ⊠ (con (arc n0·8533) ⊟ y) ⊟ known S ⊠ ((con (arc n0·42665) ⊞ y) ⊞ known S ⊠ con (arc n0·041833))) ⊠ con degree) tt
 
 module _ (c t : Float) (C : Within 41 c) (S : Within 41 t) where
-  fk4-xi-within : Within 512 (fk4Xi c t .0)
+  fk4-xi-within : Within 30 (fk4Xi c t .0)
   unfolding fk4Xi isFinite le neg add sub mul div ofBits round
   fk4-xi-within =
-      within 512
+      within 30
       (known S ⊠ (con (arc n2304·25) ⊞ known C ⊠ con (arc n1·396) ⊞ known S ⊠ (con (arc n0·302) ⊞ known S ⊠ con (arc n0·018)))) tt
 
-  fk4-zeta-within : Within 1024 (fk4Zeta (fk4Xi c t) t .0)
+  fk4-zeta-within : Within 32 (fk4Zeta (fk4Xi c t) t .0)
   unfolding fk4Zeta isFinite le neg add sub mul div ofBits round
   fk4-zeta-within =
-      within 1024 (known fk4-xi-within ⊞ known S ⊠ known S ⊠ (con (arc n0·791) ⊞ known S ⊠ con (arc n0·001))) tt
+      within 32 (known fk4-xi-within ⊞ known S ⊠ known S ⊠ (con (arc n0·791) ⊞ known S ⊠ con (arc n0·001))) tt
 
   fk4-theta-within : Within 2048 (fk4Theta c t .0)
   unfolding fk4Theta isFinite le neg add sub mul div ofBits round
@@ -74,7 +72,7 @@ module _ (c t : Float) (C : Within 41 c) (S : Within 41 t) where
       within 2048
       (known S ⊠ (con (arc n2004·682) ⊟ known C ⊠ con (arc n0·853) ⊟ known S ⊠ (con (arc n0·426) ⊞ known S ⊠ con (arc n0·042)))) tt
 
-turns-near : (xi zeta theta : Rad) → Within 1024 (xi .0) → Within 1024 (zeta .0) → Within 2048 (theta .0) → EqTurnsNear (turnsOf xi zeta theta)
+turns-near : (xi zeta theta : Rad) → Within 1024 (xi .0) → Within 32 (zeta .0) → Within 2048 (theta .0) → EqTurnsNear (turnsOf xi zeta theta)
 unfolding turnsOf
 turns-near xi zeta theta X Z T = record { xi = X; zeta = Z; sine = near-sine theta T; cosine = near-cosine theta T }
 
@@ -136,8 +134,8 @@ module _ (asc dec : Rad) (turns : EqTurns) (A : angleRefusal asc ≡ 0) (D : lat
       let y = cosineOf dec ⊗ sineOf a in
       let x = turns .cosine ⊗ cosineOf dec ⊗ cosineOf a ⊖ turns .sine ⊗ sineOf dec in
       let s = turns .sine ⊗ cosineOf dec ⊗ cosineOf a ⊕ turns .cosine ⊗ sineOf dec in
-      outcome-both {P = Within 2048} (plus (arctangentIn y x) (turns .zeta)) (arcsineIn s)
-      (outcome-with (λ (v : Float). v ⊕ turns .zeta) (λ v i. within 2048 (known i ⊞ known (N .zeta)) tt) (arctangentIn y x)
+      outcome-both {P = Within 64} (plus (arctangentIn y x) (turns .zeta)) (arcsineIn s)
+      (outcome-with (λ (v : Float). v ⊕ turns .zeta) (λ v i. within 64 (known i ⊞ known (N .zeta)) tt) (arctangentIn y x)
       (arctangent-outcome y x (within 2 (cd ⊠ sa) tt .finite) (within 4 (known (N .cosine) ⊠ cd ⊠ ca ⊟ known (N .sine) ⊠ sd) tt .finite)))
       (arcsine-outcome refl s (within 4 (known (N .sine) ⊠ cd ⊠ ca ⊞ known (N .cosine) ⊠ sd) tt .finite))
 

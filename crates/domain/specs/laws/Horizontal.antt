@@ -2,7 +2,7 @@
 use Prim.Native.Nat.{ℕ}
 use mathlib.Core.Path.{_≡_}
 use lib.Dec.{T-not}
-use lib.Ieee.{Float, binary64, neg, add, sub, mul, div, le, lt, ofBits, ofInt, toUnsigned, round}
+use lib.Ieee.{Float, binary64, neg, add, sub, mul, div, le, lt, ofBits, ofInt, toUnsigned}
 use Rattle.double.specs.rules.Operations.{one, _⊘_}
 use Rattle.double.specs.rules.Sign.{bearsMinus, size, isFinite}
 use Rattle.double.specs.rules.Order.{_≼_, Finite, Between}
@@ -21,7 +21,7 @@ use Rattle.elementary.specs.laws.Arcsine.{arcsine-refuses-seven}
 use Rattle.parallax.specs.rules.Horizontal.{sunParallax, eqHzParallaxIn, eqHzParallaxRule}
 use Rattle.domain.specs.notions.Outcome.{Outcome, Never}
 use Rattle.domain.specs.laws.Outcome.{rule-answers, rule-refuses}
-use Rattle.domain.specs.laws.Functions.{arcsine-outcome}
+use Rattle.domain.specs.laws.Elementary.{arcsine-outcome}
 
 module _ (dist : Float) where
   -- the arcsine's argument is 1 at most in size

@@ -13,7 +13,7 @@ use Rattle.parallax.specs.rules.Observer.{observerRefusal}
 use Rattle.domain.specs.notions.Outcome.{Outcome}
 use Rattle.domain.specs.notions.Within.{Within}
 use Rattle.domain.specs.laws.Outcome.{outcome-wider}
-use Rattle.domain.specs.laws.Functions.{arctangent-outcome}
+use Rattle.domain.specs.laws.Elementary.{arctangent-outcome}
 use Rattle.domain.specs.laws.Near.{within}
 
 pub observer-accepted : (parallax : Rad) (place : GeographPoint) (height : Float) (sidereal : Rad) → observerRefusal parallax place height sidereal ≡ 0

@@ -11,7 +11,7 @@ use Rattle.double.specs.notions.Range.{known, con, _⊞_, _⊟_, _⊠_}
 use Rattle.double.specs.laws.Between.{between-neg}
 use Rattle.quantity.specs.declared.Rad.{Rad}
 use Rattle.quantity.specs.rules.Angle.{PI}
-use Rattle.quantity.specs.rules.Answer.{Answer, answered, refused, Pair, first, second, Triple, triple, then, addedTo}
+use Rattle.quantity.specs.rules.Answer.{answered, refused, Pair, first, second, Triple, triple, then, addedTo}
 use Rattle.quantity.specs.rules.Refusal.{lower, angleRefusal}
 use Rattle.root.specs.rules.Root.{rootRule}
 use Rattle.elementary.specs.rules.Fold.{fold}
@@ -28,7 +28,7 @@ use Rattle.domain.specs.notions.Outcome.{Outcome, SixOrSeven}
 use Rattle.domain.specs.notions.Within.{Within, AllFinite}
 use Rattle.domain.specs.notions.Turns.{EclTurnsNear}
 use Rattle.domain.specs.laws.Outcome.{outcome-answered, outcome-refused, outcome-cond, outcome-wider, outcome-with, outcome-then, outcome-both, rule-answers, rule-refuses}
-use Rattle.domain.specs.laws.Functions.{arctangent-outcome, arcsine-outcome, arcsine-number-outcome, quotient-not-nan, root-outcome}
+use Rattle.domain.specs.laws.Elementary.{arctangent-outcome, arcsine-outcome, arcsine-number-outcome, quotient-not-nan, root-outcome}
 use Rattle.domain.specs.laws.Near.{within, near-far, near-sine, near-cosine}
 use Rattle.domain.specs.laws.Ecliptic.{ecl-turns-near}
 

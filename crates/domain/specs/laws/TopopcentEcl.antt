@@ -26,7 +26,7 @@ use Rattle.conditions.specs.laws.Accepted.{angle-sine, angle-cosine, latitude-s
 use Rattle.domain.specs.notions.Outcome.{Outcome, SixOrSeven}
 use Rattle.domain.specs.notions.Within.{Within, AllFinite}
 use Rattle.domain.specs.laws.Outcome.{outcome-answered, outcome-refused, outcome-cond, outcome-then, rule-answers, rule-refuses}
-use Rattle.domain.specs.laws.Functions.{arcsine-number-outcome, quotient-not-nan}
+use Rattle.domain.specs.laws.Elementary.{arcsine-number-outcome, quotient-not-nan}
 use Rattle.domain.specs.laws.Near.{within, near-far, near-cosine}
 use Rattle.domain.specs.laws.Earth.{rho-outcome}
 use Rattle.domain.specs.laws.Observer.{observer-accepted, arctangent-near}

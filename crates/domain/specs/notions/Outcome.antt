@@ -18,3 +18,6 @@ Seven n = n ≡ 7
 
 abbrev pub SixOrSeven : ℕ → Type 0
 SixOrSeven n = (n ≡ 6) ⊎ (n ≡ 7)
+
+abbrev pub FourOrSeven : ℕ → Type 0
+FourOrSeven n = (n ≡ 4) ⊎ (n ≡ 7)

@@ -8,7 +8,7 @@ use Rattle.domain.specs.notions.Within.{Within}
 
 pub record EqTurnsNear (turns : EqTurns) : Type 0 where
   pub xi : Within 1024 (turns .xi)
-  pub zeta : Within 1024 (turns .zeta)
+  pub zeta : Within 32 (turns .zeta)
   pub sine : Between (neg one) one (turns .sine)
   pub cosine : Between (neg one) one (turns .cosine)
 
@@ -16,5 +16,5 @@ pub record EclTurnsNear (turns : EclTurns) : Type 0 where
   pub nu : Within 1024 (turns .nu)
   pub sine : Between (neg one) one (turns .sine)
   pub cosine : Between (neg one) one (turns .cosine)
-  pub pi : Within 512 (turns .pi)
-  pub rho : Within 512 (turns .rho)
+  pub pi : Within 16 (turns .pi)
+  pub rho : Within 16 (turns .rho)

@@ -10,9 +10,9 @@ use Rattle.quantity.specs.rules.Answer.{Pair, first, second, Triple, triple}
 abbrev pub Within : ℕ → Float → Type 0
 Within n x = Between (neg (over n 1)) (over n 1) x
 
--- a longitude, and a latitude of a quarter turn at most
+-- a longitude of 64.0 at most, and a latitude of a quarter turn at most
 abbrev pub IsPlace : Pair → Type 0
-IsPlace p = Within 2048 (first p) × Between (neg HALF) HALF (second p)
+IsPlace p = Within 64 (first p) × Between (neg HALF) HALF (second p)
 
 abbrev pub BothFinite : Pair → Type 0
 BothFinite p = Finite (first p) × Finite (second p)
@@ -20,8 +20,8 @@ BothFinite p = Finite (first p) × Finite (second p)
 abbrev pub AllFinite : Triple → Type 0
 AllFinite (triple x y z) = Finite x × Finite y × Finite z
 
-abbrev pub BothWithinTwo : Pair → Type 0
-BothWithinTwo p = Within 2 (first p) × Within 2 (second p)
+abbrev pub BothWithin : ℕ → Pair → Type 0
+BothWithin n p = Within n (first p) × Within n (second p)
 
 abbrev pub PointFinite : EqPoint → Type 0
 PointFinite p = Finite (p .asc) × Finite (p .dec)

@@ -9,7 +9,7 @@ use lib.Ieee.{Float, nan, inf, fin, Format, binary64, unlike, up, down, round, n
 use lib.Ieee.Bits.{is-true}
 use lib.Ieee.Fits.{add-fits}
 use Rattle.double.specs.rules.Operations.{_⊕_, _⊗_, _⊘_}
-use Rattle.double.specs.rules.Sign.{bearsMinus, size, isFinite}
+use Rattle.double.specs.rules.Sign.{size, isFinite}
 use Rattle.double.specs.rules.Order.{isZero, NonZero, Finite, Plus, Between}
 use Rattle.double.specs.laws.Tests.{holds}
 use Rattle.double.specs.laws.Sign.{neg-neg, no-minus-of-plus}
@@ -18,7 +18,6 @@ use Rattle.double.specs.laws.Between.{size→between}
 use Rattle.double.specs.laws.Rounding.{round-neg, round-plus}
 use Rattle.double.specs.laws.NearZero.{add-plus}
 use Rattle.quantity.specs.rules.Angle.{PI, HALF}
-use Rattle.quantity.specs.rules.Answer.{Answer, answered, refused}
 use Rattle.root.specs.rules.Count.{IsFromZero}
 use Rattle.root.specs.rules.Root.{rootOf, rootRule}
 use Rattle.root.specs.laws.Root.{root-from-zero, root-answered}
@@ -86,7 +85,7 @@ quotient-not-nan (fin s m c) (fin t n d) p q z e = by-case (eqb n 0) refl e
 
 -- ---- the root of a sum of two squares
 
-pub square-plus : (x : Float) → Finite x → Plus (x ⊗ x)
+square-plus : (x : Float) → Finite x → Plus (x ⊗ x)
 unfolding isFinite mul
 square-plus nan p = absurd p
 square-plus (inf s) p = absurd p
