@@ -24,8 +24,8 @@ pub struct Function {
     pub meets: &'static [u8],
     pub port: fn(&[f64], &mut Lent) -> u8,
     pub expected: fn(&[f64]) -> Outcome,
-    /// The supplied text with Rust's own library functions.
-    pub own: Option<fn(&[f64]) -> Vec<f64>>,
+    /// The supplied text, or section 2's or 3's rule, with Rust's own library functions.
+    pub own: fn(&[f64]) -> Vec<f64>,
 }
 
 /// What the routed Rust answers, or 7 where an arcsine in it was refused by 7.
@@ -90,8 +90,8 @@ pub fn own_chain(a: &[f64]) -> Vec<f64> {
 
 macro_rules! function {
     // Not in the supplied text: section 2's or 3's rule.
-    (rule $name:ident [$($sort:ident),*] ($($number:expr),*) |$a:ident| $expected:expr) => {
-        Function { name: stringify!($name), sorts: &[$($sort),*], meets: &[$($number),*], port: port::$name, expected: |$a| $expected, own: None }
+    (rule $name:ident [$($sort:ident),*] ($($number:expr),*) |$a:ident| $expected:expr, $own:expr) => {
+        Function { name: stringify!($name), sorts: &[$($sort),*], meets: &[$($number),*], port: port::$name, expected: |$a| $expected, own: |$a| $own }
     };
     // In the supplied text: the same expression over `routed` and over `own`.
     (rust $name:ident [$($sort:ident),*] ($($number:expr),*) |$a:ident| $work:expr) => {
@@ -101,34 +101,34 @@ macro_rules! function {
             meets: &[$($number),*],
             port: port::$name,
             expected: |$a| met(&|| $work),
-            own: Some(|$a| {
+            own: |$a| {
                 use own::*;
                 $work
-            }),
+            },
         }
     };
 }
 
 pub fn all() -> Vec<Function> {
     vec![
-        function!(rule brundelak_sine [Alone] (1, 3) |a| Answer(vec![written::sine(a[0])])),
-        function!(rule brundelak_cosine [Alone] (1, 3) |a| Answer(vec![written::cosine(a[0])])),
-        function!(rule brundelak_tangent [AloneSteep] (1, 3, 4) |a| Answer(vec![written::tangent(a[0])])),
-        function!(rule brundelak_arctangent [Number, Number] (1) |a| Answer(vec![written::arctangent(a[0], a[1])])),
+        function!(rule brundelak_sine [Alone] (1, 3) |a| Answer(vec![written::sine(a[0])]), vec![a[0].sin()]),
+        function!(rule brundelak_cosine [Alone] (1, 3) |a| Answer(vec![written::cosine(a[0])]), vec![a[0].cos()]),
+        function!(rule brundelak_tangent [AloneSteep] (1, 3, 4) |a| Answer(vec![written::tangent(a[0])]), vec![a[0].tan()]),
+        function!(rule brundelak_arctangent [Number, Number] (1) |a| Answer(vec![written::arctangent(a[0], a[1])]), vec![a[0].atan2(a[1])]),
         function!(rule brundelak_arcsine [Unit] (1, 7) |a| if a[0].abs() > 1.0 {
             Refused(7)
         } else {
             Answer(vec![written::arcsine(a[0])])
-        }),
-        function!(rule brundelak_root [NotNegative] (1, 5) |a| Answer(vec![a[0].sqrt()])),
-        function!(rule brundelak_deg_frm_dms [Number] (1) |a| Answer(vec![a[0] / 3600.0])),
-        function!(rule brundelak_deg_frm_hms [Number] (1) |a| Answer(vec![15.0 * (a[0] / 3600.0)])),
-        function!(rule brundelak_to_radians [Number] (1) |a| Answer(vec![written::radians(a[0])])),
-        function!(rule brundelak_limit_to_360 [Number] (1) |a| Answer(vec![written::folded(a[0], 360.0)])),
+        }, vec![a[0].asin()]),
+        function!(rule brundelak_root [NotNegative] (1, 5) |a| Answer(vec![a[0].sqrt()]), vec![a[0].sqrt()]),
+        function!(rule brundelak_deg_frm_dms [Number] (1) |a| Answer(vec![a[0] / 3600.0]), vec![own::angle::deg_frm_dms(0, 0, a[0])]),
+        function!(rule brundelak_deg_frm_hms [Number] (1) |a| Answer(vec![15.0 * (a[0] / 3600.0)]), vec![own::angle::deg_frm_hms(0, 0, a[0])]),
+        function!(rule brundelak_to_radians [Number] (1) |a| Answer(vec![written::radians(a[0])]), vec![a[0].to_radians()]),
+        function!(rule brundelak_limit_to_360 [Number] (1) |a| Answer(vec![written::folded(a[0], 360.0)]), vec![own::angle::limit_to_360(a[0])]),
         function!(rule brundelak_limit_to_two_pi [Number] (1)
-            |a| Answer(vec![written::folded(a[0], 2.0 * ::std::f64::consts::PI)])),
-        function!(rule brundelak_julian_cent [Day] (1, 2) |a| Answer(vec![written::century(a[0])])),
-        function!(rule brundelak_rho_sin_cos_phi [Steep, Height] (1, 3, 4, 5) |a| Answer(pair(written::earth(a[0], a[1])))),
+            |a| Answer(vec![written::folded(a[0], 2.0 * ::std::f64::consts::PI)]), vec![own::angle::limit_to_two_PI(a[0])]),
+        function!(rule brundelak_julian_cent [Day] (1, 2) |a| Answer(vec![written::century(a[0])]), vec![own::time::julian_cent(a[0])]),
+        function!(rule brundelak_rho_sin_cos_phi [Steep, Height] (1, 3, 4, 5) |a| Answer(pair(written::earth(a[0], a[1]))), pair(own::planet::earth::rho_sin_cos_phi(a[0], a[1]))),
 
         function!(rust brundelak_hr_angl_frm_observer_long [Angle, Angle, Angle] (1, 3)
             |a| vec![coords::hr_angl_frm_observer_long(a[0], a[1], a[2])]),
@@ -175,7 +175,7 @@ pub fn all() -> Vec<Function> {
                 &|| triple(precess::precess_orb_elements(a[0], a[1], a[2], a[3], a[4])),
                 || last_sine() == 0.0,
             ),
-            own: Some(|a| triple(own::precess::precess_orb_elements(a[0], a[1], a[2], a[3], a[4]))),
+            own: |a| triple(own::precess::precess_orb_elements(a[0], a[1], a[2], a[3], a[4])),
         },
 
         function!(rust brundelak_nutation [Day] (1, 2) |a| pair(nutation::nutation(a[0]))),
@@ -217,7 +217,7 @@ pub fn all() -> Vec<Function> {
                 },
                 || n_of(a) == 0.0,
             ),
-            own: Some(|a| {
+            own: |a| {
                 let (p, semidiameter) = own::parallax::topopcent_ecl_coords(
                     &own::coords::EclPoint { long: a[0], lat: a[1] },
                     a[2],
@@ -228,7 +228,7 @@ pub fn all() -> Vec<Function> {
                     a[8],
                 );
                 vec![p.long, p.lat, semidiameter]
-            }),
+            },
         },
 
         Function {
@@ -237,7 +237,7 @@ pub fn all() -> Vec<Function> {
             meets: &[1, 2, 3, 4, 7],
             port: port::brundelak_chain,
             expected: chain,
-            own: Some(own_chain),
+            own: own_chain,
         },
     ]
 }

@@ -180,6 +180,18 @@ fn each(r: &mut Random, sorts: &[Sort], make: fn(&mut Random, Sort) -> f64) -> V
     sorts.iter().map(|&s| make(r, s)).collect()
 }
 
+/// A sight as it comes: angles within a turn, latitudes to 1.4, two centuries of days.
+pub fn ordinary(r: &mut Random, sorts: &[Sort]) -> Vec<f64> {
+    each(r, sorts, |r, sort| match sort {
+        Sort::Angle | Sort::Alone => r.between(-2.0 * PI, 2.0 * PI),
+        Sort::Latitude | Sort::Steep | Sort::AloneSteep => r.between(-1.4, 1.4),
+        Sort::Day => r.between(2415020.0, 2488070.0),
+        Sort::Unit => r.between(-0.99, 0.99),
+        Sort::Number | Sort::NotNegative => r.between(0.0, 10.0),
+        _ => within(r, sort),
+    })
+}
+
 /// The mirror of an argument: days are mirrored in 2451545.0.
 fn mirror(sort: Sort, x: f64) -> f64 {
     match sort {

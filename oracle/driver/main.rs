@@ -175,37 +175,67 @@ fn fuzz(n: u64) -> bool {
     wrong == 0
 }
 
-fn gaps(n: u64) {
-    println!("| function | widest gap | at | answered by the port alone |");
-    println!("|---|---|---|---|");
-    for f in functions::all() {
-        let own = match f.own {
-            Some(own) => own,
-            None => continue,
-        };
-        let (mut r, mut args) = stream(&f);
-        let mut widest = (0.0, vec![]);
-        let mut alone = 0;
-        for _ in 0..n {
-            args = inputs::next(&mut r, f.name, f.sorts, &args);
-            let mut lent = fresh();
-            if (f.port)(&args, &mut lent) != 0 {
-                continue;
-            }
-            let theirs = own(&args);
-            if theirs.iter().any(|x| !x.is_finite()) {
-                alone += 1;
-                continue;
-            }
-            for (i, &x) in theirs.iter().enumerate() {
-                let gap = (x - lent[2 * i + 1]).abs();
-                if gap > widest.0 {
-                    widest = (gap, args.clone());
-                }
+/// The widest gap between the port and Rust's own library functions.
+struct Gap {
+    widest: f64,
+    at: Vec<f64>,
+    /// Calls that the port answers and the Rust answers by NaN or infinity.
+    alone: u64,
+}
+
+impl Gap {
+    fn new() -> Gap {
+        Gap { widest: 0.0, at: vec![], alone: 0 }
+    }
+
+    fn look(&mut self, f: &Function, args: &[f64]) {
+        let mut lent = fresh();
+        if (f.port)(args, &mut lent) != 0 {
+            return;
+        }
+        let theirs = (f.own)(args);
+        if theirs.iter().any(|x| !x.is_finite()) {
+            self.alone += 1;
+            return;
+        }
+        for (i, &x) in theirs.iter().enumerate() {
+            let gap = (x - lent[2 * i + 1]).abs();
+            if gap > self.widest {
+                self.widest = gap;
+                self.at = args.to_vec();
             }
         }
-        let at: Vec<String> = widest.1.iter().map(|x| format!("{:?}", x)).collect();
-        println!("| `{}` | {:.3e} | {} | {} |", f.name.trim_start_matches("brundelak_"), widest.0, at.join(", "), alone);
+    }
+
+    fn cells(&self) -> String {
+        if self.widest == 0.0 {
+            return "0 | ".to_string();
+        }
+        let at: Vec<String> = self.at.iter().map(|x| format!("{:?}", x)).collect();
+        format!("{:.2e} | {}", self.widest, at.join(", "))
+    }
+}
+
+fn gaps(n: u64) {
+    println!("| function | ordinary sights | at | all inputs | at | port alone |");
+    println!("|---|---|---|---|---|---|");
+    for f in functions::all() {
+        let (mut ordinary, mut all) = (Gap::new(), Gap::new());
+        let (mut r, mut args) = stream(&f);
+        for _ in 0..n {
+            let sight = inputs::ordinary(&mut r, f.sorts);
+            ordinary.look(&f, &sight);
+            all.look(&f, &sight);
+            args = inputs::next(&mut r, f.name, f.sorts, &args);
+            all.look(&f, &args);
+        }
+        println!(
+            "| `{}` | {} | {} | {} |",
+            f.name.trim_start_matches("brundelak_"),
+            ordinary.cells(),
+            all.cells(),
+            all.alone
+        );
     }
 }
 
