@@ -1,0 +1,347 @@
+/*
+ * Brundelak: star places, proved against written rules.
+ *
+ * Every function answers its status: 0, or the number of a refusal. Each number of the answer comes out through a
+ * pointer of its own, after the arguments; a refused call leaves what the pointers point to unchanged. Any double may
+ * be given. Pointers must be valid and distinct. No function keeps state or allocates; all may be called from any thread.
+ *
+ * Status
+ *    0   answered
+ *    1   an argument is NaN or infinite
+ *    2   a day is more than 730500.0 from 2451545.0
+ *    3   an angle exceeds 64.0 in size; a declination, altitude, observer or frame latitude exceeds a quarter turn
+ *        (1.5707963267948966) in size; for sine, cosine and tangent called alone: exceeds 400000.0
+ *    4   an angle that goes into a tangent, or whose cosine divides, exceeds 1.57 in size
+ *    5   a distance outside 0.0001 to 1000000.0 AU, a height outside -1000.0 to 100000.0 m, the root of a number below 0
+ *    6   the sine of the new inclination, or N in topopcent_ecl_coords, is zero
+ *    7   the argument of an arcsine exceeds 1 in size
+ *    8   list bytes not a multiple of 12, more than 60000, a lent slice too short, or a bad place in the list
+ *    9   a star record out of range
+ *   10   no star has the number sought
+ * 1 to 5 are tested first, lowest number first, over all arguments; the others as the work meets them.
+ * Limits themselves are accepted.
+ *
+ * Units: angles in radians, unless degrees are named; days are Julian (Ephemeris) days; distances in astronomical units;
+ * heights in metres above sea level. Azimuth is counted from south, west positive. Geographical longitude is positive
+ * west of Greenwich, latitude positive north.
+ * Meeus: J. Meeus, Astronomical Algorithms, 2nd edition.
+ *
+ * The archive is x86-64 code; link with -lbrundelak -lm.
+ */
+#ifndef BRUNDELAK_H
+#define BRUNDELAK_H
+
+#include <stddef.h>
+#include <stdint.h>
+
+#ifdef __cplusplus
+extern "C" {
+#endif
+
+/* ---- elementary functions ---------------------------------------------------------------------------------------- */
+
+/* Sine.
+ * Given:     x      angle (radians), size at most 400000.0
+ * Returned:  out    its sine; of -0.0 it is -0.0
+ * Refusals:  1, 3 */
+uint8_t brundelak_sine(double x, double *out);
+
+/* Cosine.
+ * Given:     x      angle (radians), size at most 400000.0
+ * Returned:  out    its cosine
+ * Refusals:  1, 3 */
+uint8_t brundelak_cosine(double x, double *out);
+
+/* Tangent.
+ * Given:     x      angle (radians), size at most 1.57
+ * Returned:  out    its tangent
+ * Refusals:  1, 3 (above 400000.0), 4 (above 1.57) */
+uint8_t brundelak_tangent(double x, double *out);
+
+/* Arctangent of two arguments.
+ * Given:     y, x   numbers of any size
+ * Returned:  out    angle (radians) of size at most PI, with the sign of y; of size at least a quarter turn where x
+ *                   bears a minus sign, -0.0 among them
+ * Refusals:  1 */
+uint8_t brundelak_arctangent(double y, double x, double *out);
+
+/* Arcsine.
+ * Given:     s      number of size at most 1
+ * Returned:  out    angle (radians)
+ * Refusals:  1, 7 */
+uint8_t brundelak_arcsine(double s, double *out);
+
+/* Square root, rounded to nearest as IEEE 754 demands.
+ * Given:     x      number, not below zero; -0.0 answers -0.0
+ * Returned:  out    its root
+ * Refusals:  1, 5 */
+uint8_t brundelak_root(double x, double *out);
+
+/* ---- angles, time, the Earth ------------------------------------------------------------------------------------- */
+
+/* Seconds of arc to degrees.
+ * Given:     seconds   seconds of arc
+ * Returned:  out       degrees
+ * Refusals:  1 */
+uint8_t brundelak_deg_frm_dms(double seconds, double *out);
+
+/* Seconds of time to degrees.
+ * Given:     seconds   seconds of time
+ * Returned:  out       degrees
+ * Refusals:  1 */
+uint8_t brundelak_deg_frm_hms(double seconds, double *out);
+
+/* Degrees to radians.
+ * Given:     x      degrees
+ * Returned:  out    radians
+ * Refusals:  1 */
+uint8_t brundelak_to_radians(double x, double *out);
+
+/* Degrees folded into one turn.
+ * Given:     x      degrees
+ * Returned:  out    the remainder by 360, from 0 up; 360.0 itself for some tiny negative x, -0.0 for -360.0
+ * Refusals:  1 */
+uint8_t brundelak_limit_to_360(double x, double *out);
+
+/* Radians folded into one turn.
+ * Given:     x      radians
+ * Returned:  out    the remainder by the double 2 PI, from 0 up; 2 PI itself for some tiny negative x
+ * Refusals:  1 */
+uint8_t brundelak_limit_to_two_pi(double x, double *out);
+
+/* Centuries from 2451545.0 (J2000).
+ * Given:     day    Julian day
+ * Returned:  out    Julian centuries of 36525 days
+ * Refusals:  1, 2 */
+uint8_t brundelak_julian_cent(double day, double *out);
+
+/* The observer's place from the Earth's centre (Meeus, chapter 11).
+ * Given:     lat      observer's latitude, size at most 1.57
+ *            height   metres above sea level
+ * Returned:  first    rho sin phi', in equatorial radii
+ *            second   rho cos phi'
+ * Refusals:  1, 3, 4, 5 */
+uint8_t brundelak_rho_sin_cos_phi(double lat, double height, double *first, double *second);
+
+/* ---- changes of frame (Meeus, chapter 13) ------------------------------------------------------------------------ */
+
+/* Hour angle from the sidereal time at Greenwich.
+ * Given:     green_sidreal   sidereal time at Greenwich
+ *            observer_long   observer's longitude
+ *            asc             right ascension
+ * Returned:  out             hour angle, not folded
+ * Refusals:  1, 3 */
+uint8_t brundelak_hr_angl_frm_observer_long(double green_sidreal, double observer_long, double asc, double *out);
+
+/* Hour angle from the local sidereal time.
+ * Given:     local_sidreal   local sidereal time
+ *            asc             right ascension
+ * Returned:  out             hour angle, not folded
+ * Refusals:  1, 3 */
+uint8_t brundelak_hr_angl_frm_loc_sidr(double local_sidreal, double asc, double *out);
+
+/* Ecliptic longitude from equatorial coordinates.
+ * Given:     asc, dec     right ascension, declination (size at most 1.57)
+ *            oblq_eclip   obliquity of the ecliptic
+ * Returned:  out          ecliptic longitude, -PI to PI
+ * Refusals:  1, 3, 4 */
+uint8_t brundelak_ecl_long_frm_eq(double asc, double dec, double oblq_eclip, double *out);
+
+/* Ecliptic latitude from equatorial coordinates.
+ * Given:     asc, dec     right ascension, declination
+ *            oblq_eclip   obliquity of the ecliptic
+ * Returned:  out          ecliptic latitude
+ * Refusals:  1, 3, 7 */
+uint8_t brundelak_ecl_lat_frm_eq(double asc, double dec, double oblq_eclip, double *out);
+
+/* Right ascension from ecliptic coordinates.
+ * Given:     ecl_long, ecl_lat   ecliptic longitude, latitude (size at most 1.57)
+ *            oblq_eclip          obliquity of the ecliptic
+ * Returned:  out                 right ascension, -PI to PI
+ * Refusals:  1, 3, 4 */
+uint8_t brundelak_asc_frm_ecl(double ecl_long, double ecl_lat, double oblq_eclip, double *out);
+
+/* Declination from ecliptic coordinates.
+ * Given:     ecl_long, ecl_lat   ecliptic longitude, latitude
+ *            oblq_eclip          obliquity of the ecliptic
+ * Returned:  out                 declination
+ * Refusals:  1, 3, 7 */
+uint8_t brundelak_dec_frm_ecl(double ecl_long, double ecl_lat, double oblq_eclip, double *out);
+
+/* Azimuth from equatorial coordinates.
+ * Given:     hour_angle     local hour angle
+ *            dec            declination, size at most 1.57
+ *            observer_lat   observer's latitude
+ * Returned:  out            azimuth from south, west positive, -PI to PI, with the sign of the sine of the hour angle
+ * Refusals:  1, 3, 4 */
+uint8_t brundelak_az_frm_eq(double hour_angle, double dec, double observer_lat, double *out);
+
+/* Altitude from equatorial coordinates.
+ * Given:     hour_angle     local hour angle
+ *            dec            declination
+ *            observer_lat   observer's latitude
+ * Returned:  out            altitude, without refraction
+ * Refusals:  1, 3, 7
+ * Note:      at an exact zenith the sum may round above 1: refused by 7, never clamped. */
+uint8_t brundelak_alt_frm_eq(double hour_angle, double dec, double observer_lat, double *out);
+
+/* Hour angle from horizontal coordinates.
+ * Given:     az, alt        azimuth, altitude (size at most 1.57)
+ *            observer_lat   observer's latitude
+ * Returned:  out            hour angle, -PI to PI
+ * Refusals:  1, 3, 4 */
+uint8_t brundelak_hr_angl_frm_hz(double az, double alt, double observer_lat, double *out);
+
+/* Declination from horizontal coordinates, as the ported crate has it.
+ * Given:     az, alt        azimuth, altitude
+ *            observer_lat   observer's latitude
+ * Returned:  out            arcsine of (sin lat sin alt - cos lat cos az cos az)
+ * Refusals:  1, 3, 7
+ * Note:      Meeus has cos alt cos az where the crate has cos az twice: docs/DIFFERENCES.md. */
+uint8_t brundelak_dec_frm_hz(double az, double alt, double observer_lat, double *out);
+
+/* Galactic longitude from equatorial coordinates of B1950.0.
+ * Given:     asc, dec   right ascension, declination (size at most 1.57)
+ * Returned:  out        galactic longitude
+ * Refusals:  1, 3, 4 */
+uint8_t brundelak_gal_long_frm_eq(double asc, double dec, double *out);
+
+/* Galactic latitude from equatorial coordinates of B1950.0.
+ * Given:     asc, dec   right ascension, declination
+ * Returned:  out        galactic latitude
+ * Refusals:  1, 3, 7 */
+uint8_t brundelak_gal_lat_frm_eq(double asc, double dec, double *out);
+
+/* Right ascension of B1950.0 from galactic coordinates.
+ * Given:     gal_long, gal_lat   galactic longitude, latitude (size at most 1.57)
+ * Returned:  out                 right ascension
+ * Refusals:  1, 3, 4 */
+uint8_t brundelak_asc_frm_gal(double gal_long, double gal_lat, double *out);
+
+/* ---- precession (Meeus, chapter 21) ------------------------------------------------------------------------------ */
+
+/* Annual precession.
+ * Given:     asc, dec   right ascension, declination (size at most 1.57)
+ *            day        Julian day of the new epoch
+ * Returned:  first      annual precession in right ascension
+ *            second     annual precession in declination
+ * Refusals:  1, 2, 3, 4 */
+uint8_t brundelak_annual_precess(double asc, double dec, double day, double *first, double *second);
+
+/* Equatorial coordinates (FK5) from one day to another.
+ * Given:     old_asc, old_dec   right ascension, declination on day1
+ *            day1, day2         Julian days
+ * Returned:  first, second      right ascension (not folded), declination on day2
+ * Refusals:  1, 2, 3, 7
+ * Note:      two signs are the ported crate's and not Meeus's: docs/DIFFERENCES.md. */
+uint8_t brundelak_precess_eq_coords(double old_asc, double old_dec, double day1, double day2,
+                                    double *first, double *second);
+
+/* Coordinates of the FK4 system from one day to another, as the ported crate has it.
+ * Given:     old_asc, old_dec   right ascension, declination on day1
+ *            day1, day2         Julian days
+ * Returned:  first, second      right ascension, declination on day2
+ * Refusals:  1, 2, 3, 7
+ * Note:      the crate takes counts of degrees as radians here: docs/DIFFERENCES.md. */
+uint8_t brundelak_precess_eq_coords_fk5(double old_asc, double old_dec, double day1, double day2,
+                                        double *first, double *second);
+
+/* Ecliptic coordinates from one day to another.
+ * Given:     old_long, old_lat   ecliptic longitude, latitude on day1
+ *            day1, day2          Julian days
+ * Returned:  first, second       ecliptic longitude (not folded), latitude on day2
+ * Refusals:  1, 2, 3, 7 */
+uint8_t brundelak_precess_ecl_coords(double old_long, double old_lat, double day1, double day2,
+                                     double *first, double *second);
+
+/* Orbital elements from one day to another (Meeus, chapter 24).
+ * Given:     old_inc                inclination on day1
+ *            old_arg_perih          argument of perihelion on day1
+ *            old_long_ascend_node   longitude of the ascending node on day1
+ *            day1, day2             Julian days
+ * Returned:  first, second, third   the same three on day2
+ * Refusals:  1, 2, 3, then 7 (new inclination), 6 (its sine is zero), 7 (the change of the perihelion) */
+uint8_t brundelak_precess_orb_elements(double old_inc, double old_arg_perih, double old_long_ascend_node,
+                                       double day1, double day2, double *first, double *second, double *third);
+
+/* ---- nutation (Meeus, chapters 22 and 23) ------------------------------------------------------------------------ */
+
+/* Nutation.
+ * Given:     day      Julian day
+ * Returned:  first    nutation in longitude
+ *            second   nutation in obliquity
+ * Refusals:  1, 2 */
+uint8_t brundelak_nutation(double day, double *first, double *second);
+
+/* Nutation in equatorial coordinates.
+ * Given:     asc, dec                   right ascension, declination (size at most 1.57)
+ *            nut_in_long, nut_in_oblq   nutation in longitude, in obliquity
+ *            tru_oblq                   obliquity of the ecliptic
+ * Returned:  first, second              nutation in right ascension, in declination
+ * Refusals:  1, 3, 4 */
+uint8_t brundelak_nutation_in_eq_coords(double asc, double dec, double nut_in_long, double nut_in_oblq,
+                                        double tru_oblq, double *first, double *second);
+
+/* ---- aberration (Meeus, chapters 23 and 25) ---------------------------------------------------------------------- */
+
+/* Solar aberration in longitude.
+ * Given:     dist   distance of Sun and Earth (AU)
+ * Returned:  out    aberration
+ * Refusals:  1, 5 */
+uint8_t brundelak_sol_aberr(double dist, double *out);
+
+/* Stellar aberration in equatorial coordinates (Ron and Vondrak).
+ * Given:     asc, dec        right ascension, declination (size at most 1.57)
+ *            day             Julian day
+ * Returned:  first, second   aberration in right ascension, in declination
+ * Refusals:  1, 2, 3, 4 */
+uint8_t brundelak_stell_aberr_in_eq_coords(double asc, double dec, double day, double *first, double *second);
+
+/* ---- parallax (Meeus, chapter 40) -------------------------------------------------------------------------------- */
+
+/* Equatorial horizontal parallax.
+ * Given:     dist   distance from the Earth (AU)
+ * Returned:  out    parallax
+ * Refusals:  1, 5 */
+uint8_t brundelak_eq_hz_parallax(double dist, double *out);
+
+/* Topocentric equatorial coordinates.
+ * Given:     asc, dec        geocentric right ascension, declination
+ *            parallax        equatorial horizontal parallax
+ *            long_, lat      observer's longitude, latitude (size at most 1.57)
+ *            height          metres above sea level
+ *            sidereal        sidereal time at Greenwich
+ * Returned:  first, second   topocentric right ascension, declination
+ * Refusals:  1, 3, 4, 5 */
+uint8_t brundelak_topocent_eq_coords(double asc, double dec, double parallax, double long_, double lat, double height,
+                                     double sidereal, double *first, double *second);
+
+/* Topocentric ecliptic coordinates and semidiameter.
+ * Given:     ecl_long, ecl_lat      geocentric ecliptic longitude, latitude
+ *            parallax               equatorial horizontal parallax
+ *            long_, lat             observer's longitude (not used, refused all the same), latitude (size at most 1.57)
+ *            height                 metres above sea level
+ *            sidereal               local sidereal time
+ *            oblq                   obliquity of the ecliptic
+ *            semidiameter           geocentric semidiameter
+ * Returned:  first, second, third   topocentric longitude (0 to 2 PI), latitude, semidiameter
+ * Refusals:  1, 3, 4, 5, then 6 (N is zero), 7
+ * Note:      for N < 0 the latitude lies beyond the pole, as in the ported crate: docs/DIFFERENCES.md. */
+uint8_t brundelak_topopcent_ecl_coords(double ecl_long, double ecl_lat, double parallax, double long_, double lat,
+                                       double height, double sidereal, double oblq, double semidiameter,
+                                       double *first, double *second, double *third);
+
+/* ---- the chain --------------------------------------------------------------------------------------------------- */
+
+/* A star's place from one day to another: precession, then nutation and aberration at the precessed point.
+ * Given:     asc, dec        right ascension, declination on day1
+ *            day1, day2      Julian days
+ * Returned:  first, second   right ascension (not folded), declination on day2
+ * Refusals:  1, 2, 3, then 7 (precession), then 4 on the precessed declination */
+uint8_t brundelak_chain(double asc, double dec, double day1, double day2, double *first, double *second);
+
+#ifdef __cplusplus
+}
+#endif
+
+#endif

@@ -1,0 +1,258 @@
+//! Compares the port with the supplied Rust.
+//!   driver compare N      N calls a function, bit for bit, refusals against section 5's table
+//!   driver fuzz N         N calls in all, any bits at every function: it ends, and writes what it answers and nothing else
+//!   driver gaps N         the widest gap between the port and Rust's own library functions, as a table
+extern crate astro_own as own;
+extern crate astro_routed as routed;
+
+mod aimed;
+mod functions;
+mod inputs;
+mod port;
+mod table;
+mod written;
+
+use functions::{Function, Outcome};
+use inputs::Random;
+use port::Lent;
+use std::process::exit;
+
+const SEED: u64 = 0x6272756e64656c61;
+
+/// Floats that no function answers: each place its own NaN.
+fn fresh() -> Lent {
+    let mut lent = [0.0; 7];
+    for (i, x) in lent.iter_mut().enumerate() {
+        *x = f64::from_bits(0x7FF4A5A5A5A50000 + i as u64);
+    }
+    lent
+}
+
+fn bits(xs: &[f64]) -> Vec<u64> {
+    xs.iter().map(|x| x.to_bits()).collect()
+}
+
+fn shown(xs: &[f64]) -> String {
+    let words: Vec<String> = xs.iter().map(|x| format!("{:?} ({:016x})", x, x.to_bits())).collect();
+    words.join(", ")
+}
+
+/// What is in the lent floats after a call that answers as `outcome` says.
+fn lent_after(outcome: &Outcome) -> Lent {
+    let mut lent = fresh();
+    if let Outcome::Answer(ref xs) = *outcome {
+        for (i, &x) in xs.iter().enumerate() {
+            lent[2 * i + 1] = x;
+        }
+    }
+    lent
+}
+
+struct Count {
+    calls: u64,
+    by: [u64; 256],
+    differing: u64,
+}
+
+impl Count {
+    fn new() -> Count {
+        Count { calls: 0, by: [0; 256], differing: 0 }
+    }
+
+    /// One call of the port, compared.
+    fn compare(&mut self, f: &Function, args: &[f64]) {
+        let refusal = table::first_of(f.sorts, args);
+        let outcome = if refusal != 0 { Outcome::Refused(refusal) } else { (f.expected)(args) };
+        let mut lent = fresh();
+        let status = (f.port)(args, &mut lent);
+        self.calls += 1;
+        self.by[status as usize] += 1;
+        let finite = match outcome {
+            Outcome::Answer(ref xs) => xs.iter().all(|x| x.is_finite()),
+            Outcome::Refused(_) => true,
+        };
+        let expected = match outcome {
+            Outcome::Answer(_) => 0,
+            Outcome::Refused(n) => n,
+        };
+        if finite && status == expected && bits(&lent) == bits(&lent_after(&outcome)) {
+            return;
+        }
+        self.differing += 1;
+        if self.differing <= 3 {
+            println!("{} differs at {}", f.name, shown(args));
+            println!("  port: status {}, {}", status, shown(&[lent[1], lent[3], lent[5]]));
+            println!("  Rust: {:?}", outcome);
+        }
+    }
+
+    fn line(&self, name: &str) -> String {
+        let refused: Vec<String> = (1..256).filter(|&n| self.by[n] > 0).map(|n| format!("{}:{}", n, self.by[n])).collect();
+        format!(
+            "{:<32} calls {:>7}  answered {:>7}  refused {:<40} differing {}",
+            name.trim_start_matches("brundelak_"),
+            self.calls,
+            self.by[0],
+            refused.join(" "),
+            self.differing
+        )
+    }
+}
+
+/// The inputs of a function, the same for every run.
+fn stream(f: &Function) -> (Random, Vec<f64>) {
+    let seed = f.name.bytes().fold(SEED, |h, b| (h ^ b as u64).wrapping_mul(0x100000001B3));
+    (Random(seed), vec![0.0; f.sorts.len()])
+}
+
+/// The sums of the aberration's rows are private, so each day is seen from directions that recover all three of them:
+/// at (0, 0) the answer is (y, z) over c; at a quarter turn it is (-x, z) but for rounding; a steep one mixes all.
+const DIRECTIONS: [(f64, f64); 6] =
+    [(0.0, 0.0), (1.5707963267948966, 0.0), (-1.5707963267948966, 0.0), (0.7, 1.2), (2.9, -1.57), (-64.0, 0.3)];
+
+fn compare(n: u64) -> bool {
+    let mut total = (0, 0);
+    for f in functions::all() {
+        let mut count = Count::new();
+        let (mut r, mut args) = stream(&f);
+        for _ in 0..n {
+            args = inputs::next(&mut r, f.name, f.sorts, &args);
+            count.compare(&f, &args);
+        }
+        if f.name == "brundelak_stell_aberr_in_eq_coords" {
+            for i in 0..n / 10 {
+                let day = match i {
+                    0 => 1721045.0,
+                    1 => 3182045.0,
+                    _ => r.between(1721045.0, 3182045.0),
+                };
+                for &(asc, dec) in DIRECTIONS.iter() {
+                    count.compare(&f, &[asc, dec, day]);
+                }
+            }
+        }
+        println!("{}", count.line(f.name));
+        if count.by[0] * 3 < count.calls || f.meets.iter().any(|&n| count.by[n as usize] == 0) {
+            println!("{}: too few answers, or a refusal that was never met", f.name);
+            return false;
+        }
+        total = (total.0 + count.calls, total.1 + count.differing);
+    }
+    println!("compared {} calls, differing {}", total.0, total.1);
+    total.1 == 0
+}
+
+fn fuzz(n: u64) -> bool {
+    let all = functions::all();
+    let mut r = Random(SEED);
+    let mut wrong = 0;
+    let mut answered = 0;
+    for i in 0..n {
+        let f = &all[i as usize % all.len()];
+        // Any bits, and often enough small enough to be answered.
+        let args: Vec<f64> = f.sorts.iter().map(|_| {
+            let x = r.bits();
+            match r.below(4) {
+                0 => f64::from_bits(x),
+                1 => inputs::damaged(&mut r),
+                _ => f64::from_bits(x & 0xBFFFFFFFFFFFFFFF),
+            }
+        }).collect();
+        let mut lent = fresh();
+        let status = (f.port)(&args, &mut lent);
+        let after = fresh();
+        let canaries = (0..4).all(|k| lent[2 * k].to_bits() == after[2 * k].to_bits());
+        let kept = bits(&lent) == bits(&after);
+        let finite = [1, 3, 5].iter().all(|&k| lent[k].is_finite() || lent[k].to_bits() == after[k].to_bits());
+        let sound = canaries && finite && (status != 0) == kept && (status == 0 || f.meets.contains(&status));
+        answered += (status == 0) as u64;
+        if !sound {
+            wrong += 1;
+            println!("{}: status {}, {} at {}", f.name, status, shown(&lent), shown(&args));
+        }
+    }
+    println!("fuzzed {} calls, answered {}, wrong {}", n, answered, wrong);
+    wrong == 0
+}
+
+/// The widest gap between the port and Rust's own library functions.
+struct Gap {
+    widest: f64,
+    at: Vec<f64>,
+    /// Calls that the port answers and the Rust answers by NaN or infinity.
+    alone: u64,
+}
+
+impl Gap {
+    fn new() -> Gap {
+        Gap { widest: 0.0, at: vec![], alone: 0 }
+    }
+
+    fn look(&mut self, f: &Function, args: &[f64]) {
+        let mut lent = fresh();
+        if (f.port)(args, &mut lent) != 0 {
+            return;
+        }
+        let theirs = (f.own)(args);
+        if theirs.iter().any(|x| !x.is_finite()) {
+            self.alone += 1;
+            return;
+        }
+        for (i, &x) in theirs.iter().enumerate() {
+            let gap = (x - lent[2 * i + 1]).abs();
+            if gap > self.widest {
+                self.widest = gap;
+                self.at = args.to_vec();
+            }
+        }
+    }
+
+    fn cells(&self) -> String {
+        if self.widest == 0.0 {
+            return "0 | ".to_string();
+        }
+        let at: Vec<String> = self.at.iter().map(|x| format!("{:?}", x)).collect();
+        format!("{:.2e} | {}", self.widest, at.join(", "))
+    }
+}
+
+fn gaps(n: u64) {
+    println!("| function | ordinary sights | at | all inputs | at | port alone |");
+    println!("|---|---|---|---|---|---|");
+    for f in functions::all() {
+        let (mut ordinary, mut all) = (Gap::new(), Gap::new());
+        let (mut r, mut args) = stream(&f);
+        for _ in 0..n {
+            let sight = inputs::ordinary(&mut r, f.sorts);
+            ordinary.look(&f, &sight);
+            all.look(&f, &sight);
+            args = inputs::next(&mut r, f.name, f.sorts, &args);
+            all.look(&f, &args);
+        }
+        println!(
+            "| `{}` | {} | {} | {} |",
+            f.name.trim_start_matches("brundelak_"),
+            ordinary.cells(),
+            all.cells(),
+            all.alone
+        );
+    }
+}
+
+fn main() {
+    let args: Vec<String> = std::env::args().collect();
+    let n = args.get(2).and_then(|s| s.parse().ok()).unwrap_or(0);
+    let good = match args.get(1).map(|s| s.as_str()) {
+        Some("compare") if n > 0 => compare(n),
+        Some("fuzz") if n > 0 => fuzz(n),
+        Some("gaps") if n > 0 => {
+            gaps(n);
+            true
+        }
+        _ => {
+            println!("driver compare N | fuzz N | gaps N");
+            false
+        }
+    };
+    exit(if good { 0 } else { 1 });
+}

@@ -1,0 +1,90 @@
+use std::error::Error;
+use std::fmt;
+
+/// Why a call was refused. A refused call answers nothing else.
+///
+/// Rows 1 to 5 are tested first, lowest number first, over all arguments; the others as the work meets them.
+#[derive(Clone, Copy, Debug, PartialEq, Eq, Hash)]
+#[non_exhaustive]
+pub enum Refusal {
+    /// 1: an argument is NaN or infinite.
+    NotFinite,
+    /// 2: a day is more than 730500.0 from 2451545.0.
+    Day,
+    /// 3: an angle exceeds 64.0 in size, or a declination, altitude or latitude a quarter turn.
+    Angle,
+    /// 4: an angle that goes into a tangent, or whose cosine divides, exceeds 1.57 in size.
+    Steep,
+    /// 5: a distance, a height or a root's argument is outside its range.
+    Range,
+    /// 6: a divisor is zero.
+    Zero,
+    /// 7: the argument of an arcsine exceeds 1 in size.
+    Arcsine,
+    /// 8: the list, a place in it or a lent slice has a bad length.
+    List,
+    /// 9: a star record is out of range.
+    Record,
+    /// 10: no star has the number sought.
+    NoStar,
+    /// A number that this version has no name for.
+    Other(u8),
+}
+
+impl Refusal {
+    /// The status as a result: 0 is no refusal.
+    pub(crate) fn from_status(status: u8) -> Result<(), Refusal> {
+        Err(match status {
+            0 => return Ok(()),
+            1 => Refusal::NotFinite,
+            2 => Refusal::Day,
+            3 => Refusal::Angle,
+            4 => Refusal::Steep,
+            5 => Refusal::Range,
+            6 => Refusal::Zero,
+            7 => Refusal::Arcsine,
+            8 => Refusal::List,
+            9 => Refusal::Record,
+            10 => Refusal::NoStar,
+            n => Refusal::Other(n),
+        })
+    }
+
+    /// The refusal's number.
+    pub fn number(self) -> u8 {
+        match self {
+            Refusal::NotFinite => 1,
+            Refusal::Day => 2,
+            Refusal::Angle => 3,
+            Refusal::Steep => 4,
+            Refusal::Range => 5,
+            Refusal::Zero => 6,
+            Refusal::Arcsine => 7,
+            Refusal::List => 8,
+            Refusal::Record => 9,
+            Refusal::NoStar => 10,
+            Refusal::Other(n) => n,
+        }
+    }
+}
+
+impl fmt::Display for Refusal {
+    fn fmt(&self, f: &mut fmt::Formatter<'_>) -> fmt::Result {
+        let why = match self {
+            Refusal::NotFinite => "an argument is NaN or infinite",
+            Refusal::Day => "a day is more than 730500 days from 2451545.0",
+            Refusal::Angle => "an angle is too large, or a latitude or declination exceeds a quarter turn",
+            Refusal::Steep => "an angle that goes into a tangent or divides by its cosine exceeds 1.57",
+            Refusal::Range => "a distance, a height or the argument of a root is outside its range",
+            Refusal::Zero => "the sine of the new inclination, or the divisor N, is zero",
+            Refusal::Arcsine => "the argument of an arcsine exceeds 1 in size",
+            Refusal::List => "the list, a place in it or a lent slice has a bad length",
+            Refusal::Record => "a star record is out of range",
+            Refusal::NoStar => "no star has the number sought",
+            Refusal::Other(_) => "the call was refused",
+        };
+        write!(f, "refused by {}: {}", self.number(), why)
+    }
+}
+
+impl Error for Refusal {}

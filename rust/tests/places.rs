@@ -1,0 +1,148 @@
+//! Published examples, refusals and mirrors through the crate.
+use brundelak::coords::{EclPoint, EqPoint, GeographPoint};
+use brundelak::*;
+use std::f64::consts::{FRAC_PI_2, PI};
+
+fn near(x: f64, y: f64, within: f64) {
+    assert!((x - y).abs() <= within, "{} is not within {} of {}", x, within, y);
+}
+
+fn deg(x: f64) -> f64 {
+    angle::to_radians(x).unwrap()
+}
+
+/// The next double in size.
+fn beyond(x: f64) -> f64 {
+    f64::from_bits(x.to_bits() + 1)
+}
+
+fn number<T: std::fmt::Debug>(r: Result<T, Refusal>) -> u8 {
+    r.map_or_else(Refusal::number, |_| 0)
+}
+
+#[test]
+fn elementary_cases() {
+    assert_eq!(elementary::sin(-0.0).unwrap().to_bits(), (-0.0f64).to_bits());
+    assert_eq!(elementary::cos(0.0), Ok(1.0));
+    assert_eq!(elementary::atan2(1.0, 1.0), Ok(std::f64::consts::FRAC_PI_4));
+    assert_eq!(elementary::atan2(0.0, -0.0), Ok(PI));
+    assert_eq!(elementary::atan2(-1.0, 0.0), Ok(-FRAC_PI_2));
+    assert_eq!(elementary::sqrt(4.0), Ok(2.0));
+    assert_eq!(elementary::sqrt(f64::from_bits(1)), Ok(2f64.powi(-537)));
+    assert_eq!(elementary::sqrt(-1.0), Err(Refusal::Range));
+    assert_eq!(elementary::asin(1.0), Ok(FRAC_PI_2));
+    assert_eq!(elementary::asin(beyond(1.0)), Err(Refusal::Arcsine));
+    assert_eq!(angle::limit_to_360(-90.0), Ok(270.0));
+}
+
+#[test]
+fn azimuth_keeps_its_side() {
+    assert_eq!(coords::az_frm_eq(0.0, 0.5, 0.0), Ok(PI));
+    assert_eq!(coords::az_frm_eq(-0.0, 0.5, 0.0), Ok(-PI));
+    let (east, west) = (coords::az_frm_eq(-0.7, 0.4, 0.9).unwrap(), coords::az_frm_eq(0.7, 0.4, 0.9).unwrap());
+    assert_eq!(east, -west);
+    assert_eq!(coords::alt_frm_eq(-0.7, 0.4, 0.9), coords::alt_frm_eq(0.7, 0.4, 0.9));
+}
+
+/// Meeus, example 13.b: Venus on 1987 April 10.
+#[test]
+fn meeus_13_b() {
+    let (h, dec, lat) = (deg(64.352133), deg(-6.719892), deg(38.921389));
+    near(coords::az_frm_eq(h, dec, lat).unwrap(), deg(68.0337), deg(0.0001));
+    near(coords::alt_frm_eq(h, dec, lat).unwrap(), deg(15.1249), deg(0.0001));
+}
+
+/// Meeus, example 13.a: Pollux.
+#[test]
+fn meeus_13_a() {
+    let (asc, dec, oblq) = (deg(116.328942), deg(28.026183), deg(23.4392911));
+    near(coords::ecl_long_frm_eq(asc, dec, oblq).unwrap(), deg(113.215630), deg(0.000001));
+    near(coords::ecl_lat_frm_eq(asc, dec, oblq).unwrap(), deg(6.684170), deg(0.000001));
+}
+
+/// Meeus, example 21.b: theta Persei to 2028 November 13.19.
+#[test]
+fn meeus_21_b() {
+    let (asc, dec) = precess::precess_eq_coords(deg(41.054063), deg(49.227750), 2451545.0, 2462088.69).unwrap();
+    near(asc, deg(41.547214), deg(0.00001));
+    near(dec, deg(49.348483), deg(0.00001));
+}
+
+/// Meeus, example 22.a: 1987 April 10.
+#[test]
+fn meeus_22_a() {
+    let (long, oblq) = nutation::nutation(2446895.5).unwrap();
+    near(long, deg(-3.788 / 3600.0), deg(0.001 / 3600.0));
+    near(oblq, deg(9.443 / 3600.0), deg(0.001 / 3600.0));
+}
+
+/// Meeus, example 23.a: theta Persei, nutation and aberration. The example's aberration goes by a circular formula with the
+/// perihelion's term, the crate's by Ron and Vondrak's velocities, so the two differ in the hundredths of a second.
+#[test]
+fn meeus_23_a() {
+    let star = EqPoint { asc: deg(41.5472), dec: deg(49.3485) };
+    let (a, d) = aberr::stell_aberr_in_eq_coords(&star, 2462088.69).unwrap();
+    near(a, deg(30.045 / 3600.0), deg(0.1 / 3600.0));
+    near(d, deg(6.697 / 3600.0), deg(0.1 / 3600.0));
+    let (a, d) =
+        nutation::nutation_in_eq_coords(&star, deg(14.861 / 3600.0), deg(2.705 / 3600.0), deg(23.436)).unwrap();
+    near(a, deg(15.843 / 3600.0), deg(0.01 / 3600.0));
+    near(d, deg(6.218 / 3600.0), deg(0.01 / 3600.0));
+}
+
+/// Meeus, example 40.a: Mars from Palomar on 2003 August 28.
+#[test]
+fn meeus_40_a() {
+    let parallax = parallax::eq_hz_parallax(0.37276).unwrap();
+    near(parallax, deg(23.592 / 3600.0), deg(0.001 / 3600.0));
+    let palomar = GeographPoint { long: deg(116.8625), lat: deg(33.356111) };
+    let mars = EqPoint { asc: deg(339.530208), dec: deg(-15.771083) };
+    let sidereal = deg(15.0 * (1.0 + 40.0 / 60.0 + 45.0 / 3600.0));
+    let seen = parallax::topocent_eq_coords(&mars, parallax, &palomar, 1706.0, sidereal).unwrap();
+    near(seen.dec, deg(-15.775), deg(0.0001));
+}
+
+#[test]
+fn limits_are_accepted_and_the_next_double_is_not() {
+    assert_eq!(number(time::julian_cent(3182045.0)), 0);
+    assert_eq!(number(time::julian_cent(beyond(3182045.0))), 2);
+    assert_eq!(number(coords::az_frm_eq(64.0, 1.57, FRAC_PI_2)), 0);
+    assert_eq!(number(coords::az_frm_eq(beyond(64.0), 1.57, FRAC_PI_2)), 3);
+    assert_eq!(number(coords::az_frm_eq(64.0, beyond(1.57), FRAC_PI_2)), 4);
+    assert_eq!(number(coords::az_frm_eq(64.0, beyond(1.57), beyond(FRAC_PI_2))), 3);
+    assert_eq!(number(coords::az_frm_eq(f64::NAN, 2.0, 2.0)), 1);
+    assert_eq!(number(aberr::sol_aberr(0.0001)), 0);
+    assert_eq!(number(aberr::sol_aberr(0.0)), 5);
+    assert_eq!(number(earth::rho_sin_cos_phi(0.5, 100000.0)), 0);
+    assert_eq!(number(earth::rho_sin_cos_phi(0.5, beyond(100000.0))), 5);
+    assert_eq!(number(precess::precess_orb_elements(0.0, 0.5, 0.5, 2451545.0, 2451545.0)), 6);
+    assert_eq!(number(chain::chain(0.0, f64::INFINITY, 0.0, 0.0)), 1);
+}
+
+#[test]
+fn a_divisor_of_zero_is_refused() {
+    let place = GeographPoint { long: 0.3, lat: 0.0 };
+    let point = EclPoint { long: 0.7, lat: 0.0 };
+    let r = parallax::topopcent_ecl_coords(&point, FRAC_PI_2, &place, 0.0, 0.7, 0.4, 0.005);
+    assert_eq!(r, Err(Refusal::Zero));
+}
+
+/// The chain is its steps.
+#[test]
+fn the_chain_is_its_steps() {
+    let (day1, day2) = (2415020.5, 2462088.69);
+    let (asc, dec) = precess::precess_eq_coords(0.7, 0.8, day1, day2).unwrap();
+    let point = EqPoint { asc, dec };
+    let t = time::julian_cent(day2).unwrap();
+    let oblq = deg(84381.448 / 3600.0 - t * (46.8150 / 3600.0 + t * (0.00059 / 3600.0 - t * (0.001813 / 3600.0))));
+    let (long, obl) = nutation::nutation(day2).unwrap();
+    let n = nutation::nutation_in_eq_coords(&point, long, obl, oblq).unwrap();
+    let a = aberr::stell_aberr_in_eq_coords(&point, day2).unwrap();
+    assert_eq!(chain::chain(0.7, 0.8, day1, day2), Ok(EqPoint { asc: (asc + n.0) + a.0, dec: (dec + n.1) + a.1 }));
+}
+
+#[test]
+fn refusals_speak() {
+    assert_eq!(Refusal::Steep.to_string(), "refused by 4: an angle that goes into a tangent or divides by its cosine exceeds 1.57");
+    assert_eq!(Refusal::Other(14).number(), 14);
+}
