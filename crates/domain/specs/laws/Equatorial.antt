@@ -77,24 +77,24 @@ unfolding turnsOf
 turns-near xi zeta theta X Z T = record { xi = X; zeta = Z; sine = near-sine theta T; cosine = near-cosine theta T }
 
 module _ (day1 day2 : Float) (none : daysRefusal day1 day2 ≡ 0) where
-  C : Within 20 (centuryOf day1)
-  C = century-within day1 (first-accepted day1 day2 none)
+  century : Within 20 (centuryOf day1)
+  century = century-within day1 (first-accepted day1 day2 none)
 
-  S : Within 41 (spanOf day1 day2)
-  S = span-within day1 day2 none
+  span : Within 41 (spanOf day1 day2)
+  span = span-within day1 day2 none
 
-  F : Within 41 (fk4Century day1)
-  F = fk4-century-within day1 (first-accepted day1 day2 none)
+  fk4-century : Within 41 (fk4Century day1)
+  fk4-century = fk4-century-within day1 (first-accepted day1 day2 none)
 
-  R : Within 41 (fk4Span day1 day2)
-  R = fk4-span-within day1 day2 none
+  fk4-span : Within 41 (fk4Span day1 day2)
+  fk4-span = fk4-span-within day1 day2 none
 
   pub eq-turns-near : EqTurnsNear (eqTurnsOf day1 day2)
   unfolding eqTurnsOf
   eq-turns-near =
       let c = centuryOf day1 in
       let t = spanOf day1 day2 in
-      turns-near (radiansOf (eqXi c t)) (radiansOf (eqZeta c t)) (radiansOf (eqTheta c t)) (xi-within c t C S) (zeta-within c t C S) (theta-within c t C S)
+      turns-near (radiansOf (eqXi c t)) (radiansOf (eqZeta c t)) (radiansOf (eqTheta c t)) (xi-within c t century span) (zeta-within c t century span) (theta-within c t century span)
 
   pub fk4-turns-near : EqTurnsNear (fk4TurnsOf day1 day2)
   unfolding fk4TurnsOf degreesAsRadians isFinite le neg round
@@ -103,14 +103,14 @@ module _ (day1 day2 : Float) (none : daysRefusal day1 day2 ≡ 0) where
       let t = fk4Span day1 day2 in
       let xi = degreesAsRadians (fk4Xi c t) in
       turns-near xi (degreesAsRadians (fk4Zeta (fk4Xi c t) t)) (degreesAsRadians (fk4Theta c t))
-      (within 1024 (known (fk4-xi-within c t F R)) tt) (fk4-zeta-within c t F R) (fk4-theta-within c t F R)
+      (within 1024 (known (fk4-xi-within c t fk4-century fk4-span)) tt) (fk4-zeta-within c t fk4-century fk4-span) (fk4-theta-within c t fk4-century fk4-span)
 
   -- the third angle goes into a sine
   pub theta-far : size (radiansOf (eqTheta (centuryOf day1) (spanOf day1 day2)) .0) ≼ farthestAlone
-  theta-far = near-far (radiansOf (eqTheta (centuryOf day1) (spanOf day1 day2)) .0) (theta-within (centuryOf day1) (spanOf day1 day2) C S)
+  theta-far = near-far (radiansOf (eqTheta (centuryOf day1) (spanOf day1 day2)) .0) (theta-within (centuryOf day1) (spanOf day1 day2) century span)
 
   pub fk4-theta-far : size (fk4Theta (fk4Century day1) (fk4Span day1 day2) .0) ≼ farthestAlone
-  fk4-theta-far = near-far (fk4Theta (fk4Century day1) (fk4Span day1 day2) .0) (fk4-theta-within (fk4Century day1) (fk4Span day1 day2) F R)
+  fk4-theta-far = near-far (fk4Theta (fk4Century day1) (fk4Span day1 day2) .0) (fk4-theta-within (fk4Century day1) (fk4Span day1 day2) fk4-century fk4-span)
 
 -- ---- a place after the turns
 
