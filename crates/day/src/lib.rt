@@ -1,7 +1,7 @@
 // A day in decimal: digits and an optional point, read with one rounding.
 // Rules: specs/rules, in reading order in specs/rules.antt.
 ghost use mathlib.Core.Path.{_≡_};
-ghost use Rattle.day.specs.rules.Day.{start, unclear, nextScale, withDigit, withPoint, withByte, dayFrom, shownDay, dayRule};
+ghost use Rattle.day.specs.rules.Day.{unclear, nextScale, withDigit, withPoint, withByte, dayFrom, shownDay, dayRule};
 
 // What was read so far: the digits as a whole number, the power of ten below them, whether a point and a digit stood there, and
 // whether all was clear.

@@ -1,7 +1,7 @@
 -- A day in decimal: digits, and at most one point. The digits as a whole number, up to 2^53, over a power of ten, up to 10^22: both
 -- are exact, so that the one division is the only rounding. Anything else is not a day.
 use Prim.Native.Nat.{ℕ, _+_, _*_, _-_}
-use mathlib.Core.Bool.{Bool, true, false, cond, _&&_}
+use mathlib.Core.Bool.{true, false, cond}
 use mathlib.Core.List.{List, [], _∷_}
 use lib.Dec.{eqb, leb}
 use lib.IntN.{pos}
