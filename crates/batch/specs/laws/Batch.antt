@@ -1,5 +1,5 @@
 -- The whole call: what an accepted one has, its values by their places, and its tally. Assumes nothing.
-use Prim.Native.Nat.{ℕ, _+_, _≤_, _<_}
+use Prim.Native.Nat.{ℕ, zero, suc, _+_, _≤_, _<_}
 use mathlib.Core.Path.{_≡_, refl, sym, ap, _∙_}
 use mathlib.Core.Bool.{Bool, true, false, cond, _&&_}
 use mathlib.Core.List.{List, [], _∷_, _++_, map}
@@ -7,9 +7,10 @@ use native.Mathlib.Numerals.{add-one}
 use native.Mathlib.Omega.{arith}
 use lib.Dec.{eqb, leb}
 use lib.Ieee.{Float}
-use lib.ListN.{length, take, drop, getD, length-map, List·getD-map}
+use lib.ListN.{length, take, drop, getD, length-map, List·getD-map, List·getD-append}
 use lib.Seq.{length-take-le, take-suc, take-length, take-at}
 use borrow.Author.Tests.{leb-true, eq-eqb, eqb-true, eqb-false}
+use Rattle.double.specs.rules.Operations.{zero as zero64}
 use Rattle.quantity.specs.rules.Answer.{Answer, Pair}
 use Rattle.precess.specs.rules.Days.{daysRefusal}
 use Rattle.lent.specs.laws.Upto.{getD-upto}
@@ -21,8 +22,8 @@ use Rattle.tally.specs.declared.Tally.{Tally}
 use Rattle.tally.specs.rules.Tally.{highest, places, raiseRule, times, tallyOf, empty, raisedBy, AllKnown}
 use Rattle.tally.specs.laws.Tally.{times-most, raise-more, counts-all}
 use Rattle.batch.specs.declared.Batched.{Batched}
-use Rattle.batch.specs.rules.Star.{starRule, statusOf}
-use Rattle.batch.specs.rules.Batch.{hasRoom, batchRefusal, answersOf, statusesOf, Batch}
+use Rattle.batch.specs.rules.Star.{starRule, statusOf, firstOf, secondOf}
+use Rattle.batch.specs.rules.Batch.{hasRoom, batchRefusal, answersOf, statusesOf, lentRule, Batch}
 use Rattle.batch.specs.laws.Star.{status-known}
 
 -- ---- an accepted call
@@ -54,6 +55,12 @@ accepted s day1 day2 status asc dec h =
 
 -- ---- the values of one slice
 
+-- an element that is there is the same at any default
+pub any-default : {A : Type 0} (l : List A) (i : ℕ) (d e : A) → i < length l → getD l i d ≡ getD l i e
+any-default [] i d e h = absurd (omega arith)
+any-default (x ∷ l) zero d e h = refl
+any-default (x ∷ l) (suc i) d e h = any-default l i d e (omega arith)
+
 module _ {A : Type 0} (f : Answer Pair → A) (s : List ℕ) (day1 day2 : Float) where
   pub how-many : length (map f (answersOf s day1 day2)) ≡ countOf s
   unfolding answersOf
@@ -65,6 +72,14 @@ module _ {A : Type 0} (f : Answer Pair → A) (s : List ℕ) (day1 day2 : Float)
       sym
       (List·getD-map f (answersOf s day1 day2) i (starRule nought day1 day2)
       ∙ ap f (List·getD-map (λ (star : Star). starRule star day1 day2) (stars s) i nought))
+
+  -- the same at any default, in a slice whose front is the values
+  pub stored : (old : List A) (i : ℕ) (d : A) → i < countOf s → getD (map f (answersOf s day1 day2) ++ drop (length (map f (answersOf s day1 day2))) old) i d ≡ f (starRule (nth s i) day1 day2)
+  stored old i d h =
+      let k : i < length (map f (answersOf s day1 day2)) = omega (arith, how-many) in
+      List·getD-append (map f (answersOf s day1 day2)) (drop (length (map f (answersOf s day1 day2))) old) d i k
+      ∙ any-default (map f (answersOf s day1 day2)) i d (f (starRule nought day1 day2)) k
+      ∙ sym (value i)
 
 -- ---- the tally
 
@@ -93,13 +108,27 @@ raised-all s day1 day2 i e = ap (λ (n : ℕ). take n (statusesOf s day1 day2)) 
 
 module _ {s : List ℕ} {day1 day2 : Float} {status : List ℕ} {asc dec : List Float} {r : Batched} {status′ : List ℕ} {asc′ dec′ : List Float} (b : Batch s day1 day2 status asc dec r status′ asc′ dec′) where
   module _ (none : batchRefusal s day1 day2 (length status) (length asc) (length dec) ≡ 0) where
-    tally-is : r .tally ≡ tallyOf (statusesOf s day1 day2)
+    pub tally-is : r .tally ≡ tallyOf (statusesOf s day1 day2)
     tally-is = ap (λ (q : Batched). q .tally) (b .answer) ∙ ap (λ (t : Bool). cond t (tallyOf (statusesOf s day1 day2)) empty) (eq-eqb _ 0 none)
+
+    -- a slice's front is the values
+    front : {A : Type 0} (new old cur : List A) → cur ≡ lentRule (batchRefusal s day1 day2 (length status) (length asc) (length dec)) new old → cur ≡ new ++ drop (length new) old
+    front new old cur e = e ∙ ap (λ (t : Bool). cond t (new ++ drop (length new) old) old) (eq-eqb _ 0 none)
+
+    -- star i's status and angles are the chain's at that star
+    pub status-at : (i : ℕ) → i < countOf s → getD status′ i 0 ≡ statusOf (starRule (nth s i) day1 day2)
+    status-at i h = ap (λ (l : List ℕ). getD l i 0) (front (statusesOf s day1 day2) status status′ (b .statuses)) ∙ stored statusOf s day1 day2 status i 0 h
+
+    pub asc-at : (i : ℕ) → i < countOf s → getD asc′ i zero64 ≡ firstOf (starRule (nth s i) day1 day2)
+    asc-at i h = ap (λ (l : List Float). getD l i zero64) (front (map firstOf (answersOf s day1 day2)) asc asc′ (b .ascs)) ∙ stored firstOf s day1 day2 asc i zero64 h
+
+    pub dec-at : (i : ℕ) → i < countOf s → getD dec′ i zero64 ≡ secondOf (starRule (nth s i) day1 day2)
+    dec-at i h = ap (λ (l : List Float). getD l i zero64) (front (map secondOf (answersOf s day1 day2)) dec dec′ (b .decs)) ∙ stored secondOf s day1 day2 dec i zero64 h
 
     -- the slice's first bytes are the stars' statuses
     bytes-are : take (countOf s) status′ ≡ statusesOf s day1 day2
     bytes-are =
-        ap (take (countOf s)) (b .statuses ∙ ap (λ (t : Bool). cond t (statusesOf s day1 day2 ++ drop (length (statusesOf s day1 day2)) status) status) (eq-eqb _ 0 none))
+        ap (take (countOf s)) (front (statusesOf s day1 day2) status status′ (b .statuses))
         ∙ take-at (statusesOf s day1 day2) (drop (length (statusesOf s day1 day2)) status) (countOf s) (how-many statusOf s day1 day2)
 
     -- each count is the number of status bytes of that value

@@ -1,0 +1,2 @@
+-- What is proved of a day in decimal, for callers to cite. Theorems only.
+pub mod Day

@@ -1,0 +1,53 @@
+-- `reduce::print` meets its contract: what is printed are bytes of the report's slice. Assumes nothing.
+use borrow.Author.Needs.{needs}
+use mathlib.Core.Path.{sym}
+use mathlib.Core.List.{List}
+use Prim.Native.Nat.{ℕ, _≤_}
+use native.Mathlib.Omega.{arith}
+use lib.ListN.{length}
+use lib.Seq.{length-take-le}
+use Rattle.double.specs.laws.Calls.{asks-nothing}
+use Rattle.lent.specs.rules.Writing.{Wrote}
+use Rattle.lent.specs.laws.Writing.{kept}
+use Rattle.reduce.proofs.print.Statement.{statement}
+use Rattle.reduce.proofs.print.Tie as tie
+
+-- the place after a text lies in the slice
+inside : {old t new : List ℕ} {at n : ℕ} → Wrote old at t new n → n ≤ length new
+inside w = omega (arith, w .place, kept w)
+
+slice-aggregate-read-full : tie.Need-slice-aggregate-read-full
+slice-aggregate-read-full c = search needs
+
+slice-aggregate-put-report : tie.Need-slice-aggregate-put-report
+slice-aggregate-put-report c = search needs
+
+array-share-prefix-input : tie.Need-array-share-prefix-input
+array-share-prefix-input c = search needs
+
+slice-aggregate-put-report-2 : tie.Need-slice-aggregate-put-report-2
+slice-aggregate-put-report-2 c = search needs
+
+array-share-prefix-out : tie.Need-array-share-prefix-out
+array-share-prefix-out c = inside (c .before .put-report .ensures)
+
+slice-aggregate-write-all : tie.Need-slice-aggregate-write-all
+slice-aggregate-write-all c = sym (length-take-le _ _ (array-share-prefix-out (c .before)))
+
+returns : tie.Need-returns
+returns c = search needs
+
+pub print-spec : {M : Type 1} → statement M
+print-spec =
+    tie.close
+    (tie.spec
+    slice-aggregate-read-full
+    asks-nothing
+    slice-aggregate-put-report
+    array-share-prefix-input
+    slice-aggregate-put-report-2
+    asks-nothing
+    array-share-prefix-out
+    slice-aggregate-write-all
+    asks-nothing
+    returns)

@@ -1,0 +1,56 @@
+// Prints the star list that stands on standard input, reduced from the day of the first argument to that of the second.
+// One byte more than a list may have is read, so that a longer one is seen.
+use day::Day;
+
+const READ: usize = list::WIDTH * list::MOST_STARS + 1;
+
+// The day that argument i says. A missing one, and one of more than 64 bytes, is none.
+fn day_of(i: usize) -> Day {
+    let mut text = [0u8; 64];
+    let n = os::arg(i, &mut text);
+    if os::errno() != 0 {
+        return Day::Unclear;
+    }
+    day::read(&text[..n])
+}
+
+// Says which argument is not a day.
+fn complain(which: &[u8]) {
+    io::write_all(2, which);
+    io::write_all(
+        2,
+        b" argument: a day is digits with at most one point, no more than 2^53 without it\n",
+    );
+}
+
+// The report of the list.
+fn print(day1: f64, day2: f64) {
+    let mut input = [0u8; READ];
+    let n = io::read_full(0, &mut input);
+    let mut out = [0u8; report::ROOM];
+    let k = report::put_report(&mut out, &input[..n], day1, day2);
+    io::write_all(1, &out[..k]);
+}
+
+// With the first day read.
+fn with_first(day1: f64) {
+    match day_of(2) {
+        Day::Is(day2) => {
+            print(day1, day2);
+        }
+        Day::Unclear => {
+            complain(b"second");
+        }
+    }
+}
+
+fn main() {
+    match day_of(1) {
+        Day::Is(day1) => {
+            with_first(day1);
+        }
+        Day::Unclear => {
+            complain(b"first");
+        }
+    }
+}

@@ -1,0 +1,20 @@
+-- `report::put_angles` meets its contract. Assumes nothing.
+use borrow.Author.Needs.{needs}
+use mathlib.Core.List.{append-assoc}
+use Rattle.double.specs.laws.Calls.{asks-nothing}
+use Rattle.lent.specs.laws.Writing.{after, same}
+use Rattle.report.specs.rules.Report.{anglesText}
+use Rattle.report.proofs.put_angles.Statement.{statement}
+use Rattle.report.proofs.put_angles.Tie as tie
+
+same-length : tie.Need-same-length
+same-length c = search needs
+
+returns : tie.Need-returns
+unfolding anglesText
+returns c =
+    same (simp append-assoc)
+    (after (after (after (c .before .before .before .before .before .before .before .before .before .before .before .before .before .before .put-angle-then .ensures) (c .before .before .before .before .before .before .before .before .before .before .put-angle-then2 .ensures)) (c .before .before .before .before .before .before .put-bits-then .ensures)) (c .before .before .put-bits-then2 .ensures))
+
+pub put-angles-spec : {M : Type 1} → statement M
+put-angles-spec = tie.close (tie.spec asks-nothing asks-nothing asks-nothing asks-nothing same-length returns)

@@ -1,0 +1,17 @@
+-- `report::put_bits_then` meets its contract. Assumes nothing.
+use borrow.Author.Needs.{needs}
+use Rattle.double.specs.laws.Calls.{asks-nothing}
+use Rattle.lent.specs.laws.Writing.{after, same}
+use Rattle.report.specs.rules.Report.{bitsThen}
+use Rattle.report.proofs.put_bits_then.Statement.{statement}
+use Rattle.report.proofs.put_bits_then.Tie as tie
+
+same-length : tie.Need-same-length
+same-length c = search needs
+
+returns : tie.Need-returns
+unfolding bitsThen
+returns c = same (simp (c .before .before .before .before .before .before .before .pattern-of .ensures)) (after (c .before .before .before .before .before .before .put-hex16 .ensures) (c .before .before .put-byte .ensures))
+
+pub put-bits-then-spec : {M : Type 1} → statement M
+put-bits-then-spec = tie.close (tie.spec asks-nothing asks-nothing asks-nothing same-length returns)

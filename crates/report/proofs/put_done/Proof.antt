@@ -1,0 +1,25 @@
+-- `report::put_done` meets its contract. Assumes nothing.
+use borrow.Author.Needs.{needs}
+use borrow.Author.Tests.{eq-eqb, ne-eqb}
+use Rattle.double.specs.laws.Calls.{asks-nothing}
+use Rattle.lent.specs.laws.Writing.{after, same}
+use Rattle.report.specs.rules.Report.{doneText}
+use Rattle.report.proofs.put_done.Statement.{statement}
+use Rattle.report.proofs.put_done.Tie as tie
+
+same-length : tie.Need-same-length
+same-length c = search needs
+
+returns : tie.Need-returns
+unfolding doneText
+returns c = same (simp (ne-eqb _ _ (c .before .before .before .before .if1 .taken))) (c .before .before .put-refused .ensures)
+
+same-length-2 : tie.Need-same-length-2
+same-length-2 c = search needs
+
+returns-2 : tie.Need-returns-2
+unfolding doneText
+returns-2 c = same (simp (eq-eqb _ _ (c .before .before .before .before .before .before .before .before .before .if1 .left))) (after (c .before .before .before .before .before .before .put-lines .ensures) (c .before .before .put-tally .ensures))
+
+pub put-done-spec : {M : Type 1} → statement M
+put-done-spec = tie.close (tie.spec asks-nothing same-length returns asks-nothing asks-nothing same-length-2 returns-2)
