@@ -2,6 +2,7 @@
 //!   driver compare N      N calls a function, bit for bit, refusals against section 5's table
 //!   driver fuzz N         N calls in all, any bits at every function: it ends, and writes what it answers and nothing else
 //!   driver gaps N         the widest gap between the port and Rust's own library functions, as a table
+//!   driver sample N       what the Rust answers to some of N calls a function, a line for each
 extern crate astro_own as own;
 extern crate astro_routed as routed;
 
@@ -48,6 +49,14 @@ fn lent_after(outcome: &Outcome) -> Lent {
     lent
 }
 
+/// What a call must come to: section 5's table first, then the work.
+fn outcome_of(f: &Function, args: &[f64]) -> Outcome {
+    match table::first_of(f.sorts, args) {
+        0 => (f.expected)(args),
+        n => Outcome::Refused(n),
+    }
+}
+
 struct Count {
     calls: u64,
     by: [u64; 256],
@@ -61,8 +70,7 @@ impl Count {
 
     /// One call of the port, compared.
     fn compare(&mut self, f: &Function, args: &[f64]) {
-        let refusal = table::first_of(f.sorts, args);
-        let outcome = if refusal != 0 { Outcome::Refused(refusal) } else { (f.expected)(args) };
+        let outcome = outcome_of(f, args);
         let mut lent = fresh();
         let status = (f.port)(args, &mut lent);
         self.calls += 1;
@@ -239,6 +247,30 @@ fn gaps(n: u64) {
     }
 }
 
+fn hex(xs: &[f64]) -> String {
+    let words: Vec<String> = xs.iter().map(|x| format!(" {:016x}", x.to_bits())).collect();
+    words.concat()
+}
+
+/// For each function the first sixteen calls that the Rust answers, and the first three refused by each number.
+fn sample(n: u64) {
+    for f in functions::all() {
+        let (mut r, mut args) = stream(&f);
+        let mut taken = [0; 256];
+        for _ in 0..n {
+            args = inputs::next(&mut r, f.name, f.sorts, &args);
+            let (status, answer) = match outcome_of(&f, &args) {
+                Outcome::Answer(xs) => (0, xs),
+                Outcome::Refused(n) => (n as usize, vec![]),
+            };
+            taken[status] += 1;
+            if taken[status] <= if status == 0 { 16 } else { 3 } {
+                println!("{}{} = {}{}", f.name.trim_start_matches("brundelak_"), hex(&args), status, hex(&answer));
+            }
+        }
+    }
+}
+
 fn main() {
     let args: Vec<String> = std::env::args().collect();
     let n = args.get(2).and_then(|s| s.parse().ok()).unwrap_or(0);
@@ -249,8 +281,12 @@ fn main() {
             gaps(n);
             true
         }
+        Some("sample") if n > 0 => {
+            sample(n);
+            true
+        }
         _ => {
-            println!("driver compare N | fuzz N | gaps N");
+            println!("driver compare N | fuzz N | gaps N | sample N");
             false
         }
     };
