@@ -340,6 +340,41 @@ uint8_t brundelak_topopcent_ecl_coords(double ecl_long, double ecl_lat, double p
  * Refusals:  1, 2, 3, then 7 (precession), then 4 on the precessed declination */
 uint8_t brundelak_chain(double asc, double dec, double day1, double day2, double *first, double *second);
 
+/* ---- the stored list ---------------------------------------------------------------------------------------------
+ * A list is at most 5000 records of 12 bytes, little-endian: number (uint32), right ascension in milliarcseconds
+ * (uint32, below 1296000000), declination in milliarcseconds (int32, size at most 324000000). */
+
+/* The star at a place of a list, in range or not, and the place after it: walk a list from place 0.
+ * Given:     bytes, len         the list
+ *            place              a multiple of 12, at most len
+ * Returned:  number, asc, dec   the record's fields
+ *            next               the place after it
+ * Status:    0, or 255 where none is left (nothing is written)
+ * Refusals:  8 */
+uint8_t brundelak_star(const uint8_t *bytes, size_t len, size_t place, uint32_t *number, uint32_t *asc, int32_t *dec,
+                       size_t *next);
+
+/* The first star with a number.
+ * Given:     bytes, len   the list
+ *            number       the number sought
+ * Returned:  index        its index, from 0
+ *            asc, dec     the record's other fields
+ * Refusals:  8, then 10 (no star has the number), then 9 (its record is out of range) */
+uint8_t brundelak_find(const uint8_t *bytes, size_t len, uint32_t number, size_t *index, uint32_t *asc, int32_t *dec);
+
+/* Every star of a list by the chain, from one day to another.
+ * Given:     bytes, len            the list
+ *            day1, day2            Julian days
+ *            status, status_len    a byte for each star, at least as many as there are stars
+ *            asc, asc_len          likewise, and
+ *            dec, dec_len          likewise
+ * Returned:  status[i]             0, or star i's refusal: 4, 7, or 9 for a record out of range
+ *            asc[i], dec[i]        star i's place on day2; 0.0 and 0.0 where it is refused; places past the stars stay
+ *            tally                 20 counts: how many stars have status 0, 1, .. 19
+ * Refusals:  1, 2, then 8; all that is lent stays unchanged */
+uint8_t brundelak_batch(const uint8_t *bytes, size_t len, double day1, double day2, uint8_t *status, size_t status_len,
+                        double *asc, size_t asc_len, double *dec, size_t dec_len, uint32_t *tally);
+
 #ifdef __cplusplus
 }
 #endif

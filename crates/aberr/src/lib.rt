@@ -107,25 +107,27 @@ fn rows_1_to_3(g: Arguments, v: Velocity) -> Velocity
     ensures { λ r. ⌜ r ≡ row3 g (row2 g (row1 g v)) ⌝ }
 {
     let t = g.t;
+    let l3 = g.l3;
+    let l5 = g.l5;
     let mut x = v.x;
     let mut y = v.y;
     let mut z = v.z;
     // row 1
-    let a = wave_of(Rad(g.l3));
+    let a = wave_of(Rad(l3));
     let sin_a = a.sin;
     let cos_a = a.cos;
     x += (-1719914.0 - 2.0 * t) * sin_a - 25.0 * cos_a;
     y += (25.0 - 13.0 * t) * sin_a + (1578089.0 + 156.0 * t) * cos_a;
     z += (10.0 + 32.0 * t) * sin_a + (684185.0 - 358.0 * t) * cos_a;
     // row 2
-    let a = wave_of(Rad(2.0 * g.l3));
+    let a = wave_of(Rad(2.0 * l3));
     let sin_a = a.sin;
     let cos_a = a.cos;
     x += (6434.0 + 141.0 * t) * sin_a + (28007.0 - 107.0 * t) * cos_a;
     y += (25697.0 - 95.0 * t) * sin_a + (-5904.0 - 130.0 * t) * cos_a;
     z += (11141.0 - 48.0 * t) * sin_a + (-2559.0 - 55.0 * t) * cos_a;
     // row 3
-    let a = wave_of(Rad(g.l5));
+    let a = wave_of(Rad(l5));
     let sin_a = a.sin;
     let cos_a = a.cos;
     x += 715.0 * sin_a;
@@ -139,25 +141,28 @@ fn rows_4_to_6(g: Arguments, v: Velocity) -> Velocity
     ensures { λ r. ⌜ r ≡ row6 g (row5 g (row4 g v)) ⌝ }
 {
     let t = g.t;
+    let l1 = g.l1;
+    let l3 = g.l3;
+    let l6 = g.l6;
     let mut x = v.x;
     let mut y = v.y;
     let mut z = v.z;
     // row 4
-    let a = wave_of(Rad(g.l1));
+    let a = wave_of(Rad(l1));
     let sin_a = a.sin;
     let cos_a = a.cos;
     x += 715.0 * sin_a;
     y += -656.0 * cos_a;
     z += -285.0 * cos_a;
     // row 5
-    let a = wave_of(Rad(3.0 * g.l3));
+    let a = wave_of(Rad(3.0 * l3));
     let sin_a = a.sin;
     let cos_a = a.cos;
     x += (486.0 - 5.0 * t) * sin_a + (-236.0 - 4.0 * t) * cos_a;
     y += (-216.0 - 4.0 * t) * sin_a + (-446.0 + 5.0 * t) * cos_a;
     z += -94.0 * sin_a - 193.0 * cos_a;
     // row 6
-    let a = wave_of(Rad(g.l6));
+    let a = wave_of(Rad(l6));
     let sin_a = a.sin;
     let cos_a = a.cos;
     x += 159.0 * sin_a;
@@ -170,23 +175,27 @@ fn rows_4_to_6(g: Arguments, v: Velocity) -> Velocity
 fn rows_7_to_9(g: Arguments, v: Velocity) -> Velocity
     ensures { λ r. ⌜ r ≡ row9 g (row8 g (row7 g v)) ⌝ }
 {
+    let l1 = g.l1;
+    let l5 = g.l5;
+    let m1 = g.m1;
+    let f = g.f;
     let mut x = v.x;
     let mut y = v.y;
     let mut z = v.z;
     // row 7
-    let a = wave_of(Rad(g.f));
+    let a = wave_of(Rad(f));
     let cos_a = a.cos;
     y += 26.0 * cos_a;
     z += -59.0 * cos_a;
     // row 8
-    let a = wave_of(Rad(g.l1 + g.m1));
+    let a = wave_of(Rad(l1 + m1));
     let sin_a = a.sin;
     let cos_a = a.cos;
     x += 39.0 * sin_a;
     y += -36.0 * cos_a;
     z += -16.0 * cos_a;
     // row 9
-    let a = wave_of(Rad(2.0 * g.l5));
+    let a = wave_of(Rad(2.0 * l5));
     let sin_a = a.sin;
     let cos_a = a.cos;
     x += 33.0 * sin_a - 10.0 * cos_a;
@@ -199,25 +208,28 @@ fn rows_7_to_9(g: Arguments, v: Velocity) -> Velocity
 fn rows_10_to_12(g: Arguments, v: Velocity) -> Velocity
     ensures { λ r. ⌜ r ≡ row12 g (row11 g (row10 g v)) ⌝ }
 {
+    let l3 = g.l3;
+    let l4 = g.l4;
+    let l5 = g.l5;
     let mut x = v.x;
     let mut y = v.y;
     let mut z = v.z;
     // row 10
-    let a = wave_of(Rad(2.0 * g.l3 - g.l5));
+    let a = wave_of(Rad(2.0 * l3 - l5));
     let sin_a = a.sin;
     let cos_a = a.cos;
     x += 31.0 * sin_a + cos_a;
     y += sin_a - 28.0 * cos_a;
     z += -12.0 * cos_a;
     // row 11
-    let a = wave_of(Rad(3.0 * g.l3 - 8.0 * g.l4 + 3.0 * g.l5));
+    let a = wave_of(Rad(3.0 * l3 - 8.0 * l4 + 3.0 * l5));
     let sin_a = a.sin;
     let cos_a = a.cos;
     x += 8.0 * sin_a - 28.0 * cos_a;
     y += 25.0 * sin_a + 8.0 * cos_a;
     z += 11.0 * sin_a + 3.0 * cos_a;
     // row 12
-    let a = wave_of(Rad(5.0 * g.l3 - 8.0 * g.l4 + 3.0 * g.l5));
+    let a = wave_of(Rad(5.0 * l3 - 8.0 * l4 + 3.0 * l5));
     let sin_a = a.sin;
     let cos_a = a.cos;
     x += 8.0 * sin_a - 28.0 * cos_a;
@@ -230,25 +242,28 @@ fn rows_10_to_12(g: Arguments, v: Velocity) -> Velocity
 fn rows_13_to_15(g: Arguments, v: Velocity) -> Velocity
     ensures { λ r. ⌜ r ≡ row15 g (row14 g (row13 g v)) ⌝ }
 {
+    let l2 = g.l2;
+    let l3 = g.l3;
+    let l7 = g.l7;
     let mut x = v.x;
     let mut y = v.y;
     let mut z = v.z;
     // row 13
-    let a = wave_of(Rad(2.0 * g.l2 - g.l3));
+    let a = wave_of(Rad(2.0 * l2 - l3));
     let sin_a = a.sin;
     let cos_a = a.cos;
     x += 21.0 * sin_a;
     y += -19.0 * cos_a;
     z += -8.0 * cos_a;
     // row 14
-    let a = wave_of(Rad(g.l2));
+    let a = wave_of(Rad(l2));
     let sin_a = a.sin;
     let cos_a = a.cos;
     x += -19.0 * sin_a;
     y += 17.0 * cos_a;
     z += 8.0 * cos_a;
     // row 15
-    let a = wave_of(Rad(g.l7));
+    let a = wave_of(Rad(l7));
     let sin_a = a.sin;
     let cos_a = a.cos;
     x += 17.0 * sin_a;
@@ -261,25 +276,28 @@ fn rows_13_to_15(g: Arguments, v: Velocity) -> Velocity
 fn rows_16_to_18(g: Arguments, v: Velocity) -> Velocity
     ensures { λ r. ⌜ r ≡ row18 g (row17 g (row16 g v)) ⌝ }
 {
+    let l3 = g.l3;
+    let l5 = g.l5;
+    let l8 = g.l8;
     let mut x = v.x;
     let mut y = v.y;
     let mut z = v.z;
     // row 16
-    let a = wave_of(Rad(g.l3 - 2.0 * g.l5));
+    let a = wave_of(Rad(l3 - 2.0 * l5));
     let sin_a = a.sin;
     let cos_a = a.cos;
     x += 16.0 * sin_a;
     y += 15.0 * cos_a;
     z += sin_a + 7.0 * cos_a;
     // row 17
-    let a = wave_of(Rad(g.l8));
+    let a = wave_of(Rad(l8));
     let sin_a = a.sin;
     let cos_a = a.cos;
     x += 16.0 * sin_a;
     y += sin_a - 15.0 * cos_a;
     z += -3.0 * sin_a - 6.0 * cos_a;
     // row 18
-    let a = wave_of(Rad(g.l3 + g.l5));
+    let a = wave_of(Rad(l3 + l5));
     let sin_a = a.sin;
     let cos_a = a.cos;
     x += 11.0 * sin_a - cos_a;
@@ -292,25 +310,28 @@ fn rows_16_to_18(g: Arguments, v: Velocity) -> Velocity
 fn rows_19_to_21(g: Arguments, v: Velocity) -> Velocity
     ensures { λ r. ⌜ r ≡ row21 g (row20 g (row19 g v)) ⌝ }
 {
+    let l2 = g.l2;
+    let l3 = g.l3;
+    let l5 = g.l5;
     let mut x = v.x;
     let mut y = v.y;
     let mut z = v.z;
     // row 19
-    let a = wave_of(Rad(2.0 * (g.l2 - g.l3)));
+    let a = wave_of(Rad(2.0 * (l2 - l3)));
     let sin_a = a.sin;
     let cos_a = a.cos;
     x += -11.0 * cos_a;
     y += -10.0 * sin_a;
     z += -4.0 * sin_a;
     // row 20
-    let a = wave_of(Rad(g.l3 - g.l5));
+    let a = wave_of(Rad(l3 - l5));
     let sin_a = a.sin;
     let cos_a = a.cos;
     x += -11.0 * sin_a - 2.0 * cos_a;
     y += -2.0 * sin_a + 9.0 * cos_a;
     z += -1.0 * sin_a + 4.0 * cos_a;
     // row 21
-    let a = wave_of(Rad(4.0 * g.l3));
+    let a = wave_of(Rad(4.0 * l3));
     let sin_a = a.sin;
     let cos_a = a.cos;
     x += -7.0 * sin_a - 8.0 * cos_a;
@@ -323,25 +344,28 @@ fn rows_19_to_21(g: Arguments, v: Velocity) -> Velocity
 fn rows_22_to_24(g: Arguments, v: Velocity) -> Velocity
     ensures { λ r. ⌜ r ≡ row24 g (row23 g (row22 g v)) ⌝ }
 {
+    let l2 = g.l2;
+    let l3 = g.l3;
+    let l5 = g.l5;
     let mut x = v.x;
     let mut y = v.y;
     let mut z = v.z;
     // row 22
-    let a = wave_of(Rad(3.0 * g.l3 - 2.0 * g.l5));
+    let a = wave_of(Rad(3.0 * l3 - 2.0 * l5));
     let sin_a = a.sin;
     let cos_a = a.cos;
     x += -10.0 * sin_a;
     y += 9.0 * cos_a;
     z += 4.0 * cos_a;
     // row 23
-    let a = wave_of(Rad(g.l2 - 2.0 * g.l3));
+    let a = wave_of(Rad(l2 - 2.0 * l3));
     let sin_a = a.sin;
     let cos_a = a.cos;
     x += -9.0 * sin_a;
     y += -9.0 * cos_a;
     z += -4.0 * cos_a;
     // row 24
-    let a = wave_of(Rad(2.0 * g.l2 - 3.0 * g.l3));
+    let a = wave_of(Rad(2.0 * l2 - 3.0 * l3));
     let sin_a = a.sin;
     let cos_a = a.cos;
     x += -9.0 * sin_a;
@@ -354,25 +378,29 @@ fn rows_22_to_24(g: Arguments, v: Velocity) -> Velocity
 fn rows_25_to_27(g: Arguments, v: Velocity) -> Velocity
     ensures { λ r. ⌜ r ≡ row27 g (row26 g (row25 g v)) ⌝ }
 {
+    let l2 = g.l2;
+    let l3 = g.l3;
+    let l4 = g.l4;
+    let l6 = g.l6;
     let mut x = v.x;
     let mut y = v.y;
     let mut z = v.z;
     // row 25
-    let a = wave_of(Rad(2.0 * g.l6));
+    let a = wave_of(Rad(2.0 * l6));
     let sin_a = a.sin;
     let cos_a = a.cos;
     x += -9.0 * cos_a;
     y += -8.0 * sin_a;
     z += -3.0 * sin_a;
     // row 26
-    let a = wave_of(Rad(2.0 * g.l2 - 4.0 * g.l3));
+    let a = wave_of(Rad(2.0 * l2 - 4.0 * l3));
     let sin_a = a.sin;
     let cos_a = a.cos;
     x += -9.0 * cos_a;
     y += 8.0 * sin_a;
     z += 3.0 * sin_a;
     // row 27
-    let a = wave_of(Rad(3.0 * g.l3 - 2.0 * g.l4));
+    let a = wave_of(Rad(3.0 * l3 - 2.0 * l4));
     let sin_a = a.sin;
     let cos_a = a.cos;
     x += 8.0 * sin_a;
@@ -385,25 +413,30 @@ fn rows_25_to_27(g: Arguments, v: Velocity) -> Velocity
 fn rows_28_to_30(g: Arguments, v: Velocity) -> Velocity
     ensures { λ r. ⌜ r ≡ row30 g (row29 g (row28 g v)) ⌝ }
 {
+    let l1 = g.l1;
+    let l2 = g.l2;
+    let l3 = g.l3;
+    let d = g.d;
+    let m1 = g.m1;
     let mut x = v.x;
     let mut y = v.y;
     let mut z = v.z;
     // row 28
-    let a = wave_of(Rad(g.l1 + 2.0 * g.d - g.m1));
+    let a = wave_of(Rad(l1 + 2.0 * d - m1));
     let sin_a = a.sin;
     let cos_a = a.cos;
     x += 8.0 * sin_a;
     y += -7.0 * cos_a;
     z += -3.0 * cos_a;
     // row 29
-    let a = wave_of(Rad(8.0 * g.l2 - 12.0 * g.l3));
+    let a = wave_of(Rad(8.0 * l2 - 12.0 * l3));
     let sin_a = a.sin;
     let cos_a = a.cos;
     x += -4.0 * sin_a - 7.0 * cos_a;
     y += -6.0 * sin_a + 4.0 * cos_a;
     z += -3.0 * sin_a + 2.0 * cos_a;
     // row 30
-    let a = wave_of(Rad(8.0 * g.l2 - 14.0 * g.l3));
+    let a = wave_of(Rad(8.0 * l2 - 14.0 * l3));
     let sin_a = a.sin;
     let cos_a = a.cos;
     x += -4.0 * sin_a - 7.0 * cos_a;
@@ -416,25 +449,29 @@ fn rows_28_to_30(g: Arguments, v: Velocity) -> Velocity
 fn rows_31_to_33(g: Arguments, v: Velocity) -> Velocity
     ensures { λ r. ⌜ r ≡ row33 g (row32 g (row31 g v)) ⌝ }
 {
+    let l2 = g.l2;
+    let l3 = g.l3;
+    let l4 = g.l4;
+    let l5 = g.l5;
     let mut x = v.x;
     let mut y = v.y;
     let mut z = v.z;
     // row 31
-    let a = wave_of(Rad(2.0 * g.l4));
+    let a = wave_of(Rad(2.0 * l4));
     let sin_a = a.sin;
     let cos_a = a.cos;
     x += -6.0 * sin_a - 5.0 * cos_a;
     y += -4.0 * sin_a + 5.0 * cos_a;
     z += 2.0 * (cos_a - sin_a);
     // row 32
-    let a = wave_of(Rad(3.0 * g.l2 - 4.0 * g.l3));
+    let a = wave_of(Rad(3.0 * l2 - 4.0 * l3));
     let sin_a = a.sin;
     let cos_a = a.cos;
     x += -1.0 * (sin_a + cos_a);
     y += -2.0 * sin_a - 7.0 * cos_a;
     z += sin_a - 4.0 * cos_a;
     // row 33
-    let a = wave_of(Rad(2.0 * (g.l3 - g.l5)));
+    let a = wave_of(Rad(2.0 * (l3 - l5)));
     let sin_a = a.sin;
     let cos_a = a.cos;
     x += 4.0 * sin_a - 6.0 * cos_a;
@@ -447,25 +484,30 @@ fn rows_31_to_33(g: Arguments, v: Velocity) -> Velocity
 fn rows_34_to_36(g: Arguments, v: Velocity) -> Velocity
     ensures { λ r. ⌜ r ≡ row36 g (row35 g (row34 g v)) ⌝ }
 {
+    let l1 = g.l1;
+    let l2 = g.l2;
+    let l3 = g.l3;
+    let l4 = g.l4;
+    let d = g.d;
     let mut x = v.x;
     let mut y = v.y;
     let mut z = v.z;
     // row 34
-    let a = wave_of(Rad(3.0 * (g.l2 - g.l3)));
+    let a = wave_of(Rad(3.0 * (l2 - l3)));
     let sin_a = a.sin;
     let cos_a = a.cos;
     x += -7.0 * cos_a;
     y += -6.0 * sin_a;
     z += -3.0 * sin_a;
     // row 35
-    let a = wave_of(Rad(2.0 * (g.l3 - g.l4)));
+    let a = wave_of(Rad(2.0 * (l3 - l4)));
     let sin_a = a.sin;
     let cos_a = a.cos;
     x += 5.0 * (sin_a - cos_a);
     y += -4.0 * sin_a - 5.0 * cos_a;
     z += -2.0 * (sin_a + cos_a);
     // row 36
-    let a = wave_of(Rad(g.l1 - 2.0 * g.d));
+    let a = wave_of(Rad(l1 - 2.0 * d));
     let sin_a = a.sin;
     let cos_a = a.cos;
     x += 5.0 * sin_a;

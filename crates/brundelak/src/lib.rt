@@ -7,3 +7,4 @@ pub mod angles; // section 3
 pub mod frames; // changes of frame
 pub mod reduction; // precession, nutation, aberration, the chain
 pub mod observer; // parallax
+pub mod stored; // the stored list and the batch

@@ -13,7 +13,7 @@ status (answered x) = 0
 status (refused n) = n
 
 -- a part of what is answered, or what stood there
-abbrev pub kept : {A : Type 0} → (A → Float) → Answer A → Float → Float
+abbrev pub kept : {A B : Type 0} → (A → B) → Answer A → B → B
 kept part (answered x) old = part x
 kept part (refused n) old = old
 

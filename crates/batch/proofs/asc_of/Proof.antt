@@ -1,0 +1,10 @@
+-- `batch::asc_of` meets its contract. Assumes nothing.
+use Rattle.double.specs.laws.Calls.{asks-nothing}
+use Rattle.batch.proofs.asc_of.Statement.{statement}
+use Rattle.batch.proofs.asc_of.Tie as tie
+
+returns : tie.Need-returns
+returns c = cc
+
+pub asc-of-spec : {M : Type 1} → statement M
+asc-of-spec = tie.close (tie.spec asks-nothing asks-nothing returns)

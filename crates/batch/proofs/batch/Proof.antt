@@ -1,0 +1,185 @@
+-- `batch::batch` meets its contract: after i turns the first i places hold the first i stars' values, and the tally is that of their
+-- statuses. Assumes nothing.
+use borrow.Author.Needs.{needs}
+use borrow.Author.Tests.{eq-eqb, ne-eqb}
+use mathlib.Core.Path.{_≡_, sym, ap, _∙_}
+use mathlib.Core.List.{map}
+use Prim.Native.Nat.{_-_, _≤_, _<_}
+use native.Mathlib.Omega.{arith}
+use lib.ListN.{length, take}
+use Rattle.double.specs.laws.Calls.{asks-nothing}
+use Rattle.quantity.specs.rules.Answer.{Answer, Pair, shownTwo}
+use Rattle.lent.specs.laws.Rows.{Row, start, store, finish}
+use Rattle.list.specs.declared.Star.{Star}
+use Rattle.list.specs.rules.Stars.{mostStars, countOf, nth}
+use Rattle.list.specs.laws.Stars.{few}
+use Rattle.tally.specs.rules.Tally.{tallyOf}
+use Rattle.batch.specs.rules.Star.{starRule, reduceStar, statusOf, firstOf, secondOf}
+use Rattle.batch.specs.rules.Batch.{answersOf, statusesOf}
+use Rattle.batch.specs.laws.Star.{star-under-a-night}
+use Rattle.batch.specs.laws.Batch.{Accepted, accepted, how-many, value, raised-at, raised-all}
+use Rattle.batch.proofs.batch.Statement.{statement}
+use Rattle.batch.proofs.batch.Tie as tie
+
+abbrev Inv-loop : tie.InvT-loop
+Inv-loop bytes day1 day2 status₀ asc₀ dec₀ why tally₀ night n i₀ status asc dec tally i =
+    (i ≤ n)
+    × ((n ≡ countOf bytes)
+    × ((tally ≡ tallyOf (take i (statusesOf bytes day1 day2)))
+    × (Row (statusesOf bytes day1 day2) status₀ status n i
+    × (Row (map firstOf (answersOf bytes day1 day2)) asc₀ asc n i
+    × Row (map secondOf (answersOf bytes day1 day2)) dec₀ dec n i))))
+
+abbrev μ-loop : tie.MeasureT-loop
+μ-loop bytes day1 day2 status₀ asc₀ dec₀ why tally₀ night n i₀ status asc dec tally i = n - i
+
+returns : tie.Need-returns Inv-loop μ-loop
+returns c =
+    let at-refusal = c .before .before in
+    let refused = ne-eqb _ _ (λ e. c .if1 .taken (at-refusal .batch-refusal .ensures ∙ e)) in
+    record {
+      answer = simp refused (λ j. record { refusal = at-refusal .batch-refusal .ensures j; tally = c .before .new .ensures j });
+      statuses = simp refused;
+      ascs = simp refused;
+      decs = simp refused;
+    }
+
+-- the call was accepted
+module _ (c : tie.After-count Inv-loop μ-loop) where
+  abbrev begin : tie.Start Inv-loop μ-loop
+  begin = c .before .before .before .before .before .before .before .before .before
+
+  allowed : Accepted (begin .args .bytes .now) (begin .args .day1) (begin .args .day2) (length (begin .args .status .now)) (length (begin .args .asc .now)) (length (begin .args .dec .now))
+  allowed = accepted _ _ _ _ _ _ (sym (c .before .before .before .before .batch-refusal .ensures) ∙ c .before .before .if1 .left)
+
+  -- a value for each star
+  all : {A : Type 0} (f : Answer Pair → A) → length (map f (answersOf (begin .args .bytes .now) (begin .args .day1) (begin .args .day2))) ≡ c .count .result
+  all f = how-many f (begin .args .bytes .now) (begin .args .day1) (begin .args .day2) ∙ sym (c .count .ensures)
+
+loop-holds : tie.Need-loop-holds Inv-loop μ-loop
+loop-holds c =
+    let n = c .count .ensures in
+    let a = allowed c in
+    (search needs, (n, (c .before .before .before .new .ensures, (start _ _ _ (all c statusOf) (rw n (a .statuses)), (start _ _ _ (all c firstOf) (rw n (a .ascs)), start _ _ _ (all c secondOf) (rw n (a .decs)))))))
+
+-- in a turn i is an index of the list
+small : (c : tie.In-loop Inv-loop μ-loop) → c .before .loop .i < mostStars
+small c = omega (arith, c .loop-test .taken, c .before .loop .inv .1 .0, few _ (allowed (c .before .before) .list))
+
+slice-write-status : tie.Need-slice-write-status Inv-loop μ-loop
+slice-write-status c = search needs
+
+mul-asc : tie.Need-mul-asc Inv-loop μ-loop
+mul-asc c = record { fits = omega (arith, small (c .before .before .before .before)) }
+
+slice-write-asc : tie.Need-slice-write-asc Inv-loop μ-loop
+slice-write-asc c = search needs
+
+mul-dec : tie.Need-mul-dec Inv-loop μ-loop
+mul-dec c = record { fits = omega (arith, small (c .before .before .before .before .before)) }
+
+slice-write-dec : tie.Need-slice-write-dec Inv-loop μ-loop
+slice-write-dec c = search needs
+
+add-i : tie.Need-add-i Inv-loop μ-loop
+add-i c = search needs
+
+loop-less : tie.Need-loop-less Inv-loop μ-loop
+loop-less c = search needs
+
+-- what a star was answered
+star-answer : (c : tie.After-reduce-star Inv-loop μ-loop) → shownTwo (c .reduce-star .result) ≡ starRule (nth (begin (c .before .before .before .before) .args .bytes .now) (c .before .before .before .loop .i)) (begin (c .before .before .before .before) .args .day1) (begin (c .before .before .before .before) .args .day2)
+star-answer c =
+    let at-night = c .before .before .before .before .before in
+    c .reduce-star .ensures
+    ∙ ap (λ (star : Star). reduceStar star (at-night .night-of .result)) (c .before .nth .ensures)
+    ∙ ap (reduceStar _) (at-night .night-of .ensures)
+    ∙ star-under-a-night _ _ _ (allowed (c .before .before .before .before) .days)
+
+loop-again : tie.Need-loop-again Inv-loop μ-loop
+loop-again c =
+    let at-second = c .before .before in
+    let at-first = at-second .before in
+    let at-status = at-first .before in
+    let at-star = at-status .before in
+    let turn = at-star .before .before in
+    let counted = turn .before .before in
+    let s = begin counted .args .bytes .now in
+    let day1 = begin counted .args .day1 in
+    let day2 = begin counted .args .day2 in
+    let i = turn .before .loop .i in
+    let inv = turn .before .loop .inv .1 in
+    let a = star-answer at-star in
+    let status = at-status .status-of .ensures ∙ ap statusOf a in (
+      search needs,
+      (
+        inv .0,
+        (
+          raised-at s day1 day2 (allowed counted .days) (allowed counted .list) i (rw (inv .0) at (turn .loop-test .taken)) _ _ _ (inv .1 .0) status (c .before .raise .ensures),
+          (
+            store _ _ _ (all counted statusOf) _ i _ _ (turn .loop-test .taken) (inv .1 .1 .0) (status ∙ value statusOf s day1 day2 i),
+            (
+              store _ _ _ (all counted firstOf) _ i _ _ (turn .loop-test .taken) (inv .1 .1 .1 .0) (at-first .first-of .ensures ∙ ap firstOf a ∙ value firstOf s day1 day2 i),
+              store _ _ _ (all counted secondOf) _ i _ _ (turn .loop-test .taken) (inv .1 .1 .1 .1) (at-second .second-of .ensures ∙ ap secondOf a ∙ value secondOf s day1 day2 i),
+            ),
+          ),
+        ),
+      ),
+    )
+
+same-length : tie.Need-same-length Inv-loop μ-loop
+same-length c = c .before .loop .inv .1 .1 .1 .0 .long
+
+same-length-2 : tie.Need-same-length-2 Inv-loop μ-loop
+same-length-2 c = c .before .loop .inv .1 .1 .1 .1 .0 .long
+
+same-length-3 : tie.Need-same-length-3 Inv-loop μ-loop
+same-length-3 c = c .before .loop .inv .1 .1 .1 .1 .1 .long
+
+returns-2 : tie.Need-returns-2 Inv-loop μ-loop
+returns-2 c =
+    let counted = c .before .before in
+    let s = begin counted .args .bytes .now in
+    let day1 = begin counted .args .day1 in
+    let day2 = begin counted .args .day2 in
+    let none = sym (counted .before .before .before .before .batch-refusal .ensures) ∙ counted .before .before .if1 .left in
+    let goes = eq-eqb _ 0 none in
+    let inv = c .before .loop .inv in
+    let end : c .before .loop .i ≡ counted .count .result = omega (arith, inv .0, c .loop-test .left) in
+    record {
+      answer = simp goes (λ j. record { refusal = sym none j; tally = (inv .1 .1 .0 ∙ ap tallyOf (raised-all s day1 day2 _ (end ∙ counted .count .ensures))) j });
+      statuses = simp goes (finish _ _ _ (all counted statusOf) _ _ end (inv .1 .1 .1 .0));
+      ascs = simp goes (finish _ _ _ (all counted firstOf) _ _ end (inv .1 .1 .1 .1 .0));
+      decs = simp goes (finish _ _ _ (all counted secondOf) _ _ end (inv .1 .1 .1 .1 .1));
+    }
+
+pub batch-spec : {M : Type 1} → statement M
+batch-spec =
+    tie.close
+    (tie.spec
+    Inv-loop
+    μ-loop
+    asks-nothing
+    asks-nothing
+    returns
+    asks-nothing
+    asks-nothing
+    loop-holds
+    asks-nothing
+    asks-nothing
+    asks-nothing
+    slice-write-status
+    asks-nothing
+    mul-asc
+    slice-write-asc
+    asks-nothing
+    mul-dec
+    slice-write-dec
+    asks-nothing
+    add-i
+    loop-less
+    loop-again
+    same-length
+    same-length-2
+    same-length-3
+    returns-2)

@@ -1,0 +1,5 @@
+-- What is proved of the batch, for callers to cite. Theorems only.
+pub mod Constants
+pub mod Known
+pub mod Star
+pub mod Batch

@@ -1,0 +1,110 @@
+-- Every star's status is one that the tally knows. Assumes nothing.
+use Prim.Native.Nat.{ℕ, _≤_}
+use mathlib.Core.Bool.{Bool, true, false, cond}
+use native.Mathlib.Omega.{arith}
+use lib.Dec.{eqb, leb}
+use lib.Ieee.{Float, lt}
+use Rattle.double.specs.rules.Operations.{zero, one}
+use Rattle.double.specs.rules.Sign.{size, isFinite}
+use Rattle.quantity.specs.declared.Rad.{Rad}
+use Rattle.quantity.specs.declared.EqPoint.{EqPoint}
+use Rattle.quantity.specs.rules.Answer.{Answer, answered, refused, Pair, unless, then, plus, both}
+use Rattle.quantity.specs.rules.Refusal.{lower, past, angleRefusal, latitudeRefusal, steepRefusal}
+use Rattle.root.specs.rules.Root.{rootRule, rootRefusal}
+use Rattle.elementary.specs.rules.Arctangent.{arctangentIn}
+use Rattle.elementary.specs.rules.Arcsine.{arcsineIn}
+use Rattle.precess.specs.declared.EqTurns.{EqTurns}
+use Rattle.precess.specs.rules.Equatorial.{placed, turnedIn}
+use Rattle.chain.specs.declared.Night.{Night}
+use Rattle.chain.specs.rules.Night.{gathered, nightOf, moved, reducedAt, reducedIn}
+use Rattle.tally.specs.rules.Tally.{highest}
+use Rattle.list.specs.declared.Star.{Star}
+use Rattle.list.specs.rules.Record.{inRange}
+use Rattle.batch.specs.rules.Star.{ascOf, decOf, reduceAt, reduceStar, statusOf}
+
+-- ---- numbers, and what rules do with answers
+
+known-cond : (b : Bool) (m n : ℕ) → m ≤ highest → n ≤ highest → cond b m n ≤ highest
+known-cond true m n p q = p
+known-cond false m n p q = q
+
+known-lower : (m n : ℕ) → m ≤ highest → n ≤ highest → lower m n ≤ highest
+known-lower m n p q = known-cond (eqb m 0) n _ q (known-cond (eqb n 0) m _ p (known-cond (leb m n) m n p q))
+
+known-past : (x limit : Float) (n : ℕ) → n ≤ highest → past x limit n ≤ highest
+known-past x limit n p = known-cond (isFinite x) _ 1 (known-cond (lt limit (size x)) n 0 p (omega arith)) (omega arith)
+
+module _ {A : Type 0} where
+  known-choice : (b : Bool) (p q : Answer A) → statusOf p ≤ highest → statusOf q ≤ highest → statusOf (cond b p q) ≤ highest
+  known-choice true p q h k = h
+  known-choice false p q h k = k
+
+  known-unless : (n : ℕ) (a : Answer A) → n ≤ highest → statusOf a ≤ highest → statusOf (unless n a) ≤ highest
+  known-unless n a p q = known-choice (eqb n 0) a (refused n) q p
+
+  known-then : {B : Type 0} (a : Answer A) (f : A → Answer B) → statusOf a ≤ highest → ((x : A) → statusOf (f x) ≤ highest) → statusOf (then a f) ≤ highest
+  unfolding then
+  known-then (answered x) f p q = q x
+  known-then (refused n) f p q = p
+
+known-plus : (a : Answer Float) (z : Float) → statusOf a ≤ highest → statusOf (plus a z) ≤ highest
+unfolding plus
+known-plus (answered x) z p = p
+known-plus (refused n) z p = p
+
+known-both : (a b : Answer Float) → statusOf a ≤ highest → statusOf b ≤ highest → statusOf (both a b) ≤ highest
+unfolding both then
+known-both (answered x) (answered y) p q = q
+known-both (answered x) (refused n) p q = q
+known-both (refused n) b p q = p
+
+-- ---- the steps of a star's reduction
+
+known-angle : (x : Rad) → angleRefusal x ≤ highest
+unfolding angleRefusal
+known-angle x = known-past _ _ 3 (omega arith)
+
+known-latitude : (x : Rad) → latitudeRefusal x ≤ highest
+unfolding latitudeRefusal
+known-latitude x = known-past _ _ 3 (omega arith)
+
+known-steep : (x : Rad) → steepRefusal x ≤ highest
+unfolding steepRefusal
+known-steep x = known-lower _ _ (known-latitude x) (known-past _ _ 4 (omega arith))
+
+known-root : (x : Float) → statusOf (rootRule x) ≤ highest
+unfolding rootRule
+known-root x = known-unless (rootRefusal x) _ (known-cond (isFinite x) _ 1 (known-cond (lt x zero) 5 0 (omega arith) (omega arith)) (omega arith)) (omega arith)
+
+known-arctangent : (y x : Float) → statusOf (arctangentIn y x) ≤ highest
+unfolding arctangentIn
+known-arctangent y x = omega arith
+
+known-arcsine : (s : Float) → statusOf (arcsineIn s) ≤ highest
+unfolding arcsineIn
+known-arcsine s = known-choice (lt one (size s)) (refused 7) _ (omega arith) (known-then _ _ (known-root _) (λ (r : Float). known-arctangent s r))
+
+known-turned : (asc dec : Rad) (turns : EqTurns) → statusOf (turnedIn asc dec turns) ≤ highest
+unfolding turnedIn placed
+known-turned asc dec turns = known-both _ _ (known-plus _ _ (known-arctangent _ _)) (known-arcsine _)
+
+known-night : (day1 day2 : Float) → nightOf day1 day2 .refusal ≤ highest
+unfolding nightOf gathered
+known-night day1 day2 = known-lower _ _ (known-angle _) (known-lower _ _ (known-angle _) (known-angle _))
+
+module _ (night : Night) (h : night .refusal ≤ highest) where
+  known-at : (p : EqPoint) → statusOf (reducedAt p night) ≤ highest
+  unfolding reducedAt moved
+  known-at p = known-unless _ _ (known-lower _ _ (known-lower _ _ (known-angle _) (known-steep _)) h) (omega arith)
+
+  known-in : (asc dec : Rad) → statusOf (reducedIn asc dec night) ≤ highest
+  unfolding reducedIn
+  known-in asc dec = known-then _ _ (known-turned asc dec (night .turns)) (λ (p : Pair). known-at _)
+
+  known-star : (star : Star) → statusOf (reduceStar star night) ≤ highest
+  unfolding reduceStar reduceAt
+  known-star star =
+      known-choice (inRange star) _ (refused 9) (known-unless _ _ (known-lower _ _ (known-angle _) (known-latitude _)) (known-in (ascOf star) (decOf star))) (omega arith)
+
+pub known-under : (star : Star) (day1 day2 : Float) → statusOf (reduceStar star (nightOf day1 day2)) ≤ highest
+known-under star day1 day2 = known-star (nightOf day1 day2) (known-night day1 day2) star

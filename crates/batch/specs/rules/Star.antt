@@ -1,0 +1,57 @@
+-- One star of a list: its place in radians, what the chain answers there, and what of the answer is stored.
+use Prim.Native.Nat.{ℕ}
+use mathlib.Core.Bool.{cond}
+use lib.IntN.{ℤ, pos}
+use lib.Ieee.{Float, binary64, ofInt}
+use Rattle.double.specs.rules.Operations.{bits, zero, _⊘_}
+use Rattle.quantity.specs.declared.Deg.{Deg}
+use Rattle.quantity.specs.declared.Rad.{Rad}
+use Rattle.quantity.specs.rules.Answer.{Answer, answered, refused, Pair, first, second, unless}
+use Rattle.quantity.specs.rules.Refusal.{lower, angleRefusal, latitudeRefusal}
+use Rattle.helpers.specs.rules.Angle.{radiansOf}
+use Rattle.chain.specs.declared.Night.{Night}
+use Rattle.chain.specs.rules.Chain.{chainRule}
+use Rattle.chain.specs.rules.Night.{reducedIn}
+use Rattle.list.specs.declared.Star.{Star}
+use Rattle.list.specs.rules.Record.{inRange}
+
+-- 3600000.0
+abbrev pub milliarcsecondsOfDegree : Float
+milliarcsecondsOfDegree = bits 0x414b774000000000
+
+-- a count of milliarcseconds in degrees: the count is exact, and the quotient rounded once
+abbrev pub degreesOf : ℤ → Deg
+degreesOf count = record { 0 = ofInt binary64 count ⊘ milliarcsecondsOfDegree }
+
+abbrev pub ascOf : Star → Rad
+ascOf star = radiansOf (degreesOf (pos (star .asc)))
+
+abbrev pub decOf : Star → Rad
+decOf star = radiansOf (degreesOf (star .dec))
+
+-- the chain's answer at the star, or 9 where its record is out of range
+unfoldable pub starRule : Star → Float → Float → Answer Pair
+starRule star day1 day2 = cond (inRange star) (chainRule (ascOf star) (decOf star) day1 day2) (refused 9)
+
+-- the same under a night, whose days are not refused
+abbrev pub anglesRefusal : Rad → Rad → ℕ
+anglesRefusal asc dec = lower (angleRefusal asc) (latitudeRefusal dec)
+
+unfoldable pub reduceAt : Rad → Rad → Night → Answer Pair
+reduceAt asc dec night = unless (anglesRefusal asc dec) (reducedIn asc dec night)
+
+unfoldable pub reduceStar : Star → Night → Answer Pair
+reduceStar star night = cond (inRange star) (reduceAt (ascOf star) (decOf star) night) (refused 9)
+
+-- what is stored of an answer: its status, and the two angles or 0.0 and 0.0
+abbrev pub statusOf : {A : Type 0} → Answer A → ℕ
+statusOf (answered x) = 0
+statusOf (refused n) = n
+
+abbrev pub firstOf : Answer Pair → Float
+firstOf (answered p) = first p
+firstOf (refused n) = zero
+
+abbrev pub secondOf : Answer Pair → Float
+secondOf (answered p) = second p
+secondOf (refused n) = zero

@@ -1,0 +1,78 @@
+// The stored list: a star shown, find and the batch.
+ghost use Rattle.list.specs.rules.Find.{findRule};
+ghost use Rattle.list.specs.rules.Reader.{readRule};
+ghost use Rattle.brundelak.specs.rules.Stored.{ToldFound, ToldStar, ToldBatch};
+use list::Found;
+use list::Shown;
+
+// The first star with a number: its index and the record's other fields. Refusals: 8; 10; 9.
+#[no_mangle]
+pub extern "C" fn brundelak_find(
+    bytes: &[u8],
+    number: u32,
+    index: &mut usize,
+    asc: &mut u32,
+    dec: &mut i32,
+) -> u8
+    ensures { λ n. ⌜ ToldFound (findRule (now (bytes .entry)) number) n (now (index .entry)) (now (asc .entry)) (now (dec .entry)) (now (index .exit)) (now (asc .exit)) (now (dec .exit)) ⌝ }
+{
+    match list::find(bytes, number) {
+        Found::At(i, a, d) => {
+            *index = i;
+            *asc = a;
+            *dec = d;
+            0
+        }
+        Found::Refused(n) => n,
+    }
+}
+
+// The star at a place of a list, in range or not, and the place after it: the reader's next. 255 where none is left. Refusals: 8.
+#[no_mangle]
+pub extern "C" fn brundelak_star(
+    bytes: &[u8],
+    place: usize,
+    number: &mut u32,
+    asc: &mut u32,
+    dec: &mut i32,
+    next: &mut usize,
+) -> u8
+    ensures { λ n. ⌜ ToldStar (readRule (now (bytes .entry)) place) n (now (number .entry)) (now (asc .entry)) (now (dec .entry)) (now (next .entry)) (now (number .exit)) (now (asc .exit)) (now (dec .exit)) (now (next .exit)) ⌝ }
+{
+    match list::star_at(bytes, place) {
+        Shown::Next(star, after) => {
+            let d = star.dec;
+            *number = star.number;
+            *asc = star.asc;
+            *dec = d;
+            *next = after;
+            0
+        }
+        Shown::End => 255,
+        Shown::Refused(n) => n,
+    }
+}
+
+// Every star of a list from the first day to the second: status, right ascension and declination of each into the lent slices, and
+// the 20 counts of the tally. Refusals, which leave all lent memory unchanged: 1; 2; 8.
+#[no_mangle]
+pub extern "C" fn brundelak_batch(
+    bytes: &[u8],
+    day1: f64,
+    day2: f64,
+    status: &mut [u8],
+    asc: &mut [f64],
+    dec: &mut [f64],
+    counts: &mut [u32; 20],
+) -> u8
+    ensures { λ n. ⌜ ToldBatch (now (bytes .entry)) day1 day2 (now (status .entry)) (now (asc .entry)) (now (dec .entry)) (now (counts .entry)) n (now (status .exit)) (now (asc .exit)) (now (dec .exit)) (now (counts .exit)) ⌝ }
+{
+    let b = batch::batch(bytes, day1, day2, status, asc, dec);
+    if b.refusal != 0 {
+        return b.refusal;
+    }
+    let tally = b.tally;
+    let all = tally.counts;
+    *counts = all;
+    0
+}

@@ -1,0 +1,69 @@
+-- What a law of a rule says of answers: of the functions as of the rules, and of refused calls. Assumes nothing.
+use Prim.Native.Nat.{ℕ}
+use mathlib.Core.Path.{_≡_, ap, sym, _∙_}
+use native.Mathlib.Omega.{arith}
+use lib.Ieee.{Float}
+use Rattle.quantity.specs.declared.One.{One}
+use Rattle.quantity.specs.declared.One.the-variants.{Is}
+use Rattle.quantity.specs.declared.Two.{Two}
+use Rattle.quantity.specs.declared.Three.{Three}
+use Rattle.quantity.specs.declared.Degrees.{Degrees}
+use Rattle.quantity.specs.declared.Radians.{Radians}
+use Rattle.quantity.specs.declared.Point.{Point}
+use Rattle.quantity.specs.declared.Deg.{Deg}
+use Rattle.quantity.specs.declared.Rad.{Rad}
+use Rattle.quantity.specs.declared.EqPoint.{EqPoint}
+use Rattle.quantity.specs.rules.Answer.{Answer, answered, refused, Pair, Triple, shown, shownTwo, shownThree, shownDegrees, shownRadians, shownPoint, with}
+use Rattle.quantity.specs.laws.Answer.{carried, unique, shown-loses-nothing, shown-two-loses-nothing, shown-three-loses-nothing, shown-degrees-loses-nothing, shown-radians-loses-nothing, shown-point-loses-nothing}
+
+-- ---- a contract holds of one answer only, whatever the function and its rule's answer a
+
+pub one-answer : {a : Answer Float} (r s : One) → shown r ≡ a → shown s ≡ a → r ≡ s
+one-answer = unique shown shown-loses-nothing
+
+pub one-pair : {a : Answer Pair} (r s : Two) → shownTwo r ≡ a → shownTwo s ≡ a → r ≡ s
+one-pair = unique shownTwo shown-two-loses-nothing
+
+pub one-triple : {a : Answer Triple} (r s : Three) → shownThree r ≡ a → shownThree s ≡ a → r ≡ s
+one-triple = unique shownThree shown-three-loses-nothing
+
+pub one-degrees : {a : Answer Deg} (r s : Degrees) → shownDegrees r ≡ a → shownDegrees s ≡ a → r ≡ s
+one-degrees = unique shownDegrees shown-degrees-loses-nothing
+
+pub one-radians : {a : Answer Rad} (r s : Radians) → shownRadians r ≡ a → shownRadians s ≡ a → r ≡ s
+one-radians = unique shownRadians shown-radians-loses-nothing
+
+pub one-point : {a : Answer EqPoint} (r s : Point) → shownPoint r ≡ a → shownPoint s ≡ a → r ≡ s
+one-point = unique shownPoint shown-point-loses-nothing
+
+-- ---- an answer in code is its rule's
+
+pub answered-by : {a : Answer Float} {r : One} {v : Float} → shown r ≡ a → r ≡ Is v → a ≡ answered v
+answered-by p e = sym p ∙ ap shown e
+
+pub refused-not-answered : {A : Type 0} {n : ℕ} {v : A} → refused n ≡ answered v → ⊥
+refused-not-answered e =
+    let z : _≡_ {A = ℕ} 0 1 = cc in
+    absurd (omega arith)
+
+-- ---- two calls whose rules answer a and b, where b is a with its number changed by f
+
+module _ (f : Float → Float) {a b : Answer Float} (law : b ≡ with f a) where
+  -- the function's answer changes as the rule's does
+  pub mirrored : (r s : One) → shown r ≡ a → shown s ≡ b → shown s ≡ with f (shown r)
+  mirrored r s p q = carried shown (with f) r s p q law
+
+  -- refused calls refuse alike
+  pub refused-there : (n : ℕ) → a ≡ refused n → b ≡ refused n
+  refused-there n e = law ∙ ap (with f) e
+
+  pub refused-here : (n : ℕ) → b ≡ refused n → a ≡ refused n
+  refused-here n e = by-case a (sym law ∙ e)
+    where
+      by-case : (a : Answer Float) → with f a ≡ refused n → a ≡ refused n
+      by-case (answered x) e = cc
+      by-case (refused m) e = e
+
+-- two calls whose rules answer alike answer alike
+pub unchanged : {a b : Answer Float} → b ≡ a → (r s : One) → shown r ≡ a → shown s ≡ b → s ≡ r
+unchanged law r s p q = one-answer s r (q ∙ law) p

@@ -1,0 +1,61 @@
+-- Condition 3 of the functions: what holds of the rules holds of any answers that meet the functions' contracts. Assumes nothing.
+use mathlib.Core.Path.{_≡_}
+use mathlib.Core.Bool.{true, false}
+use lib.Ieee.{Float, neg}
+use Rattle.double.specs.rules.Operations.{_⊖_}
+use Rattle.double.specs.rules.Sign.{bearsMinus, size}
+use Rattle.double.specs.rules.Order.{_≼_, NonZero}
+use Rattle.quantity.specs.declared.Rad.{Rad}
+use Rattle.quantity.specs.declared.One.{One}
+use Rattle.quantity.specs.declared.One.the-variants.{Is}
+use Rattle.quantity.specs.rules.Angle.{PI, HALF, opposite}
+use Rattle.quantity.specs.rules.Answer.{shown, with}
+use Rattle.elementary.specs.rules.Sine.{sineOf}
+use Rattle.coords.specs.rules.Horizon.{southward, azFrmEqRule, altFrmEqRule}
+use Rattle.coords.specs.rules.Ecliptic.{eclLongSum, eclLongFrmEqRule, eclLatSum, eclLatFrmEqRule}
+use Rattle.conditions.specs.laws.Answers.{answered-by, mirrored, unchanged}
+use Rattle.conditions.specs.laws.Azimuth.{azimuth-sign, azimuth-at-most-quarter-turn, azimuth-at-least-quarter-turn}
+use Rattle.conditions.specs.laws.HourAngle.{azimuth-hour, altitude-hour}
+use Rattle.conditions.specs.laws.Declination.{altitude-declination, azimuth-sign-stays, azimuth-size-there, azimuth-size-here}
+use Rattle.conditions.specs.laws.RightAscension.{longitude-mirror, latitude-mirror}
+
+-- ---- azimuth answers v
+
+module _ (h d p : Rad) (r : One) (v : Float) (meets : shown r ≡ azFrmEqRule h d p) (is : r ≡ Is v) where
+  pub az-frm-eq-sign : bearsMinus v ≡ bearsMinus (sineOf h)
+  az-frm-eq-sign = azimuth-sign h d p v (answered-by meets is)
+
+  pub az-frm-eq-south : bearsMinus (southward h d p) ≡ false → size v ≼ HALF
+  az-frm-eq-south = azimuth-at-most-quarter-turn h d p v (answered-by meets is)
+
+  pub az-frm-eq-north : bearsMinus (southward h d p) ≡ true → HALF ≼ size v
+  az-frm-eq-north = azimuth-at-least-quarter-turn h d p v (answered-by meets is)
+
+-- ---- r is the answer, and s the answer in the mirror
+
+module _ (h d p : Rad) (r s : One) where
+  pub az-frm-eq-hour : shown r ≡ azFrmEqRule h d p → shown s ≡ azFrmEqRule (opposite h) d p → shown s ≡ with neg (shown r)
+  az-frm-eq-hour = mirrored neg (azimuth-hour h d p) r s
+
+  pub alt-frm-eq-hour : shown r ≡ altFrmEqRule h d p → shown s ≡ altFrmEqRule (opposite h) d p → s ≡ r
+  alt-frm-eq-hour = unchanged (altitude-hour h d p) r s
+
+  pub alt-frm-eq-declination : shown r ≡ altFrmEqRule h d p → shown s ≡ altFrmEqRule h (opposite d) (opposite p) → s ≡ r
+  alt-frm-eq-declination = unchanged (altitude-declination h d p) r s
+
+  module _ (not-zero : NonZero (southward h d p)) (v w : Float) (meets : shown r ≡ azFrmEqRule h d p) (is : r ≡ Is v) (meets' : shown s ≡ azFrmEqRule h (opposite d) (opposite p)) (is' : s ≡ Is w) where
+    pub az-frm-eq-declination-sign : bearsMinus w ≡ bearsMinus v
+    az-frm-eq-declination-sign = azimuth-sign-stays h d p not-zero v w (answered-by meets is) (answered-by meets' is')
+
+    pub az-frm-eq-declination-there : bearsMinus (southward h d p) ≡ false → size w ≡ PI ⊖ size v
+    az-frm-eq-declination-there = azimuth-size-there h d p not-zero v w (answered-by meets is) (answered-by meets' is')
+
+    pub az-frm-eq-declination-here : bearsMinus (southward h d p) ≡ true → size v ≡ PI ⊖ size w
+    az-frm-eq-declination-here = azimuth-size-here h d p not-zero v w (answered-by meets is) (answered-by meets' is')
+
+module _ (a d e : Rad) (r s : One) where
+  pub ecl-long-frm-eq-mirror : NonZero (eclLongSum a d e) → shown r ≡ eclLongFrmEqRule a d e → shown s ≡ eclLongFrmEqRule (opposite a) (opposite d) e → shown s ≡ with neg (shown r)
+  ecl-long-frm-eq-mirror not-zero = mirrored neg (longitude-mirror a d e not-zero) r s
+
+  pub ecl-lat-frm-eq-mirror : NonZero (eclLatSum a d e) → shown r ≡ eclLatFrmEqRule a d e → shown s ≡ eclLatFrmEqRule (opposite a) (opposite d) e → shown s ≡ with neg (shown r)
+  ecl-lat-frm-eq-mirror not-zero = mirrored neg (latitude-mirror a d e not-zero) r s

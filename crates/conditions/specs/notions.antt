@@ -1,0 +1,3 @@
+-- What the theorems are stated by. Definitions only.
+pub mod Outcome
+pub mod Within

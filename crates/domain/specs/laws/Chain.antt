@@ -1,0 +1,179 @@
+-- The chain on arguments that are not refused: the steps at the precessed point refuse nothing but its declination, by 4, so that the
+-- chain meets 7 and 4 only; and each answer is finite. Assumes nothing.
+use Prim.Native.Nat.{ℕ}
+use mathlib.Core.Path.{_≡_, refl, sym, _∙_, subst}
+use mathlib.Core.Logic.{_⊎_, inl, inr}
+use mathlib.Core.Bool.{Bool, true, false, cond}
+use lib.Ieee.{Float, neg, add, sub, mul, div, le, lt, ofBits, round}
+use lib.Ieee.Bits.{is-true, is-false}
+use Rattle.double.specs.rules.Sign.{size, isFinite}
+use Rattle.double.specs.rules.Order.{_≼_, Finite, Between}
+use Rattle.double.specs.rules.Table.{over}
+use Rattle.double.specs.notions.Range.{known, con, _⊞_, _⊟_, _⊠_}
+use Rattle.double.specs.laws.Sign.{finite-size}
+use Rattle.double.specs.laws.Order.{le-trans, not-lt-of-le}
+use Rattle.double.specs.laws.Between.{finite-of-size, between→size}
+use Rattle.quantity.specs.declared.Rad.{Rad}
+use Rattle.quantity.specs.rules.Angle.{HALF}
+use Rattle.quantity.specs.rules.Answer.{Answer, answered, refused, Pair, pair, first, second, unless, then}
+use Rattle.quantity.specs.rules.Refusal.{past, dayRefusal, farthest, steepest, angleRefusal, latitudeRefusal, steepRefusal}
+use Rattle.quantity.specs.laws.Answer.{then-unless}
+use Rattle.elementary.specs.rules.Sine.{farthestAlone}
+use Rattle.elementary.specs.laws.Accepted.{answered-unless}
+use Rattle.helpers.specs.rules.Angle.{arc, degree}
+use Rattle.precess.specs.rules.Days.{placeRefusal}
+use Rattle.precess.specs.rules.Equatorial.{eqTurnsOf, turnedIn, precessEqCoordsRule}
+use Rattle.nutation.specs.rules.Sum.{nutationRule}
+use Rattle.nutation.specs.rules.Point.{nutationInRefusal, nutationInEqCoordsIn, nutationInEqCoordsRule}
+use Rattle.aberr.specs.rules.Star.{stellAberrRefusal, stellAberrInEqCoordsIn, stellAberrInEqCoordsRule}
+use Rattle.chain.specs.rules.Numbers.{n84381·448, n46·8150, n0·00059, n0·001813}
+use Rattle.chain.specs.rules.Obliquity.{meanObliquity, obliquityOf}
+use Rattle.chain.specs.rules.Chain.{point, rad, sum, fromPoint, chainRule}
+use Rattle.conditions.specs.notions.Outcome.{Outcome, FourOrSeven}
+use Rattle.conditions.specs.notions.Within.{Within, IsPlace, BothFinite, BothWithin}
+use Rattle.conditions.specs.laws.Outcome.{outcome-answered, outcome-then}
+use Rattle.conditions.specs.laws.Near.{within, near-far}
+use Rattle.domain.specs.laws.Days.{century-within, second-accepted, place-accepted}
+use Rattle.domain.specs.laws.Equatorial.{precess-eq-coords-answers, precess-eq-coords-refuses}
+use Rattle.domain.specs.laws.NutationSum.{nutation-answers, nutation-refuses}
+use Rattle.domain.specs.laws.NutationPoint.{nutation-in-eq-coords-answers, nutation-in-eq-coords-refuses}
+use Rattle.domain.specs.laws.StarAberration.{stell-aberr-in-eq-coords-answers, stell-aberr-in-eq-coords-refuses}
+
+-- ---- what is not refused
+
+past-none : (x limit : Float) (n : ℕ) → Finite limit → size x ≼ limit → past x limit n ≡ 0
+past-none x limit n p h =
+    let F = finite-of-size x limit p h in
+    rw (is-true (isFinite x) F, is-false (lt limit (size x)) (not-lt-of-le (size x) limit (rw (finite-size x) F) p h))
+
+angle-near : (x : Rad) → Within 64 (x .0) → angleRefusal x ≡ 0
+unfolding angleRefusal isFinite le ofBits round
+angle-near x i =
+    past-none (x .0) farthest 3 tt (le-trans (size (x .0)) (over 64 1) farthest (between→size (over 64 1) (x .0) i) tt)
+
+latitude-near : (x : Rad) → Between (neg HALF) HALF (x .0) → latitudeRefusal x ≡ 0
+unfolding latitudeRefusal isFinite ofBits
+latitude-near x i = past-none (x .0) HALF 3 tt (between→size HALF (x .0) i)
+
+-- a latitude is refused by 4 or not
+steep-cases : (x : Rad) → Between (neg HALF) HALF (x .0) → (steepRefusal x ≡ 0) ⊎ (steepRefusal x ≡ 4)
+unfolding steepRefusal
+steep-cases x i =
+    rw (latitude-near x i, is-true (isFinite (x .0)) (i .finite)) (by-case (lt steepest (size (x .0))))
+  where
+    by-case : (b : Bool) → (_≡_ {A = ℕ} (cond b 4 0) 0) ⊎ (_≡_ {A = ℕ} (cond b 4 0) 4)
+    by-case true = inr refl
+    by-case false = inl refl
+
+obliquity-within : (day : Float) → dayRefusal day ≡ 0 → Within 64 (obliquityOf day .0)
+unfolding obliquityOf meanObliquity isFinite le neg add sub mul div ofBits round
+obliquity-within day none =
+    let C = known (century-within day none) in
+    within 64
+    ((con (arc n84381·448) ⊟ C ⊠ (con (arc n46·8150) ⊞ C ⊠ (con (arc n0·00059) ⊟ C ⊠ con (arc n0·001813)))) ⊠ con degree) tt
+
+-- the obliquity goes into a sine
+pub obliquity-far : (day : Float) → dayRefusal day ≡ 0 → size (obliquityOf day .0) ≼ farthestAlone
+unfolding isFinite le neg round
+obliquity-far day none = near-far (obliquityOf day .0) (within 2048 (known (obliquity-within day none)) tt)
+
+refused-four : (k : ℕ) (a : Answer Pair) (n : ℕ) → k ≡ 4 → unless k a ≡ refused n → n ≡ 4
+refused-four k a n f e = same (subst (λ (k : ℕ). unless k a ≡ refused n) f e)
+  where
+    same : _≡_ {A = Answer Pair} (refused 4) (refused n) → n ≡ 4
+    same e = cc
+
+-- ---- the steps at the precessed point p, for nutation n
+
+module _ (p n : Pair) (day : Float) (P : IsPlace p) (N : BothWithin 1 n) (D : dayRefusal day ≡ 0) where
+  asc-none : angleRefusal (rad (first p)) ≡ 0
+  asc-none = angle-near (rad (first p)) (P .0)
+
+  -- an angle up to 1.0 in size
+  small-none : (x : Float) → Within 1 x → angleRefusal (rad x) ≡ 0
+  unfolding isFinite le neg round
+  small-none x i = angle-near (rad x) (within 64 (known i) tt)
+
+  nutation-cases : (nutationInRefusal (point p) (rad (first n)) (rad (second n)) (obliquityOf day) ≡ 0) ⊎ (nutationInRefusal (point p) (rad (first n)) (rad (second n)) (obliquityOf day) ≡ 4)
+  nutation-cases =
+      let L = small-none (first n) (N .0) in
+      let O = small-none (second n) (N .1) in
+      let E = angle-near (obliquityOf day) (obliquity-within day D) in
+      elim (steep-cases (rad (second p)) (P .1)) [ inl z ↦ inl (rw (asc-none, z, L, O, E)) | inr f ↦ inr (rw (asc-none, f, L, O, E)) ]
+
+  aberr-cases : (stellAberrRefusal (point p) day ≡ 0) ⊎ (stellAberrRefusal (point p) day ≡ 4)
+  aberr-cases =
+      elim (steep-cases (rad (second p)) (P .1)) [ inl z ↦ inl (rw (asc-none, z, D)) | inr f ↦ inr (rw (asc-none, f, D)) ]
+
+  nutation-step : Outcome (BothWithin 4194304) FourOrSeven (nutationInEqCoordsRule (point p) (rad (first n)) (rad (second n)) (obliquityOf day))
+  unfolding nutationInEqCoordsRule
+  nutation-step =
+      let oblq = obliquityOf day in
+      let long = rad (first n) in
+      let lat = rad (second n) in
+      record {
+        answers = nutation-in-eq-coords-answers (point p) long lat oblq;
+        refuses =
+            λ k e.
+            elim nutation-cases [
+              | inl z ↦ absurd (nutation-in-eq-coords-refuses (point p) long lat oblq z k e)
+              | inr f ↦ inl (refused-four (nutationInRefusal (point p) long lat oblq) (answered (pair (nutationInEqCoordsIn (point p) long lat oblq .asc) (nutationInEqCoordsIn (point p) long lat oblq .dec))) k f e)
+            ];
+      }
+
+  aberr-step : Outcome (BothWithin 8) FourOrSeven (stellAberrInEqCoordsRule (point p) day)
+  unfolding stellAberrInEqCoordsRule
+  aberr-step =
+      record {
+        answers = stell-aberr-in-eq-coords-answers (point p) day;
+        refuses =
+            λ k e.
+            elim aberr-cases [
+              | inl z ↦ absurd (stell-aberr-in-eq-coords-refuses (point p) day z k e)
+              | inr f ↦ inl (refused-four (stellAberrRefusal (point p) day) (answered (pair (stellAberrInEqCoordsIn (point p) day .asc) (stellAberrInEqCoordsIn (point p) day .dec))) k f e)
+            ];
+      }
+
+  from-outcome : Outcome BothFinite FourOrSeven (fromPoint p n day)
+  unfolding isFinite le neg add ofBits round
+  from-outcome =
+      outcome-then (λ (s : Pair). then (stellAberrInEqCoordsRule (point p) day) (λ (a : Pair). answered (sum p s a)))
+      (λ s S.
+      outcome-then (λ (a : Pair). answered (sum p s a))
+      (λ a A.
+      outcome-answered (sum p s a)
+      (within 8388608 ((known (P .0) ⊞ known (S .0)) ⊞ known (A .0)) tt .finite, within 8388608 ((known (P .1) ⊞ known (S .1)) ⊞ known (A .1)) tt .finite))
+      (stellAberrInEqCoordsRule (point p) day) aberr-step)
+      (nutationInEqCoordsRule (point p) (rad (first n)) (rad (second n)) (obliquityOf day)) nutation-step
+
+-- ---- the chain
+
+module _ (asc dec : Rad) (day1 day2 : Float) where
+  outcome : placeRefusal asc dec day1 day2 ≡ 0 → Outcome BothFinite FourOrSeven (chainRule asc dec day1 day2)
+  unfolding chainRule
+  outcome none =
+      let D = second-accepted day1 day2 (place-accepted asc dec day1 day2 none .2) in
+      let precessed : Outcome IsPlace FourOrSeven (precessEqCoordsRule asc dec day1 day2) = record {
+        answers = precess-eq-coords-answers asc dec day1 day2;
+        refuses = λ n e. inr (precess-eq-coords-refuses asc dec day1 day2 none n e);
+      } in
+      let nutated : Outcome (BothWithin 1) FourOrSeven (nutationRule day2) = record {
+        answers = nutation-answers day2;
+        refuses = λ n e. absurd (nutation-refuses day2 D n e);
+      } in
+      outcome-then (λ (p : Pair). then (nutationRule day2) (λ (n : Pair). fromPoint p n day2))
+      (λ p P. outcome-then (λ (n : Pair). fromPoint p n day2) (λ n N. from-outcome p n day2 P N D) (nutationRule day2) nutated)
+      (precessEqCoordsRule asc dec day1 day2) precessed
+
+  -- 7 in precession, or 4 for the precessed declination
+  pub chain-refuses : placeRefusal asc dec day1 day2 ≡ 0 → (n : ℕ) → chainRule asc dec day1 day2 ≡ refused n → FourOrSeven n
+  chain-refuses none = outcome none .refuses
+
+  pub chain-finite : (v : Pair) → chainRule asc dec day1 day2 ≡ answered v → BothFinite v
+  unfolding chainRule
+  chain-finite v e =
+      let f : Pair → Answer Pair = λ (p : Pair). then (nutationRule day2) (λ (n : Pair). fromPoint p n day2) in
+      let n = placeRefusal asc dec day1 day2 in
+      let work = turnedIn asc dec (eqTurnsOf day1 day2) in
+      let none = answered-unless n (then work f) v (sym (then-unless n work f) ∙ e) .0 in
+      outcome none .answers v e

@@ -1,0 +1,175 @@
+-- Precession of equatorial coordinates, by either function, on arguments that are not refused: each angle that is worked out stays
+-- far below 400000.0, each answer is finite, and 7 is the only refusal that the work meets. Assumes nothing.
+use Prim.Native.Nat.{ℕ}
+use mathlib.Core.Path.{_≡_, refl}
+use lib.Ieee.{Float, neg, add, sub, mul, div, le, ofBits, round}
+use Rattle.double.specs.rules.Operations.{_⊕_, _⊖_, _⊗_}
+use Rattle.double.specs.rules.Sign.{size, isFinite}
+use Rattle.double.specs.rules.Order.{_≼_}
+use Rattle.double.specs.notions.Range.{Expr, known, con, _⊞_, _⊟_, _⊠_}
+use Rattle.quantity.specs.declared.Rad.{Rad}
+use Rattle.quantity.specs.rules.Answer.{answered, refused, Pair, plus}
+use Rattle.quantity.specs.rules.Refusal.{angleRefusal, latitudeRefusal}
+use Rattle.elementary.specs.rules.Sine.{sineOf, cosineOf, farthestAlone}
+use Rattle.elementary.specs.rules.Arctangent.{arctangentIn}
+use Rattle.elementary.specs.rules.Arcsine.{arcsineIn}
+use Rattle.helpers.specs.rules.Angle.{arc, degree, radiansOf}
+use Rattle.helpers.specs.rules.Time.{centuryOf}
+use Rattle.precess.specs.declared.EqTurns.{EqTurns}
+use Rattle.precess.specs.rules.Numbers.{n2306·2181, n1·39656, n0·000139, n0·30188, n0·000344, n0·017998, n1·09468, n0·000066, n0·018203, n0·000217, n2004·3109, n0·8533, n0·42665, n0·041833, n2304·25, n1·396, n0·302, n0·018, n0·791, n0·001, n2004·682, n0·853, n0·426, n0·042}
+use Rattle.precess.specs.rules.Days.{spanOf, daysRefusal, placeRefusal}
+use Rattle.precess.specs.rules.Equatorial.{eqXi, eqZeta, eqTheta, turnsOf, eqTurnsOf, placed, turnedIn, precessEqCoordsRule}
+use Rattle.precess.specs.rules.Fk4.{fk4Century, fk4Span, fk4Xi, fk4Zeta, fk4Theta, degreesAsRadians, fk4TurnsOf, precessEqCoordsFK5Rule}
+use Rattle.conditions.specs.laws.Accepted.{angle-between, latitude-sine, latitude-cosine}
+use Rattle.conditions.specs.notions.Outcome.{Outcome, Seven}
+use Rattle.conditions.specs.notions.Within.{Within, IsPlace, BothFinite}
+use Rattle.domain.specs.notions.Turns.{EqTurnsNear}
+use Rattle.conditions.specs.laws.Outcome.{outcome-with, outcome-both, rule-answers, rule-refuses}
+use Rattle.conditions.specs.laws.Elementary.{arctangent-outcome, arcsine-outcome}
+use Rattle.conditions.specs.laws.Near.{within, near-far, near-sine, near-cosine}
+use Rattle.domain.specs.laws.Days.{century-within, span-within, fk4-century-within, fk4-span-within, first-accepted, place-accepted}
+
+-- ---- the angles that two days fix
+
+module _ (c t : Float) (C : Within 20 c) (S : Within 41 t) where
+  abbrev sharedExpr : Expr
+  sharedExpr = known S ⊠ (con (arc n2306·2181) ⊞ known C ⊠ (con (arc n1·39656) ⊟ known C ⊠ con (arc n0·000139)))
+
+  xi-within : Within 1024 (radiansOf (eqXi c t) .0)
+  unfolding eqXi isFinite le neg add sub mul div ofBits round
+  xi-within =
+      within 1024
+      ((sharedExpr ⊞ known S ⊠ known S ⊠ ((con (arc n0·30188) ⊟ known C ⊠ con (arc n0·000344)) ⊞ known S ⊠ con (arc n0·017998))) ⊠ con degree) tt
+
+  zeta-within : Within 32 (radiansOf (eqZeta c t) .0)
+  unfolding eqZeta isFinite le neg add sub mul div ofBits round
+  zeta-within =
+      within 32
+      ((sharedExpr ⊞ known S ⊠ known S ⊠ ((con (arc n1·09468) ⊟ known C ⊠ con (arc n0·000066)) ⊞ known S ⊠ con (arc n0·018203))) ⊠ con degree) tt
+
+  theta-within : Within 2048 (radiansOf (eqTheta c t) .0)
+  unfolding eqTheta isFinite le neg add sub mul div ofBits round
+  theta-within =
+      let y = known C ⊠ con (arc n0·000217) in
+      within 2048
+      (known S ⊠ (con (arc n2004·3109) ⊞ known C ⊠ (con (arc n0·8533) ⊟ y) ⊟ known S ⊠ ((con (arc n0·42665) ⊞ y) ⊞ known S ⊠ con (arc n0·041833))) ⊠ con degree) tt
+
+module _ (c t : Float) (C : Within 41 c) (S : Within 41 t) where
+  fk4-xi-within : Within 30 (fk4Xi c t .0)
+  unfolding fk4Xi isFinite le neg add sub mul div ofBits round
+  fk4-xi-within =
+      within 30
+      (known S ⊠ (con (arc n2304·25) ⊞ known C ⊠ con (arc n1·396) ⊞ known S ⊠ (con (arc n0·302) ⊞ known S ⊠ con (arc n0·018)))) tt
+
+  fk4-zeta-within : Within 32 (fk4Zeta (fk4Xi c t) t .0)
+  unfolding fk4Zeta isFinite le neg add sub mul div ofBits round
+  fk4-zeta-within =
+      within 32 (known fk4-xi-within ⊞ known S ⊠ known S ⊠ (con (arc n0·791) ⊞ known S ⊠ con (arc n0·001))) tt
+
+  fk4-theta-within : Within 2048 (fk4Theta c t .0)
+  unfolding fk4Theta isFinite le neg add sub mul div ofBits round
+  fk4-theta-within =
+      within 2048
+      (known S ⊠ (con (arc n2004·682) ⊟ known C ⊠ con (arc n0·853) ⊟ known S ⊠ (con (arc n0·426) ⊞ known S ⊠ con (arc n0·042)))) tt
+
+turns-near : (xi zeta theta : Rad) → Within 1024 (xi .0) → Within 32 (zeta .0) → Within 2048 (theta .0) → EqTurnsNear (turnsOf xi zeta theta)
+unfolding turnsOf
+turns-near xi zeta theta X Z T = record { xi = X; zeta = Z; sine = near-sine theta T; cosine = near-cosine theta T }
+
+module _ (day1 day2 : Float) (none : daysRefusal day1 day2 ≡ 0) where
+  C : Within 20 (centuryOf day1)
+  C = century-within day1 (first-accepted day1 day2 none)
+
+  S : Within 41 (spanOf day1 day2)
+  S = span-within day1 day2 none
+
+  F : Within 41 (fk4Century day1)
+  F = fk4-century-within day1 (first-accepted day1 day2 none)
+
+  R : Within 41 (fk4Span day1 day2)
+  R = fk4-span-within day1 day2 none
+
+  pub eq-turns-near : EqTurnsNear (eqTurnsOf day1 day2)
+  unfolding eqTurnsOf
+  eq-turns-near =
+      let c = centuryOf day1 in
+      let t = spanOf day1 day2 in
+      turns-near (radiansOf (eqXi c t)) (radiansOf (eqZeta c t)) (radiansOf (eqTheta c t)) (xi-within c t C S) (zeta-within c t C S) (theta-within c t C S)
+
+  pub fk4-turns-near : EqTurnsNear (fk4TurnsOf day1 day2)
+  unfolding fk4TurnsOf degreesAsRadians isFinite le neg round
+  fk4-turns-near =
+      let c = fk4Century day1 in
+      let t = fk4Span day1 day2 in
+      let xi = degreesAsRadians (fk4Xi c t) in
+      turns-near xi (degreesAsRadians (fk4Zeta (fk4Xi c t) t)) (degreesAsRadians (fk4Theta c t))
+      (within 1024 (known (fk4-xi-within c t F R)) tt) (fk4-zeta-within c t F R) (fk4-theta-within c t F R)
+
+  -- the third angle goes into a sine
+  pub theta-far : size (radiansOf (eqTheta (centuryOf day1) (spanOf day1 day2)) .0) ≼ farthestAlone
+  theta-far = near-far (radiansOf (eqTheta (centuryOf day1) (spanOf day1 day2)) .0) (theta-within (centuryOf day1) (spanOf day1 day2) C S)
+
+  pub fk4-theta-far : size (fk4Theta (fk4Century day1) (fk4Span day1 day2) .0) ≼ farthestAlone
+  fk4-theta-far = near-far (fk4Theta (fk4Century day1) (fk4Span day1 day2) .0) (fk4-theta-within (fk4Century day1) (fk4Span day1 day2) F R)
+
+-- ---- a place after the turns
+
+module _ (asc dec : Rad) (turns : EqTurns) (A : angleRefusal asc ≡ 0) (D : latitudeRefusal dec ≡ 0) (N : EqTurnsNear turns) where
+  -- the right ascension with xi added goes into a sine
+  turned-within : Within 2048 (asc .0 ⊕ turns .xi)
+  unfolding isFinite le neg add ofBits round
+  turned-within = within 2048 (known (angle-between asc A) ⊞ known (N .xi)) tt
+
+  pub turned-far : size (asc .0 ⊕ turns .xi) ≼ farthestAlone
+  turned-far = near-far (asc .0 ⊕ turns .xi) turned-within
+
+  pub turned-outcome : Outcome IsPlace Seven (turnedIn asc dec turns)
+  unfolding turnedIn placed plus isFinite le neg add sub mul ofBits round
+  turned-outcome =
+      let a : Rad = record { 0 = asc .0 ⊕ turns .xi } in
+      let sa = known (near-sine a turned-within) in
+      let ca = known (near-cosine a turned-within) in
+      let sd = known (latitude-sine dec D) in
+      let cd = known (latitude-cosine dec D) in
+      let y = cosineOf dec ⊗ sineOf a in
+      let x = turns .cosine ⊗ cosineOf dec ⊗ cosineOf a ⊖ turns .sine ⊗ sineOf dec in
+      let s = turns .sine ⊗ cosineOf dec ⊗ cosineOf a ⊕ turns .cosine ⊗ sineOf dec in
+      outcome-both {P = Within 64} (plus (arctangentIn y x) (turns .zeta)) (arcsineIn s)
+      (outcome-with (λ (v : Float). v ⊕ turns .zeta) (λ v i. within 64 (known i ⊞ known (N .zeta)) tt) (arctangentIn y x)
+      (arctangent-outcome y x (within 2 (cd ⊠ sa) tt .finite) (within 4 (known (N .cosine) ⊠ cd ⊠ ca ⊟ known (N .sine) ⊠ sd) tt .finite)))
+      (arcsine-outcome refl s (within 4 (known (N .sine) ⊠ cd ⊠ ca ⊞ known (N .cosine) ⊠ sd) tt .finite))
+
+-- ---- the two functions
+
+module _ (asc dec : Rad) (day1 day2 : Float) where
+  eq-outcome : placeRefusal asc dec day1 day2 ≡ 0 → Outcome IsPlace Seven (turnedIn asc dec (eqTurnsOf day1 day2))
+  eq-outcome e =
+      let n = place-accepted asc dec day1 day2 e in
+      turned-outcome asc dec (eqTurnsOf day1 day2) (n .0) (n .1) (eq-turns-near day1 day2 (n .2))
+
+  fk4-outcome : placeRefusal asc dec day1 day2 ≡ 0 → Outcome IsPlace Seven (turnedIn asc dec (fk4TurnsOf day1 day2))
+  fk4-outcome e =
+      let n = place-accepted asc dec day1 day2 e in
+      turned-outcome asc dec (fk4TurnsOf day1 day2) (n .0) (n .1) (fk4-turns-near day1 day2 (n .2))
+
+  pub precess-eq-coords-answers : (p : Pair) → precessEqCoordsRule asc dec day1 day2 ≡ answered p → IsPlace p
+  precess-eq-coords-answers = rule-answers (placeRefusal asc dec day1 day2) (turnedIn asc dec (eqTurnsOf day1 day2)) eq-outcome
+
+  pub precess-eq-coords-finite : (p : Pair) → precessEqCoordsRule asc dec day1 day2 ≡ answered p → BothFinite p
+  precess-eq-coords-finite p e =
+      let i = precess-eq-coords-answers p e in
+      (i .0 .finite, i .1 .finite)
+
+  pub precess-eq-coords-refuses : placeRefusal asc dec day1 day2 ≡ 0 → (n : ℕ) → precessEqCoordsRule asc dec day1 day2 ≡ refused n → n ≡ 7
+  precess-eq-coords-refuses = rule-refuses (placeRefusal asc dec day1 day2) (turnedIn asc dec (eqTurnsOf day1 day2)) eq-outcome
+
+  pub precess-eq-coords-fk5-answers : (p : Pair) → precessEqCoordsFK5Rule asc dec day1 day2 ≡ answered p → IsPlace p
+  precess-eq-coords-fk5-answers = rule-answers (placeRefusal asc dec day1 day2) (turnedIn asc dec (fk4TurnsOf day1 day2)) fk4-outcome
+
+  pub precess-eq-coords-fk5-finite : (p : Pair) → precessEqCoordsFK5Rule asc dec day1 day2 ≡ answered p → BothFinite p
+  precess-eq-coords-fk5-finite p e =
+      let i = precess-eq-coords-fk5-answers p e in
+      (i .0 .finite, i .1 .finite)
+
+  pub precess-eq-coords-fk5-refuses : placeRefusal asc dec day1 day2 ≡ 0 → (n : ℕ) → precessEqCoordsFK5Rule asc dec day1 day2 ≡ refused n → n ≡ 7
+  precess-eq-coords-fk5-refuses = rule-refuses (placeRefusal asc dec day1 day2) (turnedIn asc dec (fk4TurnsOf day1 day2)) fk4-outcome

@@ -1,0 +1,57 @@
+-- The equatorial horizontal parallax of a distance that is not refused is answered: the arcsine never meets 7. Assumes nothing.
+use Prim.Native.Nat.{ℕ}
+use mathlib.Core.Path.{_≡_}
+use lib.Dec.{T-not}
+use lib.Ieee.{Float, binary64, neg, add, sub, mul, div, le, lt, ofBits, ofInt, toUnsigned}
+use Rattle.double.specs.rules.Operations.{one, _⊘_}
+use Rattle.double.specs.rules.Sign.{bearsMinus, size, isFinite}
+use Rattle.double.specs.rules.Order.{_≼_, Finite, Between}
+use Rattle.double.specs.notions.Range.{known, con, _⧄_}
+use Rattle.double.specs.laws.Sign.{finite-size}
+use Rattle.double.specs.laws.Order.{not-lt-of-le}
+use Rattle.double.specs.laws.Between.{between→size}
+use Rattle.double.specs.laws.Interval.{bounded}
+use Rattle.quantity.specs.rules.Angle.{HALF}
+use Rattle.quantity.specs.rules.Answer.{answered, refused}
+use Rattle.quantity.specs.rules.Refusal.{distanceRefusal}
+use Rattle.elementary.specs.rules.Fold.{fold}
+use Rattle.elementary.specs.rules.Sine.{foldedSine, farthestAlone}
+use Rattle.elementary.specs.laws.Accepted.{distance-accepted}
+use Rattle.elementary.specs.laws.Arcsine.{arcsine-refuses-seven}
+use Rattle.helpers.specs.rules.Angle.{arc, radiansOf}
+use Rattle.parallax.specs.rules.Numbers.{n8·794}
+use Rattle.parallax.specs.rules.Horizontal.{sunParallax, eqHzParallaxIn, eqHzParallaxRule}
+use Rattle.conditions.specs.notions.Outcome.{Outcome, Never}
+use Rattle.conditions.specs.laws.Outcome.{rule-answers, rule-refuses}
+use Rattle.conditions.specs.laws.Elementary.{arcsine-outcome}
+
+-- 8.794 seconds go into a sine
+pub sun-parallax-far : size (radiansOf (record { 0 = arc n8·794 }) .0) ≼ farthestAlone
+unfolding size le mul div ofBits
+sun-parallax-far = tt
+
+module _ (dist : Float) where
+  -- the arcsine's argument is 1 at most in size
+  ratio-between : distanceRefusal dist ≡ 0 → Between (neg one) one (sunParallax ⊘ dist)
+  unfolding sunParallax fold foldedSine bearsMinus size isFinite le lt neg add sub mul div ofBits ofInt toUnsigned
+  ratio-between none = bounded binary64 (neg one) one (con sunParallax ⧄ known (distance-accepted dist none)) tt
+
+  outcome : distanceRefusal dist ≡ 0 → Outcome (Between (neg HALF) HALF) Never (eqHzParallaxIn dist)
+  unfolding eqHzParallaxIn
+  outcome none =
+      let s = sunParallax ⊘ dist in
+      let i = ratio-between none in
+      let small : size s ≼ one = between→size one s i in
+      record {
+        answers = arcsine-outcome {Q = λ (n : ℕ). Unit {0}} tt s (i .finite) .answers;
+        refuses = λ n e. T-not (lt one (size s)) (not-lt-of-le (size s) one (rw (finite-size s) (i .finite)) (unfold isFinite ofBits in tt) small) (arcsine-refuses-seven s (i .finite) n e .1);
+      }
+
+  pub eq-hz-parallax-answers : (v : Float) → eqHzParallaxRule dist ≡ answered v → Between (neg HALF) HALF v
+  eq-hz-parallax-answers = rule-answers (distanceRefusal dist) (eqHzParallaxIn dist) outcome
+
+  pub eq-hz-parallax-finite : (v : Float) → eqHzParallaxRule dist ≡ answered v → Finite v
+  eq-hz-parallax-finite v e = eq-hz-parallax-answers v e .finite
+
+  pub eq-hz-parallax-refuses : distanceRefusal dist ≡ 0 → (n : ℕ) → eqHzParallaxRule dist ≡ refused n → ⊥
+  eq-hz-parallax-refuses = rule-refuses (distanceRefusal dist) (eqHzParallaxIn dist) outcome

@@ -1,0 +1,137 @@
+-- Topocentric ecliptic coordinates on arguments that are not refused: each angle that is worked out stays far below 400000.0, each
+-- answer is finite, and the work meets 6 and 7 only. Assumes nothing.
+use Prim.Native.Nat.{ℕ}
+use mathlib.Core.Path.{_≡_, refl}
+use mathlib.Core.Logic.{inl, inr}
+use lib.Ieee.{Float, neg, add, sub, mul, eq, le, ofBits, round}
+use Rattle.double.specs.rules.Operations.{zero, one, _⊕_, _⊖_, _⊗_, _⊘_}
+use Rattle.double.specs.rules.Sign.{size, isFinite}
+use Rattle.double.specs.rules.Order.{_≼_, NonZero, Between}
+use Rattle.double.specs.notions.Range.{known, _⊞_, _⊟_, _⊠_}
+use Rattle.quantity.specs.declared.Rad.{Rad}
+use Rattle.quantity.specs.declared.EclPoint.{EclPoint}
+use Rattle.quantity.specs.declared.GeographPoint.{GeographPoint}
+use Rattle.quantity.specs.rules.Answer.{answered, refused, Pair, first, second, Triple, triple, then}
+use Rattle.quantity.specs.rules.Refusal.{lower, angleRefusal, latitudeRefusal}
+use Rattle.elementary.specs.rules.Fold.{fold}
+use Rattle.elementary.specs.rules.Sine.{sineOf, cosineOf, farthestAlone}
+use Rattle.elementary.specs.rules.Arcsine.{arcsineIn}
+use Rattle.elementary.specs.laws.Accepted.{lower-none}
+use Rattle.helpers.specs.rules.Angle.{withinTwoPI}
+use Rattle.helpers.specs.rules.Earth.{rhoIn}
+use Rattle.helpers.specs.laws.Limit.{limited-radians}
+use Rattle.parallax.specs.rules.Observer.{centreOf, observerRefusal}
+use Rattle.parallax.specs.rules.Ecliptic.{nearby, longTop, latTop, semidiameterIn, eclipticFrom, eclipticAlong, eclipticAt, eclipticIn, topopcentRefusal, topopcentEclCoordsRule}
+use Rattle.conditions.specs.laws.Accepted.{angle-sine, angle-cosine, latitude-sine, latitude-cosine}
+use Rattle.conditions.specs.notions.Outcome.{Outcome, SixOrSeven}
+use Rattle.conditions.specs.notions.Within.{Within, AllFinite}
+use Rattle.conditions.specs.laws.Outcome.{outcome-answered, outcome-refused, outcome-cond, outcome-then, rule-answers, rule-refuses}
+use Rattle.conditions.specs.laws.Elementary.{arcsine-number-outcome, quotient-not-nan}
+use Rattle.conditions.specs.laws.Near.{within, near-far, near-cosine}
+use Rattle.domain.specs.laws.Earth.{rho-outcome}
+use Rattle.domain.specs.laws.Observer.{observer-accepted, arctangent-near}
+
+-- ---- from ρ sin φ' and ρ cos φ', the parallax p, longitude l, latitude b, sidereal time s, obliquity e and semidiameter m
+
+module _ (rs rc : Float) (p l b s e m : Rad) (RS : Within 2 rs) (RC : Within 2 rc) (P : angleRefusal p ≡ 0) (L : angleRefusal l ≡ 0) (B : latitudeRefusal b ≡ 0) (S : angleRefusal s ≡ 0) (E : angleRefusal e ≡ 0) (M : angleRefusal m ≡ 0) where
+  -- N
+  abbrev n : Float
+  n = cosineOf l ⊗ cosineOf b ⊖ rc ⊗ sineOf p ⊗ cosineOf s
+
+  n-within : Within 1024 n
+  unfolding isFinite le neg add sub mul ofBits round
+  n-within =
+      within 1024
+      (known (angle-cosine l L) ⊠ known (latitude-cosine b B) ⊟ known RC ⊠ known (angle-sine p P) ⊠ known (angle-cosine s S)) tt
+
+  long-outcome : Outcome (Within 2048) SixOrSeven (longTop (centreOf rs rc p) (fold l) (fold b) (fold s) (fold e) n)
+  unfolding longTop centreOf isFinite le neg add sub mul ofBits round
+  long-outcome =
+      arctangent-near (sineOf l ⊗ cosineOf b ⊖ sineOf p ⊗ (rs ⊗ sineOf e ⊕ rc ⊗ cosineOf e ⊗ sineOf s)) n
+      (within 1024
+      (known (angle-sine l L) ⊠ known (latitude-cosine b B)
+      ⊟ known (angle-sine p P) ⊠ (known RS ⊠ known (angle-sine e E) ⊞ known RC ⊠ known (angle-cosine e E) ⊠ known (angle-sine s S))) tt)
+      n-within
+
+  -- the longitude goes into a cosine
+  pub long-far : (long : Float) → longTop (centreOf rs rc p) (fold l) (fold b) (fold s) (fold e) n ≡ answered long → size long ≼ farthestAlone
+  long-far long answer = near-far long (long-outcome .answers long answer)
+
+  module _ (long : Float) (G : Within 2048 long) where
+    abbrev cosLong : Float
+    cosLong = cosineOf (record { 0 = long })
+
+    G-cosine : Between (neg one) one cosLong
+    G-cosine = near-cosine (record { 0 = long }) G
+
+    lat-outcome : Outcome (Within 2048) SixOrSeven (latTop (centreOf rs rc p) (fold b) (fold s) (fold e) cosLong n)
+    unfolding latTop centreOf isFinite le neg add sub mul ofBits round
+    lat-outcome =
+        arctangent-near (cosLong ⊗ (sineOf b ⊖ sineOf p ⊗ (rs ⊗ cosineOf e ⊖ rc ⊗ sineOf e ⊗ sineOf s))) n
+        (within 1024
+        (known G-cosine ⊠ (known (latitude-sine b B)
+        ⊟ known (angle-sine p P) ⊠ (known RS ⊠ known (angle-cosine e E) ⊟ known RC ⊠ known (angle-sine e E) ⊠ known (angle-sine s S)))) tt)
+        n-within
+
+    -- the latitude goes into a cosine
+    pub lat-far : (lat : Float) → latTop (centreOf rs rc p) (fold b) (fold s) (fold e) cosLong n ≡ answered lat → size lat ≼ farthestAlone
+    lat-far lat answer = near-far lat (lat-outcome .answers lat answer)
+
+    module _ (not-zero : NonZero n) where
+      from-outcome : (lat : Float) → Within 2048 lat → Outcome AllFinite SixOrSeven (eclipticFrom long cosLong lat m n)
+      unfolding eclipticFrom semidiameterIn isFinite le neg mul ofBits round
+      from-outcome lat T =
+          let t : Rad = record { 0 = lat } in
+          let top = cosLong ⊗ cosineOf t ⊗ sineOf m in
+          outcome-then (λ (v : Float). answered (triple (withinTwoPI (record { 0 = long }) .0) lat v))
+          (λ v i. outcome-answered (triple (withinTwoPI (record { 0 = long }) .0) lat v) (limited-radians long (G .finite) .finite, T .finite, i .finite))
+          (arcsineIn (top ⊘ n))
+          (arcsine-number-outcome (inr refl) (top ⊘ n)
+          (quotient-not-nan top n (within 2 (known G-cosine ⊠ known (near-cosine t T) ⊠ known (angle-sine m M)) tt .finite) (n-within .finite) not-zero))
+
+      along-outcome : Outcome AllFinite SixOrSeven (eclipticAlong (centreOf rs rc p) (fold b) (fold s) (fold e) long m n)
+      unfolding eclipticAlong
+      along-outcome =
+          outcome-then (λ (lat : Float). eclipticFrom long cosLong lat m n) from-outcome
+          (latTop (centreOf rs rc p) (fold b) (fold s) (fold e) cosLong n) lat-outcome
+
+  at-outcome : Outcome AllFinite SixOrSeven (eclipticAt (centreOf rs rc p) (fold l) (fold b) (fold s) (fold e) m)
+  unfolding eclipticAt nearby centreOf
+  at-outcome =
+      let c = centreOf rs rc p in
+      let top = longTop c (fold l) (fold b) (fold s) (fold e) n in
+      outcome-cond (eq n zero) (refused 6) (then top (λ (long : Float). eclipticAlong c (fold b) (fold s) (fold e) long m n))
+      (outcome-refused 6 (inl refl))
+      (λ not-zero.
+      outcome-then (λ (long : Float). eclipticAlong c (fold b) (fold s) (fold e) long m n) (λ long G. along-outcome long G not-zero) top long-outcome)
+
+-- ---- the function
+
+module _ (q : EclPoint) (parallax : Rad) (place : GeographPoint) (height : Float) (sidereal oblq semidiameter : Rad) where
+  abbrev long : Rad
+  long = record { 0 = q .long }
+
+  abbrev lat : Rad
+  lat = record { 0 = q .lat }
+
+  outcome : topopcentRefusal q parallax place height sidereal oblq semidiameter ≡ 0 → Outcome AllFinite SixOrSeven (eclipticIn q parallax place height sidereal oblq semidiameter)
+  unfolding eclipticIn
+  outcome none =
+      let first-two = lower (angleRefusal long) (latitudeRefusal lat) in
+      let last-two = lower (angleRefusal oblq) (angleRefusal semidiameter) in
+      let a = lower-none (lower first-two last-two) (observerRefusal parallax place height sidereal) none in
+      let o = observer-accepted parallax place height sidereal (a .1) in
+      let c = lower-none first-two last-two (a .0) in
+      let d = lower-none (angleRefusal long) (latitudeRefusal lat) (c .0) in
+      let f = lower-none (angleRefusal oblq) (angleRefusal semidiameter) (c .1) in
+      outcome-then (λ (rho : Pair). eclipticAt (centreOf (first rho) (second rho) parallax) (fold long) (fold lat) (fold sidereal) (fold oblq) semidiameter)
+      (λ rho R. at-outcome (first rho) (second rho) parallax long lat sidereal oblq semidiameter (R .0) (R .1) (o .0) (d .0) (d .1) (o .1) (f .0) (f .1))
+      (rhoIn (record { 0 = place .lat }) height) (rho-outcome (record { 0 = place .lat }) height (o .3) (o .4))
+
+  pub topopcent-ecl-coords-finite : (t : Triple) → topopcentEclCoordsRule q parallax place height sidereal oblq semidiameter ≡ answered t → AllFinite t
+  topopcent-ecl-coords-finite =
+      rule-answers (topopcentRefusal q parallax place height sidereal oblq semidiameter) (eclipticIn q parallax place height sidereal oblq semidiameter) outcome
+
+  pub topopcent-ecl-coords-refuses : topopcentRefusal q parallax place height sidereal oblq semidiameter ≡ 0 → (k : ℕ) → topopcentEclCoordsRule q parallax place height sidereal oblq semidiameter ≡ refused k → SixOrSeven k
+  topopcent-ecl-coords-refuses =
+      rule-refuses (topopcentRefusal q parallax place height sidereal oblq semidiameter) (eclipticIn q parallax place height sidereal oblq semidiameter) outcome

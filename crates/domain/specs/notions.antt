@@ -1,0 +1,4 @@
+-- What the theorems are stated by. Definitions only.
+pub mod Turns
+pub mod Nutation
+pub mod Aberration
