@@ -9,6 +9,7 @@ extern crate astro_routed as routed;
 mod aimed;
 mod functions;
 mod inputs;
+mod lists;
 mod port;
 mod table;
 mod written;
@@ -68,30 +69,32 @@ impl Count {
         Count { calls: 0, by: [0; 256], differing: 0 }
     }
 
+    /// One call, its status, and whether it agrees; the first few that do not are shown.
+    fn tell<F: FnOnce() -> String>(&mut self, status: u8, agrees: bool, shown: F) {
+        self.calls += 1;
+        self.by[status as usize] += 1;
+        if !agrees {
+            self.differing += 1;
+            if self.differing <= 3 {
+                println!("differs: {}", shown());
+            }
+        }
+    }
+
     /// One call of the port, compared.
     fn compare(&mut self, f: &Function, args: &[f64]) {
         let outcome = outcome_of(f, args);
         let mut lent = fresh();
         let status = (f.port)(args, &mut lent);
-        self.calls += 1;
-        self.by[status as usize] += 1;
-        let finite = match outcome {
-            Outcome::Answer(ref xs) => xs.iter().all(|x| x.is_finite()),
-            Outcome::Refused(_) => true,
+        let (expected, finite) = match outcome {
+            Outcome::Answer(ref xs) => (0, xs.iter().all(|x| x.is_finite())),
+            Outcome::Refused(n) => (n, true),
         };
-        let expected = match outcome {
-            Outcome::Answer(_) => 0,
-            Outcome::Refused(n) => n,
-        };
-        if finite && status == expected && bits(&lent) == bits(&lent_after(&outcome)) {
-            return;
-        }
-        self.differing += 1;
-        if self.differing <= 3 {
-            println!("{} differs at {}", f.name, shown(args));
-            println!("  port: status {}, {}", status, shown(&[lent[1], lent[3], lent[5]]));
-            println!("  Rust: {:?}", outcome);
-        }
+        let agrees = finite && status == expected && bits(&lent) == bits(&lent_after(&outcome));
+        self.tell(status, agrees, || {
+            let port = shown(&[lent[1], lent[3], lent[5]]);
+            format!("{} at {}: port {} {}, Rust {:?}", f.name, shown(args), status, port, outcome)
+        });
     }
 
     fn line(&self, name: &str) -> String {
@@ -146,6 +149,8 @@ fn compare(n: u64) -> bool {
         }
         total = (total.0 + count.calls, total.1 + count.differing);
     }
+    let stored = lists::compare(n / 4);
+    total = (total.0 + stored.0, total.1 + stored.1);
     println!("compared {} calls, differing {}", total.0, total.1);
     total.1 == 0
 }
