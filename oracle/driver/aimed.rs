@@ -10,7 +10,7 @@ fn two(f: fn(&[f64], &mut Lent) -> u8, args: &[f64]) -> (f64, f64) {
 }
 
 /// A point that precession brings to the pole, from what it does to the pole and to the origin.
-fn to_the_pole(f: fn(&[f64], &mut Lent) -> u8, day1: f64, day2: f64) -> Vec<f64> {
+pub fn to_the_pole(f: fn(&[f64], &mut Lent) -> u8, day1: f64, day2: f64) -> Vec<f64> {
     let (asc_of_pole, dec_of_pole) = two(f, &[0.0, FRAC_PI_2, day1, day2]);
     let (asc_of_origin, _) = two(f, &[0.0, 0.0, day1, day2]);
     let forward = if day2 > day1 { 1.0 } else { -1.0 };

@@ -60,7 +60,7 @@ fn n_of(a: &[f64]) -> f64 {
 }
 
 /// The chain, composed of the routed Rust's steps; each step's refusal is the chain's.
-fn chain(a: &[f64]) -> Outcome {
+fn chain_in(a: &[f64]) -> Outcome {
     let moved = match met(&|| pair(precess::precess_eq_coords(a[0], a[1], a[2], a[3]))) {
         Refused(n) => return Refused(n),
         Answer(p) => p,
@@ -76,6 +76,16 @@ fn chain(a: &[f64]) -> Outcome {
     let s = aberr::stell_aberr_in_eq_coords(&point, a[3]);
     Answer(vec![(moved[0] + n.0) + s.0, (moved[1] + n.1) + s.1])
 }
+
+/// The chain with its own refusals.
+pub fn chain_outcome(a: &[f64]) -> Outcome {
+    match first_of(&CHAIN, a) {
+        0 => chain_in(a),
+        n => Refused(n),
+    }
+}
+
+const CHAIN: [Sort; 4] = [Angle, Latitude, Day, Day];
 
 /// The chain over Rust's own library functions.
 pub fn own_chain(a: &[f64]) -> Vec<f64> {
@@ -233,10 +243,10 @@ pub fn all() -> Vec<Function> {
 
         Function {
             name: "brundelak_chain",
-            sorts: &[Angle, Latitude, Day, Day],
+            sorts: &CHAIN,
             meets: &[1, 2, 3, 4, 7],
             port: port::brundelak_chain,
-            expected: chain,
+            expected: chain_in,
             own: own_chain,
         },
     ]

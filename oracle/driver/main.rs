@@ -2,12 +2,14 @@
 //!   driver compare N      N calls a function, bit for bit, refusals against section 5's table
 //!   driver fuzz N         N calls in all, any bits at every function: it ends, and writes what it answers and nothing else
 //!   driver gaps N         the widest gap between the port and Rust's own library functions, as a table
+//!   driver sample N       what the Rust answers to some of N calls a function, a line for each
 extern crate astro_own as own;
 extern crate astro_routed as routed;
 
 mod aimed;
 mod functions;
 mod inputs;
+mod lists;
 mod port;
 mod table;
 mod written;
@@ -48,6 +50,14 @@ fn lent_after(outcome: &Outcome) -> Lent {
     lent
 }
 
+/// What a call must come to: section 5's table first, then the work.
+fn outcome_of(f: &Function, args: &[f64]) -> Outcome {
+    match table::first_of(f.sorts, args) {
+        0 => (f.expected)(args),
+        n => Outcome::Refused(n),
+    }
+}
+
 struct Count {
     calls: u64,
     by: [u64; 256],
@@ -59,31 +69,32 @@ impl Count {
         Count { calls: 0, by: [0; 256], differing: 0 }
     }
 
-    /// One call of the port, compared.
-    fn compare(&mut self, f: &Function, args: &[f64]) {
-        let refusal = table::first_of(f.sorts, args);
-        let outcome = if refusal != 0 { Outcome::Refused(refusal) } else { (f.expected)(args) };
-        let mut lent = fresh();
-        let status = (f.port)(args, &mut lent);
+    /// One call, its status, and whether it agrees; the first few that do not are shown.
+    fn tell<F: FnOnce() -> String>(&mut self, status: u8, agrees: bool, shown: F) {
         self.calls += 1;
         self.by[status as usize] += 1;
-        let finite = match outcome {
-            Outcome::Answer(ref xs) => xs.iter().all(|x| x.is_finite()),
-            Outcome::Refused(_) => true,
-        };
-        let expected = match outcome {
-            Outcome::Answer(_) => 0,
-            Outcome::Refused(n) => n,
-        };
-        if finite && status == expected && bits(&lent) == bits(&lent_after(&outcome)) {
-            return;
+        if !agrees {
+            self.differing += 1;
+            if self.differing <= 3 {
+                println!("differs: {}", shown());
+            }
         }
-        self.differing += 1;
-        if self.differing <= 3 {
-            println!("{} differs at {}", f.name, shown(args));
-            println!("  port: status {}, {}", status, shown(&[lent[1], lent[3], lent[5]]));
-            println!("  Rust: {:?}", outcome);
-        }
+    }
+
+    /// One call of the port, compared.
+    fn compare(&mut self, f: &Function, args: &[f64]) {
+        let outcome = outcome_of(f, args);
+        let mut lent = fresh();
+        let status = (f.port)(args, &mut lent);
+        let (expected, finite) = match outcome {
+            Outcome::Answer(ref xs) => (0, xs.iter().all(|x| x.is_finite())),
+            Outcome::Refused(n) => (n, true),
+        };
+        let agrees = finite && status == expected && bits(&lent) == bits(&lent_after(&outcome));
+        self.tell(status, agrees, || {
+            let port = shown(&[lent[1], lent[3], lent[5]]);
+            format!("{} at {}: port {} {}, Rust {:?}", f.name, shown(args), status, port, outcome)
+        });
     }
 
     fn line(&self, name: &str) -> String {
@@ -138,6 +149,8 @@ fn compare(n: u64) -> bool {
         }
         total = (total.0 + count.calls, total.1 + count.differing);
     }
+    let stored = lists::compare(n / 4);
+    total = (total.0 + stored.0, total.1 + stored.1);
     println!("compared {} calls, differing {}", total.0, total.1);
     total.1 == 0
 }
@@ -239,6 +252,30 @@ fn gaps(n: u64) {
     }
 }
 
+fn hex(xs: &[f64]) -> String {
+    let words: Vec<String> = xs.iter().map(|x| format!(" {:016x}", x.to_bits())).collect();
+    words.concat()
+}
+
+/// For each function the first sixteen calls that the Rust answers, and the first three refused by each number.
+fn sample(n: u64) {
+    for f in functions::all() {
+        let (mut r, mut args) = stream(&f);
+        let mut taken = [0; 256];
+        for _ in 0..n {
+            args = inputs::next(&mut r, f.name, f.sorts, &args);
+            let (status, answer) = match outcome_of(&f, &args) {
+                Outcome::Answer(xs) => (0, xs),
+                Outcome::Refused(n) => (n as usize, vec![]),
+            };
+            taken[status] += 1;
+            if taken[status] <= if status == 0 { 16 } else { 3 } {
+                println!("{}{} = {}{}", f.name.trim_start_matches("brundelak_"), hex(&args), status, hex(&answer));
+            }
+        }
+    }
+}
+
 fn main() {
     let args: Vec<String> = std::env::args().collect();
     let n = args.get(2).and_then(|s| s.parse().ok()).unwrap_or(0);
@@ -249,8 +286,12 @@ fn main() {
             gaps(n);
             true
         }
+        Some("sample") if n > 0 => {
+            sample(n);
+            true
+        }
         _ => {
-            println!("driver compare N | fuzz N | gaps N");
+            println!("driver compare N | fuzz N | gaps N | sample N");
             false
         }
     };

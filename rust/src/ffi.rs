@@ -62,3 +62,90 @@ boundary! {
         -> (a, b, c);
     brundelak_chain chain(asc, dec, day1, day2) -> (a, b);
 }
+
+// ---- the stored list: the slices' own lengths go with them
+
+mod stored {
+    extern "C" {
+        pub fn brundelak_star(
+            bytes: *const u8,
+            len: usize,
+            place: usize,
+            number: *mut u32,
+            asc: *mut u32,
+            dec: *mut i32,
+            next: *mut usize,
+        ) -> u8;
+        pub fn brundelak_find(
+            bytes: *const u8,
+            len: usize,
+            number: u32,
+            index: *mut usize,
+            asc: *mut u32,
+            dec: *mut i32,
+        ) -> u8;
+        pub fn brundelak_batch(
+            bytes: *const u8,
+            len: usize,
+            day1: f64,
+            day2: f64,
+            status: *mut u8,
+            status_len: usize,
+            asc: *mut f64,
+            asc_len: usize,
+            dec: *mut f64,
+            dec_len: usize,
+            tally: *mut u32,
+        ) -> u8;
+    }
+}
+
+/// Number, right ascension, declination and the place after; none where none is left.
+pub fn star(bytes: &[u8], place: usize) -> Result<Option<(u32, u32, i32, usize)>, Refusal> {
+    let (mut number, mut asc, mut dec, mut next) = (0, 0, 0, 0);
+    let status = unsafe {
+        stored::brundelak_star(bytes.as_ptr(), bytes.len(), place, &mut number, &mut asc, &mut dec, &mut next)
+    };
+    if status == 255 {
+        return Ok(None);
+    }
+    Refusal::from_status(status)?;
+    Ok(Some((number, asc, dec, next)))
+}
+
+/// Index, right ascension and declination.
+pub fn find(bytes: &[u8], number: u32) -> Result<(usize, u32, i32), Refusal> {
+    let (mut index, mut asc, mut dec) = (0, 0, 0);
+    let status = unsafe { stored::brundelak_find(bytes.as_ptr(), bytes.len(), number, &mut index, &mut asc, &mut dec) };
+    Refusal::from_status(status)?;
+    Ok((index, asc, dec))
+}
+
+/// The tally.
+pub fn batch(
+    bytes: &[u8],
+    day1: f64,
+    day2: f64,
+    status: &mut [u8],
+    asc: &mut [f64],
+    dec: &mut [f64],
+) -> Result<[u32; 20], Refusal> {
+    let mut tally = [0; 20];
+    let answer = unsafe {
+        stored::brundelak_batch(
+            bytes.as_ptr(),
+            bytes.len(),
+            day1,
+            day2,
+            status.as_mut_ptr(),
+            status.len(),
+            asc.as_mut_ptr(),
+            asc.len(),
+            dec.as_mut_ptr(),
+            dec.len(),
+            tally.as_mut_ptr(),
+        )
+    };
+    Refusal::from_status(answer)?;
+    Ok(tally)
+}

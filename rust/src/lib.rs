@@ -28,6 +28,7 @@ pub mod chain;
 pub mod coords;
 pub mod earth;
 pub mod elementary;
+pub mod list;
 pub mod nutation;
 pub mod parallax;
 pub mod precess;

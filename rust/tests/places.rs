@@ -146,3 +146,39 @@ fn refusals_speak() {
     assert_eq!(Refusal::Steep.to_string(), "refused by 4: an angle that goes into a tangent or divides by its cosine exceeds 1.57");
     assert_eq!(Refusal::Other(14).number(), 14);
 }
+
+/// Document 01's list of three stars, the second out of range.
+const LIST: [u8; 36] = [
+    7, 0, 0, 0, 0, 0, 0, 0, 0, 0, 0, 0, //
+    9, 0, 0, 0, 0x00, 0x64, 0x3F, 0x4D, 0, 0, 0, 0, //
+    7, 0, 0, 0, 0x80, 0xEE, 0x36, 0x00, 0x80, 0x11, 0xC9, 0xFF,
+];
+
+#[test]
+fn a_list_is_walked_and_sought() {
+    let mut place = 0;
+    let mut numbers = vec![];
+    while let Some((star, next)) = list::star(&LIST, place).unwrap() {
+        numbers.push((star.number, star.asc, star.dec));
+        place = next;
+    }
+    assert_eq!(numbers, [(7, 0, 0), (9, 1296000000, 0), (7, 3600000, -3600000)]);
+    assert_eq!(list::find(&LIST, 7), Ok((0, list::Star { number: 7, asc: 0, dec: 0 })));
+    assert_eq!(list::find(&LIST, 9), Err(Refusal::Record));
+    assert_eq!(list::find(&LIST, 8), Err(Refusal::NoStar));
+    assert_eq!(list::find(&LIST[1..], 7), Err(Refusal::List));
+    assert_eq!(list::star(&LIST, 5), Err(Refusal::List));
+}
+
+#[test]
+fn a_batch_is_the_chain_at_each_star() {
+    let (day1, day2) = (2415020.5, 2462088.69);
+    let (mut status, mut asc, mut dec) = ([77; 4], [-1.0; 4], [-2.0; 4]);
+    let tally = list::batch(&LIST, day1, day2, &mut status, &mut asc, &mut dec).unwrap();
+    assert_eq!(status, [0, 9, 0, 77]);
+    assert_eq!((tally[0], tally[9], tally.iter().sum::<u32>()), (2, 1, 3));
+    let third = chain::chain(deg(1.0), deg(-1.0), day1, day2).unwrap();
+    assert_eq!((asc[1], dec[1], asc[2], dec[2], asc[3], dec[3]), (0.0, 0.0, third.asc, third.dec, -1.0, -2.0));
+    assert_eq!(number(list::batch(&LIST, day1, f64::NAN, &mut status, &mut asc, &mut dec)), 1);
+    assert_eq!(number(list::batch(&LIST, day1, day2, &mut status[..2], &mut asc, &mut dec)), 8);
+}

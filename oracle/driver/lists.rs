@@ -1,0 +1,286 @@
+//! The stored list: document 01's section 7 written a second time, and the port's star, find and batch compared with it.
+//! A star's reduction is the chain of the routed Rust.
+use aimed;
+use functions::Outcome;
+use inputs::{self, Random};
+use table::{refuses, Sort};
+use written;
+use Count;
+
+extern "C" {
+    fn brundelak_star(bytes: *const u8, len: usize, place: usize, number: *mut u32, asc: *mut u32, dec: *mut i32, next: *mut usize) -> u8;
+    fn brundelak_find(bytes: *const u8, len: usize, number: u32, index: *mut usize, asc: *mut u32, dec: *mut i32) -> u8;
+    fn brundelak_batch(
+        bytes: *const u8,
+        len: usize,
+        day1: f64,
+        day2: f64,
+        status: *mut u8,
+        status_len: usize,
+        asc: *mut f64,
+        asc_len: usize,
+        dec: *mut f64,
+        dec_len: usize,
+        tally: *mut u32,
+    ) -> u8;
+}
+
+// ---- section 7
+
+#[derive(Clone, Copy, PartialEq, Debug)]
+struct Record {
+    number: u32,
+    asc: u32,
+    dec: i32,
+}
+
+impl Record {
+    fn at(bytes: &[u8], place: usize) -> Record {
+        let word = |i: usize| (0..4).map(|k| (bytes[place + i + k] as u32) << (8 * k)).sum::<u32>();
+        Record { number: word(0), asc: word(4), dec: word(8) as i32 }
+    }
+
+    fn bytes(&self) -> Vec<u8> {
+        [self.number, self.asc, self.dec as u32].iter().flat_map(|w| (0..4).map(move |k| (w >> (8 * k)) as u8)).collect()
+    }
+
+    fn in_range(&self) -> bool {
+        self.asc < 1296000000 && (self.dec as i64).abs() <= 324000000
+    }
+
+    /// Right ascension and declination in radians.
+    fn place(&self) -> (f64, f64) {
+        (written::radians(self.asc as f64 / 3600000.0), written::radians(self.dec as f64 / 3600000.0))
+    }
+}
+
+fn bad_list(bytes: &[u8]) -> bool {
+    bytes.len() % 12 != 0 || bytes.len() > 60000
+}
+
+/// The star at a place and the place after it: (0, ..), (8, none) or (255, none).
+fn star(bytes: &[u8], place: usize) -> (u8, Option<(Record, usize)>) {
+    if bad_list(bytes) || place > bytes.len() || place % 12 != 0 {
+        (8, None)
+    } else if place == bytes.len() {
+        (255, None)
+    } else {
+        (0, Some((Record::at(bytes, place), place + 12)))
+    }
+}
+
+fn find(bytes: &[u8], number: u32) -> (u8, Option<(usize, Record)>) {
+    if bad_list(bytes) {
+        return (8, None);
+    }
+    let found = (0..bytes.len() / 12).map(|i| (i, Record::at(bytes, 12 * i))).find(|&(_, r)| r.number == number);
+    match found {
+        None => (10, None),
+        Some((_, r)) if !r.in_range() => (9, None),
+        at => (0, at),
+    }
+}
+
+/// A star's status and two angles.
+fn reduced(r: Record, day1: f64, day2: f64) -> (u8, f64, f64) {
+    if !r.in_range() {
+        return (9, 0.0, 0.0);
+    }
+    let (asc, dec) = r.place();
+    match ::functions::chain_outcome(&[asc, dec, day1, day2]) {
+        Outcome::Answer(p) => (0, p[0], p[1]),
+        Outcome::Refused(n) => (n, 0.0, 0.0),
+    }
+}
+
+// ---- inputs
+
+/// Two days: most often good ones, and the same as the last.
+fn days(r: &mut Random, last: (f64, f64)) -> (f64, f64) {
+    match r.below(16) {
+        0 => (inputs::damaged(r), last.1),
+        1 => (last.0, inputs::damaged(r)),
+        2 => (2451545.0, inputs::beyond(3182045.0)),
+        3 => (1721045.0, 3182045.0),
+        _ => (r.between(1721045.0, 3182045.0), r.between(1721045.0, 3182045.0)),
+    }
+}
+
+fn record(r: &mut Random, stars: usize, day1: f64, day2: f64) -> Record {
+    const ASC: [u32; 5] = [0, 1295999999, 1296000000, 1296000001, 0xFFFFFFFF];
+    const DEC: [i32; 7] = [0, 324000000, -324000000, 324000001, -324000001, -2147483648, 2147483647];
+    let mut one = Record {
+        number: r.below(2 * stars + 1) as u32,
+        asc: r.below(1296000000) as u32,
+        dec: r.below(648000001) as i32 - 324000000,
+    };
+    match r.below(12) {
+        0 => one.asc = ASC[r.below(5)],
+        1 => one.dec = DEC[r.below(7)],
+        2 => one.dec = 324000000 - r.below(1000000) as i32,
+        3 | 4 => {
+            // A star that precession brings to the pole.
+            let p = aimed::to_the_pole(::port::brundelak_precess_eq_coords, day1, day2);
+            let turns = p[0] / (2.0 * ::std::f64::consts::PI);
+            one.asc = ((turns - turns.floor()) * 1296000000.0).round() as u32;
+            one.dec = (p[1] / ::std::f64::consts::FRAC_PI_2 * 324000000.0).round() as i32;
+        }
+        5 => one = Record { number: r.bits() as u32, asc: r.bits() as u32, dec: r.bits() as i32 },
+        _ => {}
+    }
+    one
+}
+
+fn list(r: &mut Random, day1: f64, day2: f64) -> Vec<u8> {
+    let stars = match r.below(16) {
+        0 => 0,
+        1 => 1,
+        _ => r.below(24),
+    };
+    let mut bytes: Vec<u8> = (0..stars).flat_map(|_| record(r, stars, day1, day2).bytes()).collect();
+    match r.below(12) {
+        0 => bytes.extend((0..1 + r.below(11)).map(|_| 0)),
+        1 => {
+            let cut = r.below(12).min(bytes.len());
+            let left = bytes.len() - cut;
+            bytes.truncate(left);
+        }
+        _ => {}
+    }
+    bytes
+}
+
+// ---- the comparison
+
+fn compare_star(r: &mut Random, bytes: &[u8], count: &mut Count) {
+    let place = match r.below(8) {
+        0 => bytes.len(),
+        1 => bytes.len() + r.below(30),
+        2 => [!0, !0 - 3, !0 - 11, 1 << 63][r.below(4)],
+        3 => r.below(bytes.len() + 2),
+        _ => 12 * r.below(bytes.len() / 12 + 1),
+    };
+    let (expected, shown) = star(bytes, place);
+    let kept = (Record { number: 0xA5A5A5A5, asc: 0x5A5A5A5A, dec: -7 }, 0x1234567);
+    let (mut one, mut next) = kept;
+    let status = unsafe {
+        brundelak_star(bytes.as_ptr(), bytes.len(), place, &mut one.number, &mut one.asc, &mut one.dec, &mut next)
+    };
+    let agrees = status == expected && (one, next) == shown.unwrap_or(kept);
+    count.tell(status, agrees, || format!("star: place {} of {:?}", place, bytes));
+}
+
+fn compare_find(r: &mut Random, bytes: &[u8], count: &mut Count) {
+    let number = match r.below(4) {
+        0 => r.bits() as u32,
+        _ => r.below(bytes.len() / 6 + 1) as u32,
+    };
+    let (expected, found) = find(bytes, number);
+    let kept = (0x1234567, Record { number: number, asc: 0x5A5A5A5A, dec: -7 });
+    let (mut index, mut one) = kept;
+    let status = unsafe { brundelak_find(bytes.as_ptr(), bytes.len(), number, &mut index, &mut one.asc, &mut one.dec) };
+    let agrees = status == expected && (index, one) == found.unwrap_or(kept);
+    count.tell(status, agrees, || format!("find: {} in {:?}", number, bytes));
+}
+
+/// A lent slice with eight places before it and eight behind.
+fn lent<T: Copy>(len: usize, fill: T) -> Vec<T> {
+    vec![fill; len + 16]
+}
+
+/// The length of a lent slice.
+fn room(r: &mut Random, stars: usize) -> usize {
+    match r.below(24) {
+        0 => stars.saturating_sub(1),
+        1 => 0,
+        2 | 3 => stars + r.below(9),
+        _ => stars,
+    }
+}
+
+fn compare_batch(bytes: &[u8], lens: [usize; 3], (day1, day2): (f64, f64), count: &mut Count, statuses: &mut Count) {
+    let stars = bytes.len() / 12;
+    let day_refusal = (1..3).find(|&n| refuses(n, Sort::Day, day1) || refuses(n, Sort::Day, day2)).unwrap_or(0);
+    let expected = match day_refusal {
+        0 if bad_list(bytes) || lens.iter().any(|&l| l < stars) => 8,
+        n => n,
+    };
+    let mut want = (lent(lens[0], 0xA5u8), lent(lens[1], -1e300), lent(lens[2], -2e300), [0xA5A5A5A5u32; 22]);
+    let mut got = want.clone();
+    if expected == 0 {
+        want.3[1..21].iter_mut().for_each(|c| *c = 0);
+        for i in 0..stars {
+            let (status, asc, dec) = reduced(Record::at(bytes, 12 * i), day1, day2);
+            want.0[8 + i] = status;
+            want.1[8 + i] = asc;
+            want.2[8 + i] = dec;
+            want.3[1 + status as usize] += 1;
+        }
+    }
+    let status = unsafe {
+        brundelak_batch(
+            bytes.as_ptr(),
+            bytes.len(),
+            day1,
+            day2,
+            got.0.as_mut_ptr().offset(8),
+            lens[0],
+            got.1.as_mut_ptr().offset(8),
+            lens[1],
+            got.2.as_mut_ptr().offset(8),
+            lens[2],
+            got.3.as_mut_ptr().offset(1),
+        )
+    };
+    let same = got.0 == want.0 && ::bits(&got.1) == ::bits(&want.1) && ::bits(&got.2) == ::bits(&want.2) && got.3 == want.3;
+    count.tell(status, status == expected && same, || {
+        format!("batch: days {:?} {:?}, lengths {:?}, status {} for {}, {:?}", day1, day2, lens, status, expected, bytes)
+    });
+    if status == 0 {
+        for i in 0..stars {
+            statuses.tell(got.0[8 + i], true, String::new);
+        }
+    }
+}
+
+/// n lists, a star of each shown, one sought, and each in a batch. Answers the number of calls and of those that differ.
+pub fn compare(n: u64) -> (u64, u64) {
+    let mut r = Random(::SEED);
+    let (mut stars, mut finds, mut batches, mut statuses) = (Count::new(), Count::new(), Count::new(), Count::new());
+    let mut both = (2451545.0, 2462088.69);
+    for i in 0..n {
+        both = days(&mut r, both);
+        let bytes = list(&mut r, both.0, both.1);
+        for _ in 0..4 {
+            compare_star(&mut r, &bytes, &mut stars);
+            compare_find(&mut r, &bytes, &mut finds);
+        }
+        // A star costs some hundred thousand instructions on either side.
+        if i % 4 == 0 {
+            let stars = bytes.len() / 12;
+            let lens = [room(&mut r, stars), room(&mut r, stars), room(&mut r, stars)];
+            compare_batch(&bytes, lens, both, &mut batches, &mut statuses);
+        }
+    }
+    // The longest list, and one star more.
+    let full: Vec<u8> = (0..5001).flat_map(|_| record(&mut r, 5000, 2415020.5, 2462088.69).bytes()).collect();
+    for &len in [60000, 60012].iter() {
+        compare_batch(&full[..len], [len / 12; 3], (2415020.5, 2462088.69), &mut batches, &mut statuses);
+        compare_star(&mut r, &full[..len], &mut stars);
+        compare_find(&mut r, &full[..len], &mut finds);
+    }
+    println!("{}", stars.line("star (255: none left)"));
+    println!("{}", finds.line("find"));
+    println!("{}", batches.line("batch"));
+    println!("{}", statuses.line("stars of the batches"));
+    let met = |c: &Count, numbers: &[usize]| numbers.iter().all(|&k| c.by[k] > 0);
+    let all = met(&stars, &[0, 8, 255])
+        && met(&finds, &[0, 8, 9, 10])
+        && met(&batches, &[0, 1, 2, 8])
+        && met(&statuses, &[0, 4, 7, 9]);
+    if !all {
+        println!("lists: a refusal that was never met");
+    }
+    let calls = stars.calls + finds.calls + batches.calls;
+    (calls, stars.differing + finds.differing + batches.differing + !all as u64)
+}
