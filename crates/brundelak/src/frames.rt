@@ -3,7 +3,7 @@ ghost use Rattle.brundelak.specs.rules.Boundary.{Told};
 ghost use Rattle.coords.specs.rules.HourAngle.{hrAnglFrmObserverLongRule, hrAnglFrmLocSidrRule};
 ghost use Rattle.coords.specs.rules.Ecliptic.{eclLongFrmEqRule, eclLatFrmEqRule, ascFrmEclRule, decFrmEclRule};
 ghost use Rattle.coords.specs.rules.Horizon.{azFrmEqRule, altFrmEqRule, hrAnglFrmHzRule, decFrmHzRule};
-ghost use Rattle.coords.specs.rules.Galactic.{galLongFrmEqRule, galLatFrmEqRule, ascFrmGalRule};
+ghost use Rattle.coords_gal.specs.rules.Galactic.{galLongFrmEqRule, galLatFrmEqRule, ascFrmGalRule};
 use crate::give::give;
 use quantity::Rad;
 
@@ -157,7 +157,7 @@ pub extern "C" fn brundelak_dec_frm_hz(az: f64, alt: f64, observer_lat: f64, out
 pub extern "C" fn brundelak_gal_long_frm_eq(asc: f64, dec: f64, out: &mut f64) -> u8
     ensures { λ n. ⌜ Told (galLongFrmEqRule (record { 0 = asc }) (record { 0 = dec })) n (now (out .entry)) (now (out .exit)) ⌝ }
 {
-    give(coords::gal_long_frm_eq(Rad(asc), Rad(dec)), out)
+    give(coords_gal::gal_long_frm_eq(Rad(asc), Rad(dec)), out)
 }
 
 // The galactic latitude. Refusals: 1; 3; 7.
@@ -165,7 +165,7 @@ pub extern "C" fn brundelak_gal_long_frm_eq(asc: f64, dec: f64, out: &mut f64) -
 pub extern "C" fn brundelak_gal_lat_frm_eq(asc: f64, dec: f64, out: &mut f64) -> u8
     ensures { λ n. ⌜ Told (galLatFrmEqRule (record { 0 = asc }) (record { 0 = dec })) n (now (out .entry)) (now (out .exit)) ⌝ }
 {
-    give(coords::gal_lat_frm_eq(Rad(asc), Rad(dec)), out)
+    give(coords_gal::gal_lat_frm_eq(Rad(asc), Rad(dec)), out)
 }
 
 // The right ascension from galactic coordinates. Refusals: 1; 3; 4.
@@ -173,5 +173,5 @@ pub extern "C" fn brundelak_gal_lat_frm_eq(asc: f64, dec: f64, out: &mut f64) ->
 pub extern "C" fn brundelak_asc_frm_gal(gal_long: f64, gal_lat: f64, out: &mut f64) -> u8
     ensures { λ n. ⌜ Told (ascFrmGalRule (record { 0 = «gal_long» }) (record { 0 = «gal_lat» })) n (now (out .entry)) (now (out .exit)) ⌝ }
 {
-    give(coords::asc_frm_gal(Rad(gal_long), Rad(gal_lat)), out)
+    give(coords_gal::asc_frm_gal(Rad(gal_long), Rad(gal_lat)), out)
 }

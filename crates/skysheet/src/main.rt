@@ -235,13 +235,13 @@ fn frames() {
     );
     one(
         b"13 galactic longitude:",
-        coords::gal_long_frm_eq(deg(267.2489166666667), deg(-14.718944444444444)),
+        coords_gal::gal_long_frm_eq(deg(267.2489166666667), deg(-14.718944444444444)),
         DEGREES,
         b"published: 12.9593 (one turn less)",
     );
     one(
         b"13 galactic latitude:",
-        coords::gal_lat_frm_eq(deg(267.2489166666667), deg(-14.718944444444444)),
+        coords_gal::gal_lat_frm_eq(deg(267.2489166666667), deg(-14.718944444444444)),
         DEGREES,
         b"published: 6.0463",
     );

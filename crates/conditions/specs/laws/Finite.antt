@@ -19,11 +19,12 @@ use Rattle.elementary.specs.rules.Arcsine.{arcsineIn}
 use Rattle.elementary.specs.laws.Accepted.{lower-none}
 use Rattle.elementary.specs.laws.Sine.{sine-between, cosine-between}
 use Rattle.helpers.specs.rules.Angle.{radiansOf}
-use Rattle.coords.specs.rules.Arguments.{frameRefusal, steepFrameRefusal, skyRefusal, steepSkyRefusal, placeRefusal, steepPlaceRefusal}
+use Rattle.coords.specs.rules.Arguments.{frameRefusal, steepFrameRefusal, skyRefusal, steepSkyRefusal}
+use Rattle.coords_gal.specs.rules.Arguments.{placeRefusal, steepPlaceRefusal}
 use Rattle.coords.specs.rules.HourAngle.{hrAnglFrmObserverLong, observerLongRefusal, hrAnglFrmObserverLongRule, locSidrRefusal, hrAnglFrmLocSidrRule}
 use Rattle.coords.specs.rules.Ecliptic.{eclLongSum, eclLongIn, eclLongFrmEqRule, eclLatSum, eclLatIn, eclLatFrmEqRule, ascFrmEclIn, ascFrmEclRule, decFrmEclIn, decFrmEclRule}
 use Rattle.coords.specs.rules.Horizon.{azFrmEqRule, upward, altitudeIn, altFrmEqRule, hrAnglFrmHzIn, hrAnglFrmHzRule, decFrmHzIn, decFrmHzRule}
-use Rattle.coords.specs.rules.Galactic.{poleLong, poleAsc, poleDec, northLong, southAsc, roundPole, galLongIn, galLongFrmEqRule, galLatIn, galLatFrmEqRule, ascFrmGalIn, ascFrmGalRule}
+use Rattle.coords_gal.specs.rules.Galactic.{poleLong, poleAsc, poleDec, northLong, southAsc, roundPole, galLongIn, galLongFrmEqRule, galLatIn, galLatFrmEqRule, ascFrmGalIn, ascFrmGalRule}
 use Rattle.conditions.specs.notions.Outcome.{Outcome, Never, Seven}
 use Rattle.conditions.specs.laws.Outcome.{outcome-answered, outcome-with, rule-answers}
 use Rattle.conditions.specs.laws.Elementary.{arctangent-outcome, arcsine-outcome}

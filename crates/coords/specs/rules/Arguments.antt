@@ -16,10 +16,3 @@ skyRefusal long lat observer = lower (angleRefusal long) (lower (latitudeRefusal
 
 abbrev pub steepSkyRefusal : Rad → Rad → Rad → ℕ
 steepSkyRefusal long lat observer = lower (angleRefusal long) (lower (steepRefusal lat) (latitudeRefusal observer))
-
--- a longitude and a latitude
-abbrev pub placeRefusal : Rad → Rad → ℕ
-placeRefusal long lat = lower (angleRefusal long) (latitudeRefusal lat)
-
-abbrev pub steepPlaceRefusal : Rad → Rad → ℕ
-steepPlaceRefusal long lat = lower (angleRefusal long) (steepRefusal lat)

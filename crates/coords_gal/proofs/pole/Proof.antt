@@ -1,0 +1,10 @@
+-- `coords_gal::pole` meets its contract. Assumes nothing.
+use Rattle.double.specs.laws.Calls.{asks-nothing}
+use Rattle.coords_gal.proofs.pole.Statement.{statement}
+use Rattle.coords_gal.proofs.pole.Tie as tie
+
+returns : tie.Need-returns
+returns c = cc
+
+pub pole-spec : {M : Type 1} → statement M
+pole-spec = tie.close (tie.spec asks-nothing asks-nothing returns)

@@ -1,0 +1,2 @@
+-- What is proved of galactic coordinates, for callers to cite. Theorems only.
+pub mod Constants
