@@ -1,7 +1,4 @@
 -- What a reader must believe of aberration (section 4), in the crate's order. Definitions only.
 pub mod Numbers
 pub mod Sun
-pub mod Arguments
-pub mod Rows
-pub mod Velocity
 pub mod Star

@@ -2,7 +2,7 @@
 ghost use Rattle.brundelak.specs.rules.Boundary.{Told, ToldThree, ToldTwo, numbersOfPoint};
 ghost use Rattle.parallax.specs.rules.Horizontal.{eqHzParallaxRule};
 ghost use Rattle.parallax.specs.rules.Equatorial.{topocentEqCoordsRule};
-ghost use Rattle.parallax.specs.rules.Ecliptic.{topopcentEclCoordsRule};
+ghost use Rattle.parallax_ecl.specs.rules.Ecliptic.{topopcentEclCoordsRule};
 use crate::give::give;
 use crate::give::give_three;
 use crate::give::give_two;
@@ -70,7 +70,7 @@ pub extern "C" fn brundelak_topopcent_ecl_coords(
     ensures { λ n. ⌜ ToldThree (topopcentEclCoordsRule (record { long = «ecl_long»; lat = «ecl_lat» }) (record { 0 = parallax }) (record { long = long; lat = lat }) height (record { 0 = sidereal }) (record { 0 = oblq }) (record { 0 = semidiameter })) n (now (first .entry)) (now (second .entry)) (now (third .entry)) (now (first .exit)) (now (second .exit)) (now (third .exit)) ⌝ }
 {
     give_three(
-        parallax::topopcent_ecl_coords(
+        parallax_ecl::topopcent_ecl_coords(
             EclPoint {
                 long: ecl_long,
                 lat: ecl_lat,

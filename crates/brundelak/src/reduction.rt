@@ -3,9 +3,9 @@ ghost use Rattle.brundelak.specs.rules.Boundary.{Told, ToldThree, ToldTw
 ghost use Rattle.precess.specs.rules.Annual.{annualPrecessRule};
 ghost use Rattle.precess.specs.rules.Equatorial.{precessEqCoordsRule};
 ghost use Rattle.precess.specs.rules.Fk4.{precessEqCoordsFK5Rule};
-ghost use Rattle.precess.specs.rules.Ecliptic.{precessEclCoordsRule};
-ghost use Rattle.precess.specs.rules.Orbit.{precessOrbElementsRule};
-ghost use Rattle.nutation.specs.rules.Sum.{nutationRule};
+ghost use Rattle.precess_ecl.specs.rules.Ecliptic.{precessEclCoordsRule};
+ghost use Rattle.precess_ecl.specs.rules.Orbit.{precessOrbElementsRule};
+ghost use Rattle.nutation.specs.rules.Day.{nutationRule};
 ghost use Rattle.nutation.specs.rules.Point.{nutationInEqCoordsRule};
 ghost use Rattle.aberr.specs.rules.Sun.{solAberrRule};
 ghost use Rattle.aberr.specs.rules.Star.{stellAberrInEqCoordsRule};
@@ -85,7 +85,7 @@ pub extern "C" fn brundelak_precess_ecl_coords(
     ensures { λ n. ⌜ ToldTwo (precessEclCoordsRule (record { 0 = «old_long» }) (record { 0 = «old_lat» }) day1 day2) n (now (first .entry)) (now (second .entry)) (now (first .exit)) (now (second .exit)) ⌝ }
 {
     give_two(
-        precess::precess_ecl_coords(Rad(old_long), Rad(old_lat), day1, day2),
+        precess_ecl::precess_ecl_coords(Rad(old_long), Rad(old_lat), day1, day2),
         first,
         second,
     )
@@ -106,7 +106,7 @@ pub extern "C" fn brundelak_precess_orb_elements(
     ensures { λ n. ⌜ ToldThree (precessOrbElementsRule (record { 0 = «old_inc» }) (record { 0 = «old_arg_perih» }) (record { 0 = «old_long_ascend_node» }) day1 day2) n (now (first .entry)) (now (second .entry)) (now (third .entry)) (now (first .exit)) (now (second .exit)) (now (third .exit)) ⌝ }
 {
     give_three(
-        precess::precess_orb_elements(
+        precess_ecl::precess_orb_elements(
             Rad(old_inc),
             Rad(old_arg_perih),
             Rad(old_long_ascend_node),

@@ -6,10 +6,10 @@ ghost use Rattle.precess.specs.rules.Days.{placeRefusal};
 ghost use Rattle.chain.specs.rules.Obliquity.{meanObliquity, obliquityOf};
 ghost use Rattle.chain.specs.rules.Chain.{pointRefusal, anglesRefusal, chainRule};
 ghost use Rattle.chain.specs.rules.Night.{gathered, nightOf, moved, reducedAt, reducedIn};
-use aberr::Velocity;
+use aberr_rows::Velocity;
 use helpers::angle;
 use helpers::time;
-use nutation::Nutations;
+use nutation_rows::Nutations;
 use precess::EqTurns;
 use quantity::Deg;
 use quantity::EqPoint;
@@ -83,9 +83,9 @@ pub fn night_of(day1: f64, day2: f64) -> Night
 {
     gathered(
         precess::eq_turns(day1, day2),
-        nutation::nutation_on(day2),
+        nutation_rows::nutation_on(day2),
         obliquity_on(day2),
-        aberr::velocity_on(day2),
+        aberr_rows::velocity_on(day2),
     )
 }
 

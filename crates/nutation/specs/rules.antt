@@ -1,6 +1,3 @@
 -- What a reader must believe of nutation (section 4), in the crate's order. Definitions only.
-pub mod Numbers
-pub mod Arguments
-pub mod Rows
-pub mod Sum
+pub mod Day
 pub mod Point

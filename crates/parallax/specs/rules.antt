@@ -3,4 +3,3 @@ pub mod Numbers
 pub mod Horizontal
 pub mod Observer
 pub mod Equatorial
-pub mod Ecliptic

@@ -4,5 +4,3 @@ pub mod Days
 pub mod Annual
 pub mod Equatorial
 pub mod Fk4
-pub mod Ecliptic
-pub mod Orbit

@@ -152,7 +152,7 @@ fn limits() {
     );
     three(
         b"inclination 0, equal days:",
-        precess::precess_orb_elements(Rad(0.0), Rad(1.0), Rad(1.0), J2000, J2000),
+        precess_ecl::precess_orb_elements(Rad(0.0), Rad(1.0), Rad(1.0), J2000, J2000),
         DEGREES,
         b"expected: refused 6",
     );
@@ -256,7 +256,7 @@ fn reductions() {
     );
     two(
         b"21.c Venus:",
-        precess::precess_ecl_coords(deg(149.48194), deg(1.76549), J2000, 1643074.5),
+        precess_ecl::precess_ecl_coords(deg(149.48194), deg(1.76549), J2000, 1643074.5),
         DEGREES,
         b"published: 118.704 1.615 (outside the stated days)",
     );
@@ -282,7 +282,7 @@ fn reductions() {
     );
     three(
         b"24.a orbital elements:",
-        precess::precess_orb_elements(
+        precess_ecl::precess_orb_elements(
             deg(47.122),
             deg(151.4486),
             deg(45.7481),
@@ -327,7 +327,7 @@ fn parallaxes() {
     );
     three(
         b"40 exercise:",
-        parallax::topopcent_ecl_coords(
+        parallax_ecl::topopcent_ecl_coords(
             EclPoint {
                 long: deg(181.77291666666667).0,
                 lat: deg(2.2906111111111113).0,

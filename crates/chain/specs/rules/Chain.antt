@@ -7,8 +7,8 @@ use Rattle.quantity.specs.declared.EqPoint.{EqPoint}
 use Rattle.quantity.specs.rules.Answer.{Answer, answered, Pair, pair, first, second, then}
 use Rattle.quantity.specs.rules.Refusal.{lower, angleRefusal, steepRefusal}
 use Rattle.precess.specs.rules.Equatorial.{precessEqCoordsRule}
-use Rattle.nutation.specs.declared.Nutations.{Nutations}
-use Rattle.nutation.specs.rules.Sum.{nutationRule}
+use Rattle.nutation_rows.specs.declared.Nutations.{Nutations}
+use Rattle.nutation.specs.rules.Day.{nutationRule}
 use Rattle.nutation.specs.rules.Point.{nutationInEqCoordsRule}
 use Rattle.aberr.specs.rules.Star.{stellAberrInEqCoordsRule}
 use Rattle.chain.specs.rules.Obliquity.{obliquityOf}

@@ -10,11 +10,11 @@ use Rattle.elementary.specs.rules.Sine.{sineOf, cosineOf}
 use Rattle.elementary.specs.rules.Direction.{directionOf}
 use Rattle.precess.specs.declared.EqTurns.{EqTurns}
 use Rattle.precess.specs.rules.Equatorial.{eqTurnsOf, turnedIn}
-use Rattle.nutation.specs.declared.Nutations.{Nutations}
-use Rattle.nutation.specs.rules.Sum.{nutationOf}
+use Rattle.nutation_rows.specs.declared.Nutations.{Nutations}
+use Rattle.nutation_rows.specs.rules.Sum.{nutationOf}
 use Rattle.nutation.specs.rules.Point.{nutationAt}
-use Rattle.aberr.specs.declared.Velocity.{Velocity}
-use Rattle.aberr.specs.rules.Velocity.{velocityOf}
+use Rattle.aberr_rows.specs.declared.Velocity.{Velocity}
+use Rattle.aberr_rows.specs.rules.Velocity.{velocityOf}
 use Rattle.aberr.specs.rules.Star.{aberrAt}
 use Rattle.chain.specs.declared.Night.{Night}
 use Rattle.chain.specs.rules.Obliquity.{obliquityOf}

@@ -23,7 +23,7 @@ use Rattle.elementary.specs.laws.Accepted.{answered-unless}
 use Rattle.helpers.specs.rules.Angle.{arc, degree}
 use Rattle.precess.specs.rules.Days.{placeRefusal}
 use Rattle.precess.specs.rules.Equatorial.{eqTurnsOf, turnedIn, precessEqCoordsRule}
-use Rattle.nutation.specs.rules.Sum.{nutationRule}
+use Rattle.nutation.specs.rules.Day.{nutationRule}
 use Rattle.nutation.specs.rules.Point.{nutationInRefusal, nutationInEqCoordsIn, nutationInEqCoordsRule}
 use Rattle.aberr.specs.rules.Star.{stellAberrRefusal, stellAberrInEqCoordsIn, stellAberrInEqCoordsRule}
 use Rattle.chain.specs.rules.Numbers.{n84381·448, n46·8150, n0·00059, n0·001813}

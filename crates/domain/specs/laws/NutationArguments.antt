@@ -7,8 +7,8 @@ use Rattle.double.specs.notions.Range.{known, con, _⊞_, _⊟_, _⊠_, _⧄_}
 use Rattle.quantity.specs.declared.Deg.{Deg}
 use Rattle.helpers.specs.rules.Angle.{degree}
 use Rattle.helpers.specs.laws.Limit.{limited-degrees}
-use Rattle.nutation.specs.rules.Numbers.{n134·96298, n477198·867398, n0·0086972, n56250, n357·52772, n35999·05034, n0·0001603, n300000, n297·85036, n445267·11148, n0·0019142, n189474, n93·27191, n483202·017538, n0·0036825, n327270, n125·04452, n1934·136261, n0·0020708, n450000}
-use Rattle.nutation.specs.rules.Arguments.{moonM1, moonM, moonD, moonF, moonNode, inTurn, gathered, moonOf}
+use Rattle.nutation_rows.specs.rules.Numbers.{n134·96298, n477198·867398, n0·0086972, n56250, n357·52772, n35999·05034, n0·0001603, n300000, n297·85036, n445267·11148, n0·0019142, n189474, n93·27191, n483202·017538, n0·0036825, n327270, n125·04452, n1934·136261, n0·0020708, n450000}
+use Rattle.nutation_rows.specs.rules.Arguments.{moonM1, moonM, moonD, moonF, moonNode, inTurn, gathered, moonOf}
 use Rattle.conditions.specs.notions.Within.{Within}
 use Rattle.domain.specs.notions.Nutation.{MoonNear}
 use Rattle.conditions.specs.laws.Near.{within}

@@ -18,11 +18,12 @@ use Rattle.quantity.specs.rules.Refusal.{dayRefusal}
 use Rattle.elementary.specs.rules.Sine.{sineOf, cosineOf, farthestAlone}
 use Rattle.helpers.specs.rules.Angle.{degree}
 use Rattle.helpers.specs.rules.Time.{centuryOf}
-use Rattle.nutation.specs.declared.Nutations.{Nutations}
-use Rattle.nutation.specs.rules.Numbers.{n10}
-use Rattle.nutation.specs.rules.Arguments.{moonOf}
-use Rattle.nutation.specs.rules.Rows.{rows}
-use Rattle.nutation.specs.rules.Sum.{whole, argumentOf, unit, share, withRow, summed, none, converted, nutationOf, nutationRule}
+use Rattle.nutation_rows.specs.declared.Nutations.{Nutations}
+use Rattle.nutation_rows.specs.rules.Numbers.{n10}
+use Rattle.nutation_rows.specs.rules.Arguments.{moonOf}
+use Rattle.nutation_rows.specs.rules.Rows.{rows}
+use Rattle.nutation_rows.specs.rules.Sum.{whole, argumentOf, unit, share, withRow, summed, none, converted, nutationOf}
+use Rattle.nutation.specs.rules.Day.{nutationRule}
 use Rattle.conditions.specs.notions.Outcome.{Outcome, Never}
 use Rattle.conditions.specs.notions.Within.{Within, BothFinite, BothWithin}
 use Rattle.domain.specs.notions.Nutation.{Moon, Row, EachRow, MoonNear, argumentRange, argumentsNear, shareRange, longRange, oblqRange}

@@ -19,10 +19,10 @@ use Rattle.elementary.specs.rules.Sine.{sineOf, cosineOf, farthestAlone}
 use Rattle.elementary.specs.rules.Arctangent.{arctangentIn}
 use Rattle.elementary.specs.rules.Arcsine.{arcsineIn}
 use Rattle.elementary.specs.laws.Accepted.{lower-none}
-use Rattle.precess.specs.declared.EclTurns.{EclTurns}
+use Rattle.precess_ecl.specs.declared.EclTurns.{EclTurns}
 use Rattle.precess.specs.rules.Days.{daysRefusal}
-use Rattle.precess.specs.rules.Ecliptic.{eclTurnsOf}
-use Rattle.precess.specs.rules.Orbit.{leanedOf, newInclination, newNode, nodeAndPerihelion, orbitFrom, orbitIn, orbitRefusal, precessOrbElementsRule}
+use Rattle.precess_ecl.specs.rules.Ecliptic.{eclTurnsOf}
+use Rattle.precess_ecl.specs.rules.Orbit.{leanedOf, newInclination, newNode, nodeAndPerihelion, orbitFrom, orbitIn, orbitRefusal, precessOrbElementsRule}
 use Rattle.conditions.specs.laws.Accepted.{none-of-three, angle-between, angle-sine, angle-cosine}
 use Rattle.conditions.specs.notions.Outcome.{Outcome, SixOrSeven}
 use Rattle.conditions.specs.notions.Within.{Within, AllFinite}

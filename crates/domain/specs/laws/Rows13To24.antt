@@ -7,10 +7,10 @@ use Rattle.double.specs.rules.Order.{_≼_}
 use Rattle.double.specs.notions.Range.{known, con, _⊞_, _⊟_, _⊠_}
 use Rattle.elementary.specs.rules.Sine.{farthestAlone}
 use Rattle.elementary.specs.laws.Sine.{sine-between, cosine-between}
-use Rattle.aberr.specs.declared.Velocity.{Velocity}
-use Rattle.aberr.specs.rules.Numbers.{n1, n2, n3, n4, n5, n6, n7, n8, n9, n10, n11, n15, n16, n17, n19, n21}
-use Rattle.aberr.specs.rules.Arguments.{argumentsOf, rad, waveOf}
-use Rattle.aberr.specs.rules.Rows.{row13, row14, row15, row16, row17, row18, row19, row20, row21, row22, row23, row24}
+use Rattle.aberr_rows.specs.declared.Velocity.{Velocity}
+use Rattle.aberr_rows.specs.rules.Numbers.{n1, n2, n3, n4, n5, n6, n7, n8, n9, n10, n11, n15, n16, n17, n19, n21}
+use Rattle.aberr_rows.specs.rules.Arguments.{argumentsOf, rad, waveOf}
+use Rattle.aberr_rows.specs.rules.Rows.{row13, row14, row15, row16, row17, row18, row19, row20, row21, row22, row23, row24}
 use Rattle.conditions.specs.notions.Within.{Within}
 use Rattle.domain.specs.notions.Aberration.{Held, l2, l3, l5, l7, l8}
 use Rattle.conditions.specs.laws.Near.{within, up-to-farthest}

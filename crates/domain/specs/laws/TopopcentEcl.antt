@@ -21,7 +21,7 @@ use Rattle.helpers.specs.rules.Angle.{withinTwoPI}
 use Rattle.helpers.specs.rules.Earth.{rhoIn}
 use Rattle.helpers.specs.laws.Limit.{limited-radians}
 use Rattle.parallax.specs.rules.Observer.{centreOf, observerRefusal}
-use Rattle.parallax.specs.rules.Ecliptic.{nearby, longTop, latTop, semidiameterIn, eclipticFrom, eclipticAlong, eclipticAt, eclipticIn, topopcentRefusal, topopcentEclCoordsRule}
+use Rattle.parallax_ecl.specs.rules.Ecliptic.{nearby, longTop, latTop, semidiameterIn, eclipticFrom, eclipticAlong, eclipticAt, eclipticIn, topopcentRefusal, topopcentEclCoordsRule}
 use Rattle.conditions.specs.laws.Accepted.{angle-sine, angle-cosine, latitude-sine, latitude-cosine}
 use Rattle.conditions.specs.notions.Outcome.{Outcome, SixOrSeven}
 use Rattle.conditions.specs.notions.Within.{Within, AllFinite}

@@ -6,10 +6,10 @@ use lib.Ieee.{Float, binary64, neg}
 use Rattle.double.specs.rules.Operations.{one}
 use Rattle.double.specs.rules.Table.{over}
 use Rattle.double.specs.notions.Range.{Range, _to_, span, addRange, mulRange, divRange, inside}
-use Rattle.nutation.specs.rules.Numbers.{n10}
-use Rattle.nutation.specs.rules.Arguments.{moonOf}
-use Rattle.nutation.specs.rules.Rows.{rows}
-use Rattle.nutation.specs.rules.Sum.{whole, unit}
+use Rattle.nutation_rows.specs.rules.Numbers.{n10}
+use Rattle.nutation_rows.specs.rules.Arguments.{moonOf}
+use Rattle.nutation_rows.specs.rules.Rows.{rows}
+use Rattle.nutation_rows.specs.rules.Sum.{whole, unit}
 use Rattle.conditions.specs.notions.Within.{Within}
 
 -- ---- the sorts of the arguments and of the rows, by a value of each

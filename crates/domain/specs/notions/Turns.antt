@@ -3,7 +3,7 @@ use lib.Ieee.{neg}
 use Rattle.double.specs.rules.Operations.{one}
 use Rattle.double.specs.rules.Order.{Between}
 use Rattle.precess.specs.declared.EqTurns.{EqTurns}
-use Rattle.precess.specs.declared.EclTurns.{EclTurns}
+use Rattle.precess_ecl.specs.declared.EclTurns.{EclTurns}
 use Rattle.conditions.specs.notions.Within.{Within}
 
 pub record EqTurnsNear (turns : EqTurns) : Type 0 where

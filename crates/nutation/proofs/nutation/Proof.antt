@@ -2,9 +2,9 @@
 use Rattle.double.specs.laws.Calls.{asks-nothing}
 use mathlib.Core.Path.{ap}
 use Rattle.quantity.specs.rules.Answer.{answered, pair}
-use Rattle.nutation.specs.declared.Nutations.{Nutations}
+use Rattle.nutation_rows.specs.declared.Nutations.{Nutations}
 use Rattle.quantity.specs.laws.Answer.{refuses, goes-on}
-use Rattle.nutation.specs.rules.Sum.{nutationRule}
+use Rattle.nutation.specs.rules.Day.{nutationRule}
 use Rattle.nutation.proofs.nutation.Statement.{statement}
 use Rattle.nutation.proofs.nutation.Tie as tie
 

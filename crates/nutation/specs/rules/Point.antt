@@ -10,7 +10,7 @@ use Rattle.quantity.specs.rules.Refusal.{lower, angleRefusal, steepRefusal}
 use Rattle.elementary.specs.declared.Direction.{Direction}
 use Rattle.elementary.specs.rules.Sine.{sineOf, cosineOf}
 use Rattle.elementary.specs.rules.Direction.{directionOf}
-use Rattle.nutation.specs.declared.Nutations.{Nutations}
+use Rattle.nutation_rows.specs.declared.Nutations.{Nutations}
 
 -- of a direction, from the sine s and the cosine c of the obliquity
 unfoldable pub nutationAt : Direction → Nutations → Float → Float → Shift

@@ -3,7 +3,6 @@ use Prim.Native.Nat.{ℕ}
 use lib.Ieee.{Float}
 use Rattle.quantity.specs.declared.Rad.{Rad}
 use Rattle.quantity.specs.declared.GeographPoint.{GeographPoint}
-use Rattle.quantity.specs.rules.Answer.{Pair, first, second}
 use Rattle.quantity.specs.rules.Refusal.{lower, angleRefusal, steepRefusal, heightRefusal}
 use Rattle.elementary.specs.rules.Sine.{sineOf}
 use Rattle.parallax.specs.declared.Centre.{Centre}

@@ -1,9 +1,9 @@
 -- Each number of the rules is the decimal that its name spells, rounded once. Assumes nothing.
 use mathlib.Core.Path.{_≡_, refl}
 use mathlib.Core.List.{List, [], _∷_}
-use lib.Ieee.{Float, ofBits, round, neg}
+use lib.Ieee.{Float, ofBits, round}
 use Rattle.double.specs.rules.Table.{Row, _is_, Agrees, decimal}
-use Rattle.precess.specs.rules.Numbers.{n36525, n3·07496, n0·00186, n1·33621, n0·00057, n2306·2181, n1·39656, n0·000139, n0·30188, n0·000344, n0·017998, n1·09468, n0·000066, n0·018203, n0·000217, n2004·3109, n0·8533, n0·42665, n0·041833, n2415020·3135, n36524·2199, n2304·25, n1·396, n0·302, n0·018, n0·791, n0·001, n2004·682, n0·853, n0·426, n0·042, n0·000598, n47·0029, n0·06603, m0·03302, n0·00006, n174·876384, n3289·4789, n0·60622, n869·8089, n0·50491, n0·03536, n0·000042, n5029·0966, n2·22226, n1·11113, n0·000006}
+use Rattle.precess.specs.rules.Numbers.{n36525, n3·07496, n0·00186, n1·33621, n0·00057, n2306·2181, n1·39656, n0·000139, n0·30188, n0·000344, n0·017998, n1·09468, n0·000066, n0·018203, n0·000217, n2004·3109, n0·8533, n0·42665, n0·041833, n2415020·3135, n36524·2199, n2304·25, n1·396, n0·302, n0·018, n0·791, n0·001, n2004·682, n0·853, n0·426, n0·042}
 
 abbrev rows : List (Row Float)
 rows =
@@ -38,24 +38,8 @@ rows =
     ∷ (n0·853 is decimal 853 3)
     ∷ (n0·426 is decimal 426 3)
     ∷ (n0·042 is decimal 42 3)
-    ∷ (n0·000598 is decimal 598 6)
-    ∷ (n47·0029 is decimal 470029 4)
-    ∷ (n0·06603 is decimal 6603 5)
-    ∷ (m0·03302 is neg (decimal 3302 5))
-    ∷ (n0·00006 is decimal 6 5)
-    ∷ (n174·876384 is decimal 174876384 6)
-    ∷ (n3289·4789 is decimal 32894789 4)
-    ∷ (n0·60622 is decimal 60622 5)
-    ∷ (n869·8089 is decimal 8698089 4)
-    ∷ (n0·50491 is decimal 50491 5)
-    ∷ (n0·03536 is decimal 3536 5)
-    ∷ (n0·000042 is decimal 42 6)
-    ∷ (n5029·0966 is decimal 50290966 4)
-    ∷ (n2·22226 is decimal 222226 5)
-    ∷ (n1·11113 is decimal 111113 5)
-    ∷ (n0·000006 is decimal 6 6)
     ∷ []
 
 pub constants : Agrees rows
-unfolding ofBits round neg
+unfolding ofBits round
 constants = refl

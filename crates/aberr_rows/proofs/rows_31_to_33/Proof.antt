@@ -1,0 +1,12 @@
+-- `aberr_rows::rows_31_to_33` meets its contract. Assumes nothing.
+use Rattle.double.specs.laws.Calls.{asks-nothing}
+use Rattle.aberr_rows.specs.rules.Rows.{row31, row32, row33}
+use Rattle.aberr_rows.proofs.rows_31_to_33.Statement.{statement}
+use Rattle.aberr_rows.proofs.rows_31_to_33.Tie as tie
+
+returns : tie.Need-returns
+unfolding row31 row32 row33
+returns c = rw (c .before .before .wave-of .ensures, c .before .wave-of2 .ensures, c .wave-of3 .ensures)
+
+pub rows-31-to-33-spec : {M : Type 1} → statement M
+rows-31-to-33-spec = tie.close (tie.spec asks-nothing asks-nothing asks-nothing returns)

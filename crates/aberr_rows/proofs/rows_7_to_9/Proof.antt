@@ -1,0 +1,12 @@
+-- `aberr_rows::rows_7_to_9` meets its contract. Assumes nothing.
+use Rattle.double.specs.laws.Calls.{asks-nothing}
+use Rattle.aberr_rows.specs.rules.Rows.{row7, row8, row9}
+use Rattle.aberr_rows.proofs.rows_7_to_9.Statement.{statement}
+use Rattle.aberr_rows.proofs.rows_7_to_9.Tie as tie
+
+returns : tie.Need-returns
+unfolding row7 row8 row9
+returns c = rw (c .before .before .wave-of .ensures, c .before .wave-of2 .ensures, c .wave-of3 .ensures)
+
+pub rows-7-to-9-spec : {M : Type 1} → statement M
+rows-7-to-9-spec = tie.close (tie.spec asks-nothing asks-nothing asks-nothing returns)

@@ -1,0 +1,12 @@
+-- `aberr_rows::velocity_on` meets its contract. Assumes nothing.
+use Rattle.double.specs.laws.Calls.{asks-nothing}
+use Rattle.aberr_rows.specs.rules.Velocity.{velocityOf}
+use Rattle.aberr_rows.proofs.velocity_on.Statement.{statement}
+use Rattle.aberr_rows.proofs.velocity_on.Tie as tie
+
+returns : tie.Need-returns
+unfolding velocityOf
+returns c = cc
+
+pub velocity-on-spec : {M : Type 1} → statement M
+velocity-on-spec = tie.close (tie.spec asks-nothing asks-nothing asks-nothing returns)

@@ -1,2 +1,0 @@
--- What is proved of nutation, for callers to cite. Theorems only.
-pub mod Constants

@@ -1,0 +1,8 @@
+-- Nutation in longitude and in obliquity on a day (Meeus, chapter 22).
+use lib.Ieee.{Float}
+use Rattle.quantity.specs.rules.Answer.{Answer, answered, Pair, pair, unless}
+use Rattle.quantity.specs.rules.Refusal.{dayRefusal}
+use Rattle.nutation_rows.specs.rules.Sum.{nutationOf}
+
+unfoldable pub nutationRule : Float → Answer Pair
+nutationRule day = unless (dayRefusal day) (answered (pair (nutationOf day .long) (nutationOf day .oblq)))

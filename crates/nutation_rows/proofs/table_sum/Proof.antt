@@ -1,0 +1,69 @@
+-- `nutation_rows::table_sum` meets its contract. The invariant: the sums over the rows that are left, from the sums so far, are those over
+-- all rows. Assumes nothing.
+use borrow.Author.Needs.{needs}
+use mathlib.Core.Path.{_≡_, refl, _∙_}
+use mathlib.Core.List.{List}
+use Prim.Native.Nat.{ℕ, _+_, _-_, _≤_, _<_}
+use native.Mathlib.Omega.{arith}
+use native.Mathlib.Numerals.{add-one}
+use lib.ListN.{length, getD, drop}
+use lib.Seq.{drop-cons}
+use Rattle.nutation_rows.specs.declared.Row.{Row}
+use Rattle.nutation_rows.specs.declared.Moon.{Moon}
+use Rattle.nutation_rows.specs.declared.Nutations.{Nutations}
+use Rattle.nutation_rows.specs.rules.Rows.{rows}
+use Rattle.nutation_rows.specs.rules.Sum.{summed, withRow}
+use Rattle.nutation_rows.proofs.table_sum.Statement.{statement}
+use Rattle.nutation_rows.proofs.table_sum.Tie as tie
+
+-- one row more
+next : (xs : List Row) (i : ℕ) (d : Row) (a : Moon) (s : Nutations) → i < length xs → summed (drop (i + 1) xs) a (withRow (getD xs i d) a s) ≡ summed (drop i xs) a s
+unfolding summed
+next xs i d a s h = rw (drop-cons xs i d, add-one)
+
+abbrev Inv-loop : tie.InvT-loop
+Inv-loop a s₀ i₀ s i = (i ≤ 63) × (summed (drop i rows) a s ≡ summed rows a s₀)
+
+abbrev μ-loop : tie.MeasureT-loop
+μ-loop a s₀ i₀ s i = 63 - i
+
+loop-holds : tie.Need-loop-holds Inv-loop μ-loop
+loop-holds c = (omega arith, refl)
+
+mul-with-row : tie.Need-mul-with-row Inv-loop μ-loop
+mul-with-row c = search needs
+
+array-copy-out-with-row : tie.Need-array-copy-out-with-row Inv-loop μ-loop
+array-copy-out-with-row c = search needs
+
+with-row-requires : tie.Need-with-row-requires Inv-loop μ-loop
+with-row-requires c κs = search needs
+
+add-i : tie.Need-add-i Inv-loop μ-loop
+add-i c = omega arith
+
+loop-less : tie.Need-loop-less Inv-loop μ-loop
+loop-less c = omega arith
+
+loop-again : tie.Need-loop-again Inv-loop μ-loop
+loop-again c =
+    (omega arith, rw (c .with-row .ensures) (next rows _ _ _ _ (c .before .before .loop-test .taken) ∙ c .before .before .before .loop .inv .1))
+
+returns : tie.Need-returns Inv-loop μ-loop
+unfolding summed
+returns c = let e : c .before .loop .i ≡ 63 = omega arith in rw e at (c .before .loop .inv .1)
+
+pub table-sum-spec : {M : Type 1} → statement M
+table-sum-spec =
+    tie.close
+    (tie.spec
+    Inv-loop
+    μ-loop
+    loop-holds
+    mul-with-row
+    array-copy-out-with-row
+    with-row-requires
+    add-i
+    loop-less
+    loop-again
+    returns)

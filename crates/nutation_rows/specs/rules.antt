@@ -1,0 +1,5 @@
+-- What a reader must believe of the rows of nutation (section 4), in the crate's order. Definitions only.
+pub mod Numbers
+pub mod Arguments
+pub mod Rows
+pub mod Sum

@@ -1,0 +1,59 @@
+-- One row's share, the sums over the rows in table order, and nutation on a day.
+use mathlib.Core.List.{List, [], _∷_}
+use lib.IntN.{ℤ}
+use lib.Ieee.{Float, binary64, ofInt}
+use Rattle.double.specs.rules.Operations.{bits, zero, _⊕_, _⊗_, _⊘_}
+use Rattle.quantity.specs.declared.Rad.{Rad}
+use Rattle.elementary.specs.rules.Sine.{sineOf, cosineOf}
+use Rattle.helpers.specs.rules.Angle.{radiansOf}
+use Rattle.helpers.specs.rules.Time.{centuryOf}
+use Rattle.nutation_rows.specs.declared.Row.{Row}
+use Rattle.nutation_rows.specs.declared.Moon.{Moon}
+use Rattle.nutation_rows.specs.declared.Nutations.{Nutations}
+use Rattle.nutation_rows.specs.rules.Numbers.{n10}
+use Rattle.nutation_rows.specs.rules.Arguments.{moonOf}
+use Rattle.nutation_rows.specs.rules.Rows.{rows}
+
+-- a whole number of the table
+abbrev pub whole : ℤ → Float
+whole z = ofInt binary64 z
+
+abbrev pub argumentOf : Row → Moon → Rad
+argumentOf x a =
+    record
+    { 0 = whole (x .0) ⊗ a .d ⊕ whole (x .1) ⊗ a .m ⊕ whole (x .2) ⊗ a .m1 ⊕ whole (x .3) ⊗ a .f ⊕ whole (x .4) ⊗ a .node }
+
+-- 0.0001/3600
+abbrev pub unit : Float
+unit = bits 0x3e5dd37f5698c2c3
+
+-- (c + (t·d)/10)·v, in degrees: c is a coefficient, d its slow part, v the sine or cosine
+abbrev pub share : Float → Float → Float → Float → Float
+share c d v t = (c ⊕ t ⊗ d ⊘ n10) ⊗ v ⊗ unit
+
+abbrev pub longShare : Row → Float → Float → Float
+longShare x t sine = share (whole (x .5)) (whole (x .6)) sine t
+
+abbrev pub oblqShare : Row → Float → Float → Float
+oblqShare x t cosine = share (whole (x .7)) (whole (x .8)) cosine t
+
+unfoldable pub withRow : Row → Moon → Nutations → Nutations
+withRow x a s =
+    record {
+      long = s .long ⊕ longShare x (a .t) (sineOf (argumentOf x a));
+      oblq = s .oblq ⊕ oblqShare x (a .t) (cosineOf (argumentOf x a));
+    }
+
+unfoldable pub summed : List Row → Moon → Nutations → Nutations
+summed [] a s = s
+summed (x ∷ xs) a s = summed xs a (withRow x a s)
+
+abbrev pub none : Nutations
+none = record { long = zero; oblq = zero }
+
+-- both sums from degrees to radians
+unfoldable pub converted : Nutations → Nutations
+converted s = record { long = radiansOf (record { 0 = s .long }) .0; oblq = radiansOf (record { 0 = s .oblq }) .0 }
+
+unfoldable pub nutationOf : Float → Nutations
+nutationOf day = converted (summed rows (moonOf (centuryOf day)) none)

@@ -1,0 +1,12 @@
+-- `parallax_ecl::semidiameter_in` meets its contract. Assumes nothing.
+use Rattle.double.specs.laws.Calls.{asks-nothing}
+use Rattle.parallax_ecl.specs.rules.Ecliptic.{semidiameterIn}
+use Rattle.parallax_ecl.proofs.semidiameter_in.Statement.{statement}
+use Rattle.parallax_ecl.proofs.semidiameter_in.Tie as tie
+
+returns : tie.Need-returns
+unfolding semidiameterIn
+returns c = cc
+
+pub semidiameter-in-spec : {M : Type 1} → statement M
+semidiameter-in-spec = tie.close (tie.spec asks-nothing asks-nothing asks-nothing asks-nothing asks-nothing returns)

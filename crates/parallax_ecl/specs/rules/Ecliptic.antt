@@ -1,0 +1,73 @@
+-- Topocentric ecliptic coordinates (Meeus, chapter 40, with the crate's arctangent for the latitude):
+-- longitude l, latitude b, local sidereal time s and obliquity e, folded; n is N.
+use Prim.Native.Nat.{ℕ}
+use mathlib.Core.Bool.{cond}
+use lib.Ieee.{Float, eq}
+use Rattle.double.specs.rules.Operations.{zero, _⊕_, _⊖_, _⊗_, _⊘_}
+use Rattle.quantity.specs.declared.Rad.{Rad}
+use Rattle.quantity.specs.declared.EclPoint.{EclPoint}
+use Rattle.quantity.specs.declared.GeographPoint.{GeographPoint}
+use Rattle.quantity.specs.rules.Answer.{Answer, answered, refused, Pair, first, second, Triple, triple, unless, then}
+use Rattle.quantity.specs.rules.Refusal.{lower, angleRefusal, latitudeRefusal}
+use Rattle.elementary.specs.declared.Folded.{Folded}
+use Rattle.elementary.specs.rules.Fold.{fold}
+use Rattle.elementary.specs.rules.Sine.{foldedSine, foldedCosine, sineOf, cosineOf}
+use Rattle.elementary.specs.rules.Arctangent.{arctangentIn}
+use Rattle.elementary.specs.rules.Arcsine.{arcsineIn}
+use Rattle.helpers.specs.rules.Angle.{withinTwoPI}
+use Rattle.helpers.specs.rules.Earth.{rhoIn}
+use Rattle.parallax.specs.declared.Centre.{Centre}
+use Rattle.parallax.specs.rules.Observer.{centreOf, observerRefusal}
+
+-- N
+unfoldable pub nearby : Centre → Folded → Folded → Folded → Float
+nearby c l b s = foldedCosine l ⊗ foldedCosine b ⊖ c .«rho_cos» ⊗ c .parallax ⊗ foldedCosine s
+
+unfoldable pub longTop : Centre → Folded → Folded → Folded → Folded → Float → Answer Float
+longTop c l b s e n =
+    arctangentIn
+    (foldedSine l ⊗ foldedCosine b ⊖ c .parallax ⊗ (c .«rho_sin» ⊗ foldedSine e ⊕ c .«rho_cos» ⊗ foldedCosine e ⊗ foldedSine s)) n
+
+unfoldable pub latTop : Centre → Folded → Folded → Folded → Float → Float → Answer Float
+latTop c b s e cosLong n =
+    arctangentIn
+    (cosLong ⊗ (foldedSine b ⊖ c .parallax ⊗ (c .«rho_sin» ⊗ foldedCosine e ⊖ c .«rho_cos» ⊗ foldedSine e ⊗ foldedSine s))) n
+
+unfoldable pub semidiameterIn : Float → Float → Rad → Float → Answer Float
+semidiameterIn cosLong lat semidiameter n =
+    arcsineIn (cosLong ⊗ cosineOf (record { 0 = lat }) ⊗ sineOf semidiameter ⊘ n)
+
+unfoldable pub eclipticFrom : Float → Float → Float → Rad → Float → Answer Triple
+eclipticFrom long cosLong lat semidiameter n =
+    then (semidiameterIn cosLong lat semidiameter n)
+    (λ (s : Float). answered (triple (withinTwoPI (record { 0 = long }) .0) lat s))
+
+unfoldable pub eclipticAlong : Centre → Folded → Folded → Folded → Float → Rad → Float → Answer Triple
+eclipticAlong c b s e long semidiameter n =
+    let cosLong = cosineOf (record { 0 = long }) in
+    then (latTop c b s e cosLong n) (λ (lat : Float). eclipticFrom long cosLong lat semidiameter n)
+
+-- 6 where N is zero, as soon as it is worked out
+unfoldable pub eclipticAt : Centre → Folded → Folded → Folded → Folded → Rad → Answer Triple
+eclipticAt c l b s e semidiameter =
+    let n = nearby c l b s in
+    cond (eq n zero) (refused 6)
+    (then (longTop c l b s e n) (λ (long : Float). eclipticAlong c b s e long semidiameter n))
+
+unfoldable pub eclipticIn : EclPoint → Rad → GeographPoint → Float → Rad → Rad → Rad → Answer Triple
+eclipticIn p parallax place height sidereal oblq semidiameter =
+    then (rhoIn (record { 0 = place .lat }) height)
+    (λ (rho : Pair). eclipticAt (centreOf (first rho) (second rho) parallax)
+    (fold (record { 0 = p .long })) (fold (record { 0 = p .lat })) (fold sidereal) (fold oblq) semidiameter)
+
+abbrev pub topopcentRefusal : EclPoint → Rad → GeographPoint → Float → Rad → Rad → Rad → ℕ
+topopcentRefusal p parallax place height sidereal oblq semidiameter =
+    lower
+    (lower (lower (angleRefusal (record { 0 = p .long })) (latitudeRefusal (record { 0 = p .lat })))
+    (lower (angleRefusal oblq) (angleRefusal semidiameter)))
+    (observerRefusal parallax place height sidereal)
+
+abbrev pub topopcentEclCoordsRule : EclPoint → Rad → GeographPoint → Float → Rad → Rad → Rad → Answer Triple
+topopcentEclCoordsRule p parallax place height sidereal oblq semidiameter =
+    unless (topopcentRefusal p parallax place height sidereal oblq semidiameter)
+    (eclipticIn p parallax place height sidereal oblq semidiameter)

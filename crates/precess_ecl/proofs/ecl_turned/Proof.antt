@@ -1,0 +1,12 @@
+-- `precess_ecl::ecl_turned` meets its contract. Assumes nothing.
+use Rattle.double.specs.laws.Calls.{asks-nothing}
+use Rattle.precess_ecl.specs.rules.Ecliptic.{eclTurned}
+use Rattle.precess_ecl.proofs.ecl_turned.Statement.{statement}
+use Rattle.precess_ecl.proofs.ecl_turned.Tie as tie
+
+returns : tie.Need-returns
+unfolding eclTurned
+returns c = cc
+
+pub ecl-turned-spec : {M : Type 1} → statement M
+ecl-turned-spec = tie.close (tie.spec asks-nothing asks-nothing asks-nothing returns)

@@ -1,0 +1,2 @@
+-- What is proved of precession of the ecliptic, for callers to cite. Theorems only.
+pub mod Constants

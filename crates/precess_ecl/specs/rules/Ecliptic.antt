@@ -1,0 +1,62 @@
+-- Precession of ecliptic coordinates (Meeus 21.5 to 21.7):
+-- c is the century of the first day, t the span of centuries from the first day to the second.
+use lib.Ieee.{Float}
+use Rattle.double.specs.rules.Operations.{_⊕_, _⊖_, _⊗_}
+use Rattle.quantity.specs.declared.Deg.{Deg}
+use Rattle.quantity.specs.declared.Rad.{Rad}
+use Rattle.quantity.specs.rules.Answer.{Answer, Pair, unless, takenFrom, both}
+use Rattle.elementary.specs.declared.Folded.{Folded}
+use Rattle.elementary.specs.rules.Fold.{fold}
+use Rattle.elementary.specs.rules.Sine.{foldedSine, foldedCosine, sineOf, cosineOf}
+use Rattle.elementary.specs.rules.Arctangent.{arctangentIn}
+use Rattle.elementary.specs.rules.Arcsine.{arcsineIn}
+use Rattle.helpers.specs.rules.Angle.{arc, radiansOf}
+use Rattle.helpers.specs.rules.Time.{centuryOf}
+use Rattle.precess_ecl.specs.declared.EclTurns.{EclTurns}
+use Rattle.precess_ecl.specs.rules.Numbers.{n0·000598, n47·0029, n0·06603, m0·03302, n0·00006, n174·876384, n3289·4789, n0·60622, n869·8089, n0·50491, n0·03536, n0·000042, n5029·0966, n2·22226, n1·11113, n0·000006}
+use Rattle.precess.specs.rules.Days.{spanOf, placeRefusal}
+
+unfoldable pub eclNu : Float → Float → Deg
+eclNu c t =
+    let x = c ⊗ arc n0·000598 in
+    record
+    { 0 = t ⊗ (arc n47·0029 ⊖ c ⊗ (arc n0·06603 ⊖ x) ⊕ t ⊗ ((arc m0·03302 ⊕ x) ⊕ t ⊗ arc n0·00006)) }
+
+unfoldable pub eclPi : Float → Float → Deg
+eclPi c t =
+    record
+    { 0 = n174·876384 ⊕ c ⊗ (arc n3289·4789 ⊕ c ⊗ arc n0·60622) ⊖ t ⊗ ((arc n869·8089 ⊕ c ⊗ arc n0·50491) ⊖ t ⊗ arc n0·03536) }
+
+unfoldable pub eclRho : Float → Float → Deg
+eclRho c t =
+    let y = c ⊗ arc n0·000042 in
+    record
+    { 0 = t ⊗ (arc n5029·0966 ⊕ c ⊗ (arc n2·22226 ⊖ y) ⊕ t ⊗ ((arc n1·11113 ⊖ y) ⊖ t ⊗ arc n0·000006)) }
+
+-- what two days fix, from the three angles
+unfoldable pub eclTurned : Rad → Rad → Rad → EclTurns
+eclTurned nu pi rho = record { nu = nu .0; sine = sineOf nu; cosine = cosineOf nu; pi = pi .0; rho = rho .0 }
+
+unfoldable pub eclTurnsOf : Float → Float → EclTurns
+eclTurnsOf day1 day2 =
+    let c = centuryOf day1 in
+    let t = spanOf day1 day2 in
+    eclTurned (radiansOf (eclNu c t)) (radiansOf (eclPi c t)) (radiansOf (eclRho c t))
+
+-- a place after the turns: p is Pi less its longitude, b its latitude
+unfoldable pub eclPlaced : Folded → Folded → EclTurns → Answer Pair
+eclPlaced p b turns =
+    let sp = foldedSine p in
+    let cp = foldedCosine p in
+    let sb = foldedSine b in
+    let cb = foldedCosine b in
+    both
+    (takenFrom (turns .rho ⊕ turns .pi) (arctangentIn (turns .cosine ⊗ cb ⊗ sp ⊖ turns .sine ⊗ sb) (cb ⊗ cp)))
+    (arcsineIn (turns .cosine ⊗ sb ⊕ turns .sine ⊗ cb ⊗ sp))
+
+unfoldable pub eclTurnedIn : Rad → Rad → EclTurns → Answer Pair
+eclTurnedIn long lat turns = eclPlaced (fold (record { 0 = turns .pi ⊖ long .0 })) (fold lat) turns
+
+abbrev pub precessEclCoordsRule : Rad → Rad → Float → Float → Answer Pair
+precessEclCoordsRule long lat day1 day2 =
+    unless (placeRefusal long lat day1 day2) (eclTurnedIn long lat (eclTurnsOf day1 day2))

@@ -1,0 +1,64 @@
+-- Precession of orbital elements (Meeus, chapter 24): inclination, argument of perihelion, longitude of the ascending node.
+use Prim.Native.Nat.{ℕ}
+use mathlib.Core.Bool.{cond}
+use lib.Ieee.{Float, neg, eq}
+use Rattle.double.specs.rules.Operations.{zero, _⊕_, _⊖_, _⊗_, _⊘_}
+use Rattle.quantity.specs.declared.Rad.{Rad}
+use Rattle.quantity.specs.rules.Angle.{PI}
+use Rattle.quantity.specs.rules.Answer.{Answer, answered, refused, Pair, first, second, Triple, triple, unless, then, addedTo, both}
+use Rattle.quantity.specs.rules.Refusal.{lower, angleRefusal}
+use Rattle.root.specs.rules.Root.{rootRule}
+use Rattle.elementary.specs.declared.Folded.{Folded}
+use Rattle.elementary.specs.rules.Fold.{fold}
+use Rattle.elementary.specs.rules.Sine.{foldedSine, foldedCosine, sineOf}
+use Rattle.elementary.specs.rules.Arctangent.{arctangentIn}
+use Rattle.elementary.specs.rules.Arcsine.{arcsineIn}
+use Rattle.precess_ecl.specs.declared.EclTurns.{EclTurns}
+use Rattle.precess_ecl.specs.declared.Leaned.{Leaned}
+use Rattle.precess.specs.rules.Days.{daysRefusal}
+use Rattle.precess_ecl.specs.rules.Ecliptic.{eclTurnsOf}
+
+-- A and B, from the inclination i and n, the node less Pi
+unfoldable pub leanedOf : Folded → Folded → EclTurns → Leaned
+leanedOf i n turns =
+    record {
+      a = foldedSine i ⊗ foldedSine n;
+      b = neg (turns .sine) ⊗ foldedCosine i ⊕ turns .cosine ⊗ foldedSine i ⊗ foldedCosine n;
+    }
+
+-- nu where the old inclination is zero, else the arcsine of the root of A·A + B·B
+unfoldable pub newInclination : Rad → Leaned → EclTurns → Answer Float
+newInclination inc l turns =
+    cond (eq (inc .0) zero) (answered (turns .nu)) (then (rootRule (l .a ⊗ l .a ⊕ l .b ⊗ l .b)) arcsineIn)
+
+-- phi + PI where the old inclination is zero, else phi + the arctangent of (A, B)
+unfoldable pub newNode : Rad → Leaned → EclTurns → Answer Float
+newNode inc l turns =
+    let phi = turns .pi ⊕ turns .rho in
+    cond (eq (inc .0) zero) (answered (phi ⊕ PI)) (addedTo phi (arctangentIn (l .a) (l .b)))
+
+-- s is the sine of the new inclination
+unfoldable pub nodeAndPerihelion : Float → Answer Float → Rad → Folded → EclTurns → Answer Pair
+nodeAndPerihelion s node perih n turns =
+    both node (addedTo (perih .0) (arcsineIn (neg (turns .sine) ⊗ foldedSine n ⊘ s)))
+
+-- 6 where the sine of the new inclination i is zero
+unfoldable pub orbitFrom : Float → Answer Float → Rad → Folded → EclTurns → Answer Triple
+orbitFrom i node perih n turns =
+    let s = sineOf (record { 0 = i }) in
+    cond (eq s zero) (refused 6)
+    (then (nodeAndPerihelion s node perih n turns) (λ (p : Pair). answered (triple i (second p) (first p))))
+
+unfoldable pub orbitIn : Rad → Rad → Rad → EclTurns → Answer Triple
+orbitIn inc perih node turns =
+    let n = fold (record { 0 = node .0 ⊖ turns .pi }) in
+    let l = leanedOf (fold inc) n turns in
+    then (newInclination inc l turns) (λ (i : Float). orbitFrom i (newNode inc l turns) perih n turns)
+
+abbrev pub orbitRefusal : Rad → Rad → Rad → Float → Float → ℕ
+orbitRefusal inc perih node day1 day2 =
+    lower (lower (angleRefusal inc) (lower (angleRefusal perih) (angleRefusal node))) (daysRefusal day1 day2)
+
+abbrev pub precessOrbElementsRule : Rad → Rad → Rad → Float → Float → Answer Triple
+precessOrbElementsRule inc perih node day1 day2 =
+    unless (orbitRefusal inc perih node day1 day2) (orbitIn inc perih node (eclTurnsOf day1 day2))
