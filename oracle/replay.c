@@ -20,6 +20,8 @@ static double number(const char *word)
     char digits[] = "0000000000000000";
     uint64_t bits;
     double x;
+    if (word == NULL)
+        return 0.0;
     memcpy(digits, word, strlen(word) < 16 ? strlen(word) : 16);
     bits = strtoull(digits, NULL, 16);
     memcpy(&x, &bits, sizeof x);
@@ -36,34 +38,137 @@ static size_t numbers(char *word, double *to, size_t room)
     return n;
 }
 
+/* ---- lists ---- */
+
+enum { ROOM = 64 };
+static uint8_t list[12 * ROOM];
+static size_t list_len;
+
+static void read_list(const char *digits)
+{
+    unsigned byte;
+    for (list_len = 0; list_len < sizeof list && sscanf(digits + 2 * list_len, "%2x", &byte) == 1; list_len++)
+        list[list_len] = (uint8_t)byte;
+}
+
+/* The next word as an integer; -1 where there is none. */
+static long long whole(void)
+{
+    char *word = strtok(NULL, " =\n");
+    return word == NULL ? -1 : (long long)strtoull(word, NULL, 10);
+}
+
+/* What a refused call must leave. */
+static const uint32_t UNTOUCHED = 0xA5A5A5A5;
+
+/* Each answers the status expected, or 999 where the call differs. */
+static unsigned star(void)
+{
+    size_t place = (size_t)whole(), next = UNTOUCHED;
+    unsigned status = (unsigned)whole();
+    uint32_t number = UNTOUCHED, asc = UNTOUCHED;
+    int32_t dec = -7;
+    int agrees = brundelak_star(list, list_len, place, &number, &asc, &dec, &next) == status;
+    if (status == 0)
+        agrees &= number == (uint32_t)whole() && asc == (uint32_t)whole() && dec == (int32_t)whole() && next == (size_t)whole();
+    else
+        agrees &= number == UNTOUCHED && asc == UNTOUCHED && dec == -7 && next == UNTOUCHED;
+    return agrees ? status : 999;
+}
+
+static unsigned sought(void)
+{
+    uint32_t number = (uint32_t)whole(), asc = UNTOUCHED;
+    unsigned status = (unsigned)whole();
+    size_t index = UNTOUCHED;
+    int32_t dec = -7;
+    int agrees = brundelak_find(list, list_len, number, &index, &asc, &dec) == status;
+    if (status == 0)
+        agrees &= index == (size_t)whole() && asc == (uint32_t)whole() && dec == (int32_t)whole();
+    else
+        agrees &= index == UNTOUCHED && asc == UNTOUCHED && dec == -7;
+    return agrees ? status : 999;
+}
+
+static unsigned batch(void)
+{
+    size_t stars = list_len / 12;
+    uint8_t statuses[ROOM], want_statuses[ROOM];
+    double asc[ROOM], dec[ROOM], want_asc[ROOM], want_dec[ROOM];
+    uint32_t tally[20], want_tally[20];
+    double day1 = number(strtok(NULL, " \n")), day2 = number(strtok(NULL, " \n"));
+    unsigned status = (unsigned)whole();
+    memset(statuses, 0xA5, sizeof statuses);
+    memset(tally, 0xA5, sizeof tally);
+    for (size_t i = 0; i < ROOM; i++)
+        asc[i] = dec[i] = -1e300;
+    memcpy(want_statuses, statuses, sizeof statuses);
+    memcpy(want_asc, asc, sizeof asc);
+    memcpy(want_dec, dec, sizeof dec);
+    memcpy(want_tally, tally, sizeof tally);
+    if (status == 0) {
+        memset(want_tally, 0, sizeof want_tally);
+        for (size_t i = 0; i < stars; i++) {
+            want_statuses[i] = (uint8_t)whole();
+            want_tally[want_statuses[i] % 20]++;
+            want_asc[i] = want_statuses[i] == 0 ? number(strtok(NULL, " \n")) : 0.0;
+            want_dec[i] = want_statuses[i] == 0 ? number(strtok(NULL, " \n")) : 0.0;
+        }
+    }
+    int agrees = brundelak_batch(list, list_len, day1, day2, statuses, stars, asc, stars, dec, stars, tally) == status
+        && memcmp(want_statuses, statuses, sizeof statuses) == 0 && memcmp(want_asc, asc, sizeof asc) == 0
+        && memcmp(want_dec, dec, sizeof dec) == 0 && memcmp(want_tally, tally, sizeof tally) == 0;
+    return agrees ? status : 999;
+}
+
+/* ---- */
+
 int main(void)
 {
-    char line[512];
+    char line[4096];
     const struct function *f = NULL;
-    unsigned calls = 0, answered = 0, refused = 0, differing = 0, seen = 0;
+    unsigned calls = 0, answered = 0, refused = 0, differing = 0, seen = 0, lists = 0;
     while (fgets(line, sizeof line, stdin) != NULL) {
         /* Numbers that nothing answers: what a refused call must leave. */
         double given[9] = {0}, expected[3] = {-1e300, -2e300, -3e300}, out[3] = {-1e300, -2e300, -3e300};
         double *const places[3] = {&out[0], &out[1], &out[2]};
+        unsigned status;
         if (line[0] == '#')
             continue;
-        if (strchr(line, '=') == NULL) {
-            f = find(strtok(line, " \n"));
+        int is_call = strchr(line, '=') != NULL;
+        char *word = strtok(line, " \n");
+        if (strcmp(word, "list") == 0) {
+            word = strtok(NULL, " \n");
+            read_list(word == NULL ? "" : word);
+            lists++;
+            continue;
+        }
+        if (!is_call) {
+            f = find(word);
             seen++;
             continue;
         }
         calls++;
-        size_t given_count = numbers(strtok(line, " \n"), given, 9);
-        char *word = strtok(NULL, " \n");
-        unsigned status = word == NULL ? 999 : (unsigned)atoi(word);
-        size_t answer_count = numbers(strtok(NULL, " \n"), expected, 3);
-        if (f == NULL || given_count != f->given || answer_count != (status == 0 ? f->answered : 0)
-            || f->f(given, places) != status || memcmp(expected, out, sizeof out) != 0)
-            differing++;
+        if (strcmp(word, "star") == 0) {
+            status = star();
+        } else if (strcmp(word, "find") == 0) {
+            status = sought();
+        } else if (strcmp(word, "batch") == 0) {
+            status = batch();
+        } else {
+            size_t given_count = numbers(word, given, 9);
+            word = strtok(NULL, " \n");
+            status = word == NULL ? 999 : (unsigned)atoi(word);
+            size_t answer_count = numbers(strtok(NULL, " \n"), expected, 3);
+            if (f == NULL || given_count != f->given || answer_count != (status == 0 ? f->answered : 0)
+                || f->f(given, places) != status || memcmp(expected, out, sizeof out) != 0)
+                status = 999;
+        }
         answered += status == 0;
-        refused += status != 0;
+        refused += status != 0 && status != 999;
+        differing += status == 999;
     }
-    printf("replay: %u calls of the Rust's sample (%u functions; %u answered, %u refused), differing %u\n",
-           calls, seen, answered, refused, differing);
-    return calls > 0 && seen == FUNCTION_COUNT && differing == 0 ? 0 : 1;
+    printf("replay: %u calls of the Rust's sample (%u functions, %u lists; %u answered, %u refused), differing %u\n",
+           calls, seen, lists, answered, refused, differing);
+    return calls > 0 && seen == FUNCTION_COUNT && lists > 0 && differing == 0 ? 0 : 1;
 }

@@ -280,6 +280,7 @@ fn kind(f: &Function, args: &[f64], status: u8, answer: &[f64]) -> Vec<bool> {
 /// For each function so many calls that the Rust answers, and so many refused by each number: of each kind one in turn.
 const ANSWERED: usize = 77;
 const REFUSED: usize = 6;
+const LISTS: u64 = 48;
 
 fn sample(n: u64) {
     println!("# What the supplied Rust answers over the port's elementary functions and helpers, and these by their rules written a second");
@@ -313,6 +314,7 @@ fn sample(n: u64) {
             }
         }
     }
+    lists::sample(LISTS);
 }
 
 fn main() {
