@@ -1,5 +1,7 @@
-//! bench NAME port|rust N: N calls (or for batch N stars of one list) of a function, of the port through its C boundary or of the supplied text with Rust's
-//! own library functions, on the same random sights.
+//! bench NAME port|rust N: N calls of a function, of the port through its C boundary or of the supplied text with Rust's own library
+//! functions, on the same random sights.
+//! bench stars LIST N: the first N stars of a list from J2000 to a night by the supplied text's chain, star by star.
+//! As many sights, or stars, are made ready whatever N is, so that the difference of two counts is the calls' own.
 extern crate astro_own as own;
 
 use own::{aberr, coords, nutation, precess};
@@ -10,19 +12,6 @@ extern "C" {
     fn brundelak_precess_eq_coords(asc: f64, dec: f64, day1: f64, day2: f64, a: *mut f64, b: *mut f64) -> u8;
     fn brundelak_nutation(day: f64, a: *mut f64, b: *mut f64) -> u8;
     fn brundelak_stell_aberr_in_eq_coords(asc: f64, dec: f64, day: f64, a: *mut f64, b: *mut f64) -> u8;
-    fn brundelak_batch(
-        bytes: *const u8,
-        len: usize,
-        day1: f64,
-        day2: f64,
-        status: *mut u8,
-        status_len: usize,
-        asc: *mut f64,
-        asc_len: usize,
-        dec: *mut f64,
-        dec_len: usize,
-        tally: *mut u32,
-    ) -> u8;
     fn brundelak_chain(asc: f64, dec: f64, day1: f64, day2: f64, a: *mut f64, b: *mut f64) -> u8;
 }
 
@@ -34,6 +23,7 @@ struct Sight {
 }
 
 const J2000: f64 = 2451545.0;
+const SIGHTS: usize = 600;
 
 /// The chain, composed of the supplied functions.
 fn chain(s: &Sight) -> f64 {
@@ -89,46 +79,44 @@ fn work(name: &str, side: &str) -> fn(&Sight) -> f64 {
     }
 }
 
-/// The stars of one night: the port's batch over their list, or the Rust's chain at each.
-fn night(side: &str, stars: &[Sight]) -> f64 {
-    let n = stars.len();
-    let day = stars[0].day;
-    if side != "port" {
-        return stars.iter().map(|s| chain(&Sight { day: day, ..*s })).sum();
-    }
-    let (mut bytes, mut status, mut asc, mut dec, mut tally) = (vec![], vec![0; n], vec![0.0; n], vec![0.0; n], [0; 20]);
-    for s in stars {
-        let words = [0, (s.asc / 6.28 * 1295000000.0) as u32, (s.dec / 1.4 * 288000000.0) as i32 as u32];
-        bytes.extend(words.iter().flat_map(|w| (0..4).map(move |k| (w >> (8 * k)) as u8)));
-    }
-    let answer = unsafe {
-        brundelak_batch(bytes.as_ptr(), bytes.len(), J2000, day, status.as_mut_ptr(), n, asc.as_mut_ptr(), n, dec.as_mut_ptr(), n,
-            tally.as_mut_ptr())
-    };
-    assert_eq!((answer, tally[0] as usize), (0, n));
-    asc.iter().sum::<f64>() + dec.iter().sum::<f64>()
+/// The stars of a list on one night.
+fn stars(path: &str) -> Vec<Sight> {
+    let bytes = std::fs::read(path).unwrap();
+    let word = |at: usize| (0..4).map(|k| (bytes[at + k] as u32) << (8 * k)).sum::<u32>();
+    (0..bytes.len() / 12)
+        .map(|i| Sight {
+            asc: (word(12 * i + 4) as f64 / 3600000.0).to_radians(),
+            dec: (word(12 * i + 8) as i32 as f64 / 3600000.0).to_radians(),
+            lat: 0.0,
+            day: 2462088.69,
+        })
+        .collect()
 }
 
-fn main() {
-    let args: Vec<String> = std::env::args().collect();
-    let n: u32 = args[3].parse().unwrap();
+/// Random sights, always the same.
+fn sights() -> Vec<Sight> {
     let mut state = 1u64;
     let mut part = || {
         state = state.wrapping_mul(6364136223846793005).wrapping_add(1442695040888963407);
         (state >> 11) as f64 / 9007199254740992.0
     };
-    let sights: Vec<Sight> = (0..n)
+    (0..SIGHTS)
         .map(|_| Sight {
             asc: 6.28 * part(),
             dec: 2.8 * part() - 1.4,
             lat: 2.8 * part() - 1.4,
             day: J2000 + 73050.0 * (part() - 0.5),
         })
-        .collect();
-    let total = if args[1] == "batch" {
-        night(&args[2], &sights)
-    } else {
-        sights.iter().map(work(&args[1], &args[2])).sum()
+        .collect()
+}
+
+fn main() {
+    let args: Vec<String> = std::env::args().collect();
+    let n: usize = args[3].parse().unwrap();
+    let (ready, call) = match args[1].as_str() {
+        "stars" => (stars(&args[2]), chain as fn(&Sight) -> f64),
+        name => (sights(), work(name, &args[2])),
     };
+    let total: f64 = ready[..n].iter().map(call).sum();
     println!("{}", total);
 }

@@ -1,83 +1,174 @@
-/* Replays oracle/sample on standard input: calls, each with what the supplied Rust answers, in bits. A line holds the
- * function, its arguments, =, the status and the numbers answered. Prints how many agree; fails unless all do. */
+/* Replays oracle/sample on standard input: calls, each with what the supplied Rust answers, in bits. Prints how many differ; fails
+ * where one does, or where the sample is damaged. */
 #include <inttypes.h>
 #include <stdio.h>
+#include <stdlib.h>
 #include <string.h>
-#include "brundelak.h"
+#include "functions.h"
 
-typedef uint8_t call(const double *a, double *o);
-
-/* The function as a call on its numbers and its places. */
-#define CALL(name, ...) \
-    static uint8_t name(const double *a, double *o) { return brundelak_##name(__VA_ARGS__); }
-#define A1 a[0]
-#define A2 A1, a[1]
-#define A3 A2, a[2]
-#define A4 A3, a[3]
-#define A5 A4, a[4]
-#define A7 A5, a[5], a[6]
-#define A9 A7, a[7], a[8]
-#define O1 o
-#define O2 o, o + 1
-#define O3 o, o + 1, o + 2
-
-#define FUNCTIONS(F) \
-    F(sine, A1, O1) F(cosine, A1, O1) F(tangent, A1, O1) F(arctangent, A2, O1) F(arcsine, A1, O1) F(root, A1, O1) \
-    F(deg_frm_dms, A1, O1) F(deg_frm_hms, A1, O1) F(to_radians, A1, O1) F(limit_to_360, A1, O1) \
-    F(limit_to_two_pi, A1, O1) F(julian_cent, A1, O1) F(rho_sin_cos_phi, A2, O2) \
-    F(hr_angl_frm_observer_long, A3, O1) F(hr_angl_frm_loc_sidr, A2, O1) F(ecl_long_frm_eq, A3, O1) \
-    F(ecl_lat_frm_eq, A3, O1) F(asc_frm_ecl, A3, O1) F(dec_frm_ecl, A3, O1) F(az_frm_eq, A3, O1) \
-    F(alt_frm_eq, A3, O1) F(hr_angl_frm_hz, A3, O1) F(dec_frm_hz, A3, O1) F(gal_long_frm_eq, A2, O1) \
-    F(gal_lat_frm_eq, A2, O1) F(asc_frm_gal, A2, O1) F(annual_precess, A3, O2) F(precess_eq_coords, A4, O2) \
-    F(precess_eq_coords_fk5, A4, O2) F(precess_ecl_coords, A4, O2) F(precess_orb_elements, A5, O3) \
-    F(nutation, A1, O2) F(nutation_in_eq_coords, A5, O2) F(sol_aberr, A1, O1) \
-    F(stell_aberr_in_eq_coords, A3, O2) F(eq_hz_parallax, A1, O1) F(topocent_eq_coords, A7, O2) \
-    F(topopcent_ecl_coords, A9, O3) F(chain, A4, O2)
-
-#define DEFINE(name, given, answered) CALL(name, given, answered)
-FUNCTIONS(DEFINE)
-
-#define ENTRY(name, given, answered) {#name, name},
-static const struct { const char *name; call *f; } functions[] = {FUNCTIONS(ENTRY)};
-
-static call *find(const char *name)
+static const struct function *find(const char *name)
 {
-    for (size_t i = 0; i < sizeof functions / sizeof *functions; i++)
+    for (size_t i = 0; i < FUNCTION_COUNT; i++)
         if (strcmp(functions[i].name, name) == 0)
-            return functions[i].f;
+            return &functions[i];
     return NULL;
 }
 
-/* Reads numbers in bits up to = or the end of the line. */
-static size_t numbers(double *to, size_t room)
+/* Bits in hexadecimal, without the zeros at the end. */
+static double number(const char *word)
+{
+    char digits[] = "0000000000000000";
+    uint64_t bits;
+    double x;
+    if (word == NULL)
+        return 0.0;
+    memcpy(digits, word, strlen(word) < 16 ? strlen(word) : 16);
+    bits = strtoull(digits, NULL, 16);
+    memcpy(&x, &bits, sizeof x);
+    return x;
+}
+
+/* Numbers up to = or the end of the line; their count. */
+static size_t numbers(char *word, double *to, size_t room)
 {
     size_t n = 0;
-    char *word;
-    while ((word = strtok(NULL, " \n")) != NULL && strcmp(word, "=") != 0 && n < room) {
-        uint64_t bits = 0;
-        sscanf(word, "%" SCNx64, &bits);
-        memcpy(&to[n++], &bits, sizeof bits);
-    }
+    for (; word != NULL && strcmp(word, "=") != 0; word = strtok(NULL, " \n"))
+        if (n < room)
+            to[n++] = number(word);
     return n;
 }
 
+/* ---- lists ---- */
+
+enum { ROOM = 64 };
+static uint8_t list[12 * ROOM];
+static size_t list_len;
+
+static void read_list(const char *digits)
+{
+    unsigned byte;
+    for (list_len = 0; list_len < sizeof list && sscanf(digits + 2 * list_len, "%2x", &byte) == 1; list_len++)
+        list[list_len] = (uint8_t)byte;
+}
+
+/* The next word as an integer; -1 where there is none. */
+static long long whole(void)
+{
+    char *word = strtok(NULL, " =\n");
+    return word == NULL ? -1 : (long long)strtoull(word, NULL, 10);
+}
+
+/* What a refused call must leave. */
+static const uint32_t UNTOUCHED = 0xA5A5A5A5;
+
+/* Each answers the status expected, or 999 where the call differs. */
+static unsigned star(void)
+{
+    size_t place = (size_t)whole(), next = UNTOUCHED;
+    unsigned status = (unsigned)whole();
+    uint32_t number = UNTOUCHED, asc = UNTOUCHED;
+    int32_t dec = -7;
+    int agrees = brundelak_star(list, list_len, place, &number, &asc, &dec, &next) == status;
+    if (status == 0)
+        agrees &= number == (uint32_t)whole() && asc == (uint32_t)whole() && dec == (int32_t)whole() && next == (size_t)whole();
+    else
+        agrees &= number == UNTOUCHED && asc == UNTOUCHED && dec == -7 && next == UNTOUCHED;
+    return agrees ? status : 999;
+}
+
+static unsigned sought(void)
+{
+    uint32_t number = (uint32_t)whole(), asc = UNTOUCHED;
+    unsigned status = (unsigned)whole();
+    size_t index = UNTOUCHED;
+    int32_t dec = -7;
+    int agrees = brundelak_find(list, list_len, number, &index, &asc, &dec) == status;
+    if (status == 0)
+        agrees &= index == (size_t)whole() && asc == (uint32_t)whole() && dec == (int32_t)whole();
+    else
+        agrees &= index == UNTOUCHED && asc == UNTOUCHED && dec == -7;
+    return agrees ? status : 999;
+}
+
+static unsigned batch(void)
+{
+    size_t stars = list_len / 12;
+    uint8_t statuses[ROOM], want_statuses[ROOM];
+    double asc[ROOM], dec[ROOM], want_asc[ROOM], want_dec[ROOM];
+    uint32_t tally[20], want_tally[20];
+    double day1 = number(strtok(NULL, " \n")), day2 = number(strtok(NULL, " \n"));
+    unsigned status = (unsigned)whole();
+    memset(statuses, 0xA5, sizeof statuses);
+    memset(tally, 0xA5, sizeof tally);
+    for (size_t i = 0; i < ROOM; i++)
+        asc[i] = dec[i] = -1e300;
+    memcpy(want_statuses, statuses, sizeof statuses);
+    memcpy(want_asc, asc, sizeof asc);
+    memcpy(want_dec, dec, sizeof dec);
+    memcpy(want_tally, tally, sizeof tally);
+    if (status == 0) {
+        memset(want_tally, 0, sizeof want_tally);
+        for (size_t i = 0; i < stars; i++) {
+            want_statuses[i] = (uint8_t)whole();
+            want_tally[want_statuses[i] % 20]++;
+            want_asc[i] = want_statuses[i] == 0 ? number(strtok(NULL, " \n")) : 0.0;
+            want_dec[i] = want_statuses[i] == 0 ? number(strtok(NULL, " \n")) : 0.0;
+        }
+    }
+    int agrees = brundelak_batch(list, list_len, day1, day2, statuses, stars, asc, stars, dec, stars, tally) == status
+        && memcmp(want_statuses, statuses, sizeof statuses) == 0 && memcmp(want_asc, asc, sizeof asc) == 0
+        && memcmp(want_dec, dec, sizeof dec) == 0 && memcmp(want_tally, tally, sizeof tally) == 0;
+    return agrees ? status : 999;
+}
+
+/* ---- */
+
 int main(void)
 {
-    char line[512];
-    unsigned calls = 0, agreeing = 0, status;
+    char line[4096];
+    const struct function *f = NULL;
+    unsigned calls = 0, answered = 0, refused = 0, differing = 0, seen = 0, lists = 0;
     while (fgets(line, sizeof line, stdin) != NULL) {
         /* Numbers that nothing answers: what a refused call must leave. */
         double given[9] = {0}, expected[3] = {-1e300, -2e300, -3e300}, out[3] = {-1e300, -2e300, -3e300};
-        call *f = find(strtok(line, " \n"));
-        numbers(given, 9);
-        char *word = strtok(NULL, " \n");
-        calls++;
-        if (f == NULL || word == NULL || sscanf(word, "%u", &status) != 1)
+        double *const places[3] = {&out[0], &out[1], &out[2]};
+        unsigned status;
+        if (line[0] == '#')
             continue;
-        numbers(expected, 3);
-        if (f(given, out) == status && memcmp(expected, out, sizeof out) == 0)
-            agreeing++;
+        int is_call = strchr(line, '=') != NULL;
+        char *word = strtok(line, " \n");
+        if (strcmp(word, "list") == 0) {
+            word = strtok(NULL, " \n");
+            read_list(word == NULL ? "" : word);
+            lists++;
+            continue;
+        }
+        if (!is_call) {
+            f = find(word);
+            seen++;
+            continue;
+        }
+        calls++;
+        if (strcmp(word, "star") == 0) {
+            status = star();
+        } else if (strcmp(word, "find") == 0) {
+            status = sought();
+        } else if (strcmp(word, "batch") == 0) {
+            status = batch();
+        } else {
+            size_t given_count = numbers(word, given, 9);
+            word = strtok(NULL, " \n");
+            status = word == NULL ? 999 : (unsigned)atoi(word);
+            size_t answer_count = numbers(strtok(NULL, " \n"), expected, 3);
+            if (f == NULL || given_count != f->given || answer_count != (status == 0 ? f->answered : 0)
+                || f->f(given, places) != status || memcmp(expected, out, sizeof out) != 0)
+                status = 999;
+        }
+        answered += status == 0;
+        refused += status != 0 && status != 999;
+        differing += status == 999;
     }
-    printf("replay: %u calls of the Rust's sample, %u agreeing\n", calls, agreeing);
-    return calls > 0 && calls == agreeing ? 0 : 1;
+    printf("replay: %u calls of the Rust's sample (%u functions, %u lists; %u answered, %u refused), differing %u\n",
+           calls, seen, lists, answered, refused, differing);
+    return calls > 0 && seen == FUNCTION_COUNT && lists > 0 && differing == 0 ? 0 : 1;
 }

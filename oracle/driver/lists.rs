@@ -93,6 +93,15 @@ fn reduced(r: Record, day1: f64, day2: f64) -> (u8, f64, f64) {
     }
 }
 
+/// What a batch answers as a whole.
+fn batch_status(bytes: &[u8], lens: [usize; 3], (day1, day2): (f64, f64)) -> u8 {
+    match (1..3).find(|&n| refuses(n, Sort::Day, day1) || refuses(n, Sort::Day, day2)) {
+        Some(n) => n,
+        None if bad_list(bytes) || lens.iter().any(|&l| l < bytes.len() / 12) => 8,
+        None => 0,
+    }
+}
+
 // ---- inputs
 
 /// Two days: most often good ones, and the same as the last.
@@ -150,16 +159,29 @@ fn list(r: &mut Random, day1: f64, day2: f64) -> Vec<u8> {
     bytes
 }
 
-// ---- the comparison
-
-fn compare_star(r: &mut Random, bytes: &[u8], count: &mut Count) {
-    let place = match r.below(8) {
+/// A place in a list, or none.
+fn a_place(r: &mut Random, bytes: &[u8]) -> usize {
+    match r.below(8) {
         0 => bytes.len(),
         1 => bytes.len() + r.below(30),
         2 => [!0, !0 - 3, !0 - 11, 1 << 63][r.below(4)],
         3 => r.below(bytes.len() + 2),
         _ => 12 * r.below(bytes.len() / 12 + 1),
-    };
+    }
+}
+
+/// A number to be sought.
+fn a_number(r: &mut Random, bytes: &[u8]) -> u32 {
+    match r.below(4) {
+        0 => r.bits() as u32,
+        _ => r.below(bytes.len() / 6 + 1) as u32,
+    }
+}
+
+// ---- the comparison
+
+fn compare_star(r: &mut Random, bytes: &[u8], count: &mut Count) {
+    let place = a_place(r, bytes);
     let (expected, shown) = star(bytes, place);
     let kept = (Record { number: 0xA5A5A5A5, asc: 0x5A5A5A5A, dec: -7 }, 0x1234567);
     let (mut one, mut next) = kept;
@@ -171,10 +193,7 @@ fn compare_star(r: &mut Random, bytes: &[u8], count: &mut Count) {
 }
 
 fn compare_find(r: &mut Random, bytes: &[u8], count: &mut Count) {
-    let number = match r.below(4) {
-        0 => r.bits() as u32,
-        _ => r.below(bytes.len() / 6 + 1) as u32,
-    };
+    let number = a_number(r, bytes);
     let (expected, found) = find(bytes, number);
     let kept = (0x1234567, Record { number: number, asc: 0x5A5A5A5A, dec: -7 });
     let (mut index, mut one) = kept;
@@ -200,11 +219,7 @@ fn room(r: &mut Random, stars: usize) -> usize {
 
 fn compare_batch(bytes: &[u8], lens: [usize; 3], (day1, day2): (f64, f64), count: &mut Count, statuses: &mut Count) {
     let stars = bytes.len() / 12;
-    let day_refusal = (1..3).find(|&n| refuses(n, Sort::Day, day1) || refuses(n, Sort::Day, day2)).unwrap_or(0);
-    let expected = match day_refusal {
-        0 if bad_list(bytes) || lens.iter().any(|&l| l < stars) => 8,
-        n => n,
-    };
+    let expected = batch_status(bytes, lens, (day1, day2));
     let mut want = (lent(lens[0], 0xA5u8), lent(lens[1], -1e300), lent(lens[2], -2e300), [0xA5A5A5A5u32; 22]);
     let mut got = want.clone();
     if expected == 0 {
@@ -283,4 +298,35 @@ pub fn compare(n: u64) -> (u64, u64) {
     }
     let calls = stars.calls + finds.calls + batches.calls;
     (calls, stars.differing + finds.differing + batches.differing + !all as u64)
+}
+
+/// The sample's lists: of each some stars shown, some sought, and all in a batch.
+pub fn sample(n: u64) {
+    println!("# A list in hexadecimal, then calls on it: star PLACE = status, number, right ascension, declination, next place;");
+    println!("# find NUMBER = status, index, right ascension, declination; batch DAY DAY = status, each star's status, angles if it is 0.");
+    let mut r = Random(::SEED);
+    let mut both = (2451545.0, 2462088.69);
+    for _ in 0..n {
+        both = days(&mut r, both);
+        let bytes = list(&mut r, both.0, both.1);
+        let digits: String = bytes.iter().map(|b| format!("{:02x}", b)).collect();
+        println!("list {}", digits);
+        for _ in 0..4 {
+            let place = a_place(&mut r, &bytes);
+            let (status, shown) = star(&bytes, place);
+            let answer = shown.map_or(String::new(), |(one, next)| format!(" {} {} {} {}", one.number, one.asc, one.dec, next));
+            println!("star {} = {}{}", place, status, answer);
+            let number = a_number(&mut r, &bytes);
+            let (status, found) = find(&bytes, number);
+            let answer = found.map_or(String::new(), |(index, one)| format!(" {} {} {}", index, one.asc, one.dec));
+            println!("find {} = {}{}", number, status, answer);
+        }
+        let status = batch_status(&bytes, [bytes.len() / 12; 3], both);
+        let mut answer = String::new();
+        for i in 0..if status == 0 { bytes.len() / 12 } else { 0 } {
+            let (status, asc, dec) = reduced(Record::at(&bytes, 12 * i), both.0, both.1);
+            answer += &format!(" {}{}", status, if status == 0 { ::hex(&[asc, dec]) } else { String::new() });
+        }
+        println!("batch{} = {}{}", ::hex(&[both.0, both.1]), status, answer);
+    }
 }

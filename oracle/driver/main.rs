@@ -2,7 +2,7 @@
 //!   driver compare N      N calls a function, bit for bit, refusals against section 5's table
 //!   driver fuzz N         N calls in all, any bits at every function: it ends, and writes what it answers and nothing else
 //!   driver gaps N         the widest gap between the port and Rust's own library functions, as a table
-//!   driver sample N       what the Rust answers to some of N calls a function, a line for each
+//!   driver sample N       what the Rust answers to some of N calls a function of each kind, a line for each
 extern crate astro_own as own;
 extern crate astro_routed as routed;
 
@@ -252,28 +252,69 @@ fn gaps(n: u64) {
     }
 }
 
+/// Bits in hexadecimal, without the zeros at the end.
 fn hex(xs: &[f64]) -> String {
-    let words: Vec<String> = xs.iter().map(|x| format!(" {:016x}", x.to_bits())).collect();
+    let words: Vec<String> = xs
+        .iter()
+        .map(|x| match format!("{:016x}", x.to_bits()).trim_end_matches('0') {
+            "" => " 0".to_string(),
+            digits => format!(" {}", digits),
+        })
+        .collect();
     words.concat()
 }
 
-/// For each function the first sixteen calls that the Rust answers, and the first three refused by each number.
+/// What tells one call of a status from another: for an answer the signs of all numbers, the zeros, the answers' quadrants and whether
+/// an argument is a limit; for a refusal the arguments that meet it.
+fn kind(f: &Function, args: &[f64], status: u8, answer: &[f64]) -> Vec<bool> {
+    if status != 0 {
+        return f.sorts.iter().zip(args).map(|(&s, &x)| table::refuses(status, s, x)).collect();
+    }
+    let at_limit = f.sorts.iter().zip(args).any(|(&s, &x)| table::limits(s).iter().any(|l| l.abs() == x.abs()));
+    let mut kind: Vec<bool> = args.iter().chain(answer).map(|x| x.is_sign_negative()).collect();
+    kind.extend(answer.iter().flat_map(|&x| vec![x == 0.0, x.abs() > std::f64::consts::FRAC_PI_2]));
+    kind.extend(&[args.iter().any(|&x| x == 0.0), at_limit]);
+    kind
+}
+
+/// For each function so many calls that the Rust answers, and so many refused by each number: of each kind one in turn.
+const ANSWERED: usize = 77;
+const REFUSED: usize = 6;
+const LISTS: u64 = 48;
+
 fn sample(n: u64) {
+    println!("# What the supplied Rust answers over the port's elementary functions and helpers, and these by their rules written a second");
+    println!("# time; made by oracle/run --sample. A function's name, then its calls: arguments, =, status, answer. A double is its bits in");
+    println!("# hexadecimal, without the zeros at the end.");
     for f in functions::all() {
+        println!("{}", f.name.trim_start_matches("brundelak_"));
         let (mut r, mut args) = stream(&f);
-        let mut taken = [0; 256];
+        // By status, kinds in the order met, and of each its calls.
+        let mut met: Vec<Vec<(Vec<bool>, Vec<String>)>> = (0..256).map(|_| vec![]).collect();
         for _ in 0..n {
             args = inputs::next(&mut r, f.name, f.sorts, &args);
             let (status, answer) = match outcome_of(&f, &args) {
                 Outcome::Answer(xs) => (0, xs),
-                Outcome::Refused(n) => (n as usize, vec![]),
+                Outcome::Refused(n) => (n, vec![]),
             };
-            taken[status] += 1;
-            if taken[status] <= if status == 0 { 16 } else { 3 } {
-                println!("{}{} = {}{}", f.name.trim_start_matches("brundelak_"), hex(&args), status, hex(&answer));
+            let kind = kind(&f, &args, status, &answer);
+            let line = format!("{} = {}{}", hex(&args).trim_start(), status, hex(&answer));
+            let kinds = &mut met[status as usize];
+            match kinds.iter().position(|k| k.0 == kind) {
+                Some(i) if kinds[i].1.contains(&line) => {}
+                Some(i) => kinds[i].1.push(line),
+                None => kinds.push((kind, vec![line])),
+            }
+        }
+        for (status, kinds) in met.iter().enumerate() {
+            let rounds = kinds.iter().map(|k| k.1.len()).max().unwrap_or(0);
+            let turns = (0..rounds).flat_map(|i| kinds.iter().filter_map(move |k| k.1.get(i)));
+            for line in turns.take(if status == 0 { ANSWERED } else { REFUSED }) {
+                println!("{}", line);
             }
         }
     }
+    lists::sample(LISTS);
 }
 
 fn main() {

@@ -1,0 +1,148 @@
+/* night WHAT LIST STARS NIGHTS: the first stars of a list from J2000 to each of some nights, by the batch, by the chain star by star, or
+ * by another library where it is compiled in. Whatever the counts, the same list is read and as many places are added up, so that the
+ * difference of two counts is the work's own.
+ * night WHAT LIST apart: the widest distance of its places from the chain's, in seconds of arc, over all stars of the first night. */
+#include <math.h>
+#include <stdint.h>
+#include <stdio.h>
+#include <stdlib.h>
+#include <string.h>
+#include "brundelak.h"
+#ifdef WITH_ERFA
+#include <erfa.h>
+#endif
+#ifdef WITH_NOVA
+#include <libnova/aberration.h>
+#include <libnova/nutation.h>
+#include <libnova/precession.h>
+#endif
+
+enum { ROOM = 5000 };
+static const double J2000 = 2451545.0, FIRST_NIGHT = 2462088.69, RADIAN = 3.14159265358979323846 / 180.0;
+
+static uint8_t bytes[12 * ROOM], status[ROOM];
+static double given_asc[ROOM], given_dec[ROOM], asc[ROOM], dec[ROOM];
+
+static void batch(size_t stars, double day)
+{
+    uint32_t tally[20];
+    if (brundelak_batch(bytes, 12 * stars, J2000, day, status, stars, asc, stars, dec, stars, tally) != 0 || tally[0] != stars)
+        exit(1);
+}
+
+static void chain(size_t stars, double day)
+{
+    for (size_t i = 0; i < stars; i++)
+        if (brundelak_chain(given_asc[i], given_dec[i], J2000, day, &asc[i], &dec[i]) != 0)
+            exit(1);
+}
+
+#ifdef WITH_ERFA
+/* What the day fixes once; eo turns the right ascension from ERFA's origin to the equinox. */
+static void erfa_quick(size_t stars, double day)
+{
+    eraASTROM night;
+    double from_origin, eo;
+    eraApci13(day, 0.0, &night, &eo);
+    for (size_t i = 0; i < stars; i++) {
+        eraAtciqz(given_asc[i], given_dec[i], &night, &from_origin, &dec[i]);
+        asc[i] = eraAnp(from_origin - eo);
+    }
+}
+
+static void erfa_full(size_t stars, double day)
+{
+    double from_origin, eo;
+    for (size_t i = 0; i < stars; i++) {
+        eraAtci13(given_asc[i], given_dec[i], 0.0, 0.0, 0.0, 0.0, day, 0.0, &from_origin, &dec[i], &eo);
+        asc[i] = eraAnp(from_origin - eo);
+    }
+}
+#endif
+
+#ifdef WITH_NOVA
+/* libnova has no nutation of a place: its angles are applied to first order, as the chain does. Degrees in and out. */
+static void nova(size_t stars, double day)
+{
+    struct ln_nutation n;
+    ln_get_nutation(day, &n);
+    double sin_oblq = sin(n.ecliptic * RADIAN), cos_oblq = cos(n.ecliptic * RADIAN);
+    for (size_t i = 0; i < stars; i++) {
+        struct ln_equ_posn star = {given_asc[i] / RADIAN, given_dec[i] / RADIAN}, moved, seen;
+        ln_get_equ_prec2(&star, J2000, day, &moved);
+        ln_get_equ_aber(&moved, day, &seen);
+        double a = moved.ra * RADIAN, sin_a = sin(a), cos_a = cos(a), tan_d = tan(moved.dec * RADIAN);
+        asc[i] = (seen.ra + (cos_oblq + sin_oblq * sin_a * tan_d) * n.longitude - cos_a * tan_d * n.obliquity) * RADIAN;
+        dec[i] = (seen.dec + sin_oblq * cos_a * n.longitude + sin_a * n.obliquity) * RADIAN;
+    }
+}
+#endif
+
+static const struct { const char *name; void (*work)(size_t, double); } works[] = {
+    {"batch", batch},
+    {"chain", chain},
+#ifdef WITH_ERFA
+    {"erfa_quick", erfa_quick},
+    {"erfa_full", erfa_full},
+#endif
+#ifdef WITH_NOVA
+    {"nova", nova},
+#endif
+};
+
+static uint32_t word(size_t at)
+{
+    return bytes[at] | (uint32_t)bytes[at + 1] << 8 | (uint32_t)bytes[at + 2] << 16 | (uint32_t)bytes[at + 3] << 24;
+}
+
+static double squared(double x)
+{
+    return x * x;
+}
+
+static double widest(void (*work)(size_t, double))
+{
+    static double other_asc[ROOM], other_dec[ROOM];
+    double wide = 0.0;
+    work(ROOM, FIRST_NIGHT);
+    memcpy(other_asc, asc, sizeof asc);
+    memcpy(other_dec, dec, sizeof dec);
+    chain(ROOM, FIRST_NIGHT);
+    for (size_t i = 0; i < ROOM; i++) {
+        double h = squared(sin((dec[i] - other_dec[i]) / 2.0))
+            + cos(dec[i]) * cos(other_dec[i]) * squared(sin((asc[i] - other_asc[i]) / 2.0));
+        wide = fmax(wide, 2.0 * asin(sqrt(h)) / RADIAN * 3600.0);
+    }
+    return wide;
+}
+
+int main(int argc, char **argv)
+{
+    FILE *list = argc == 4 || argc == 5 ? fopen(argv[2], "rb") : NULL;
+    if (list == NULL || fread(bytes, 1, sizeof bytes, list) != sizeof bytes)
+        return 1;
+    /* atoi's work grows with the digits: counts to be compared have as many. */
+    size_t stars = (size_t)atoi(argv[3]), nights = argc == 5 ? (size_t)atoi(argv[4]) : 0;
+    if (stars > ROOM)
+        return 1;
+    for (size_t i = 0; i < ROOM; i++) {
+        given_asc[i] = word(12 * i + 4) / 3600000.0 * RADIAN;
+        given_dec[i] = (int32_t)word(12 * i + 8) / 3600000.0 * RADIAN;
+    }
+    for (size_t w = 0; w < sizeof works / sizeof *works; w++) {
+        if (strcmp(works[w].name, argv[1]) != 0)
+            continue;
+        if (strcmp(argv[3], "apart") == 0) {
+            printf("%.3f\n", widest(works[w].work));
+            return 0;
+        }
+        for (size_t k = 0; k < nights; k++)
+            works[w].work(stars, FIRST_NIGHT + (double)k);
+        double sum = 0.0;
+        for (size_t i = 0; i < ROOM; i++)
+            sum += asc[i] + dec[i];
+        printf("%.6f\n", sum);
+        return 0;
+    }
+    return 1;
+}

@@ -1,0 +1,63 @@
+/* Three functions, each put in the place of the archive's by the linker, with one slip of the boundary: fuzz must report each. */
+#include "brundelak.h"
+
+uint8_t __real_brundelak_root(double x, double *out);
+uint8_t __real_brundelak_find(const uint8_t *bytes, size_t len, uint32_t number, size_t *index, uint32_t *asc, int32_t *dec);
+uint8_t __real_brundelak_batch(const uint8_t *bytes, size_t len, double day1, double day2, uint8_t *status, size_t status_len,
+                               double *asc, size_t asc_len, double *dec, size_t dec_len, uint32_t *tally);
+uint8_t __wrap_brundelak_root(double x, double *out);
+uint8_t __wrap_brundelak_find(const uint8_t *bytes, size_t len, uint32_t number, size_t *index, uint32_t *asc, int32_t *dec);
+uint8_t __wrap_brundelak_batch(const uint8_t *bytes, size_t len, double day1, double day2, uint8_t *status, size_t status_len,
+                               double *asc, size_t asc_len, double *dec, size_t dec_len, uint32_t *tally);
+
+uint8_t __wrap_brundelak_root(double x, double *out)
+{
+    uint8_t status = __real_brundelak_root(x, out);
+#if SLIP == 1 /* a refusal that writes */
+    if (status == 5)
+        *out = 0.0;
+#elif SLIP == 2 /* a float too many */
+    if (status == 0)
+        out[1] = 0.0;
+#elif SLIP == 3 /* a byte before */
+    if (status == 0)
+        ((uint8_t *)out)[-1] ^= 1;
+#elif SLIP == 4 /* an answer that is no number */
+    if (status == 0 && x < 1.0)
+        *out = (x - x) / (x - x);
+#endif
+    return status;
+}
+
+uint8_t __wrap_brundelak_find(const uint8_t *bytes, size_t len, uint32_t number, size_t *index, uint32_t *asc, int32_t *dec)
+{
+    uint8_t status = __real_brundelak_find(bytes, len, number, index, asc, dec);
+#if SLIP == 5 /* a byte read past the list */
+    if (((const volatile uint8_t *)bytes)[len] == 1)
+        return 8;
+#elif SLIP == 6 /* a status that is none */
+    if (status == 10)
+        return 11;
+#elif SLIP == 7 /* the index of the next star */
+    if (status == 0)
+        ++*index;
+#endif
+    return status;
+}
+
+uint8_t __wrap_brundelak_batch(const uint8_t *bytes, size_t len, double day1, double day2, uint8_t *status, size_t status_len,
+                               double *asc, size_t asc_len, double *dec, size_t dec_len, uint32_t *tally)
+{
+    uint8_t answer = __real_brundelak_batch(bytes, len, day1, day2, status, status_len, asc, asc_len, dec, dec_len, tally);
+#if SLIP == 8 /* the place past the stars is cleared */
+    if (answer == 0 && status_len > len / 12)
+        status[len / 12] = 0;
+#elif SLIP == 9 /* a tally begun before the refusal */
+    if (answer == 8)
+        tally[0] = 0;
+#elif SLIP == 10 /* a record mended in the list */
+    if (answer == 0 && len > 0)
+        ((uint8_t *)bytes)[len - 1] &= 0x7F;
+#endif
+    return answer;
+}

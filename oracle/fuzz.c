@@ -1,0 +1,394 @@
+/* fuzz N [SEED]: N calls in all at every function, any bits and any bytes, lengths and places at their limits. It needs no Rust.
+ * What is lent lies against a page that nobody may touch, on one side or the other, with canaries on the free side: a byte read or
+ * written past it on the one side ends the program, one written on the other is seen. Checked after each call: canaries and given
+ * bytes kept; a status that the function has; after a refusal all that is lent kept, after an answer each number finite. */
+#define _GNU_SOURCE
+#include <inttypes.h>
+#include <math.h>
+#include <signal.h>
+#include <stdio.h>
+#include <stdlib.h>
+#include <string.h>
+#include <sys/mman.h>
+#include <sys/wait.h>
+#include <unistd.h>
+#include "functions.h"
+
+/* ---- random numbers (splitmix64) ---- */
+
+static uint64_t state;
+
+static uint64_t bits(void)
+{
+    uint64_t z = state += 0x9E3779B97F4A7C15;
+    z = (z ^ z >> 30) * 0xBF58476D1CE4E5B9;
+    z = (z ^ z >> 27) * 0x94D049BB133111EB;
+    return z ^ z >> 31;
+}
+
+static size_t below(size_t n)
+{
+    return (size_t)(bits() % n);
+}
+
+static double as_double(uint64_t b)
+{
+    double x;
+    memcpy(&x, &b, sizeof x);
+    return x;
+}
+
+/* Any bits, limits and doubles beside them, or small enough to be answered. */
+static double any_double(void)
+{
+    static const double at[] = {0.0, 64.0, 1.57, 1.5707963267948966, 400000.0, 1.0, 0.0001, 1000000.0, -1000.0, 100000.0,
+                                1721045.0, 3182045.0, 2451545.0, 360.0, 6.283185307179586, 1e-310, INFINITY, NAN};
+    double x;
+    uint64_t b;
+    switch (below(8)) {
+    case 0:
+        return as_double(bits());
+    case 1:
+        x = at[below(sizeof at / sizeof *at)];
+        memcpy(&b, &x, sizeof b);
+        return as_double((b + below(3) - (b == 0 ? 0 : 1)) ^ (bits() & 1) << 63);
+    case 2:
+        return 1721045.0 + (double)(bits() >> 11) / 9007199254740992.0 * 1461000.0;
+    case 3:
+        return as_double(bits() & 0xBFFFFFFFFFFFFFFF);
+    default:
+        return ((double)(bits() >> 11) / 9007199254740992.0 - 0.5) * 3.14;
+    }
+}
+
+static double any_day(void)
+{
+    return below(8) == 0 ? any_double() : 1721045.0 + (double)(bits() >> 11) / 9007199254740992.0 * 1461000.0;
+}
+
+/* ---- guarded memory ---- */
+
+enum { NEAR = 64 };
+static const uint8_t canary[8] = {0xA1, 0x5B, 0xC3, 0x2D, 0xE5, 0x97, 0xF7, 0x7F};
+/* Room between two pages that nobody may touch; what is lent lies at its start or at its end. */
+struct room { uint8_t *start, *at, *kept; size_t size, len; };
+
+static void make(struct room *r, size_t size)
+{
+    size_t page = (size_t)sysconf(_SC_PAGESIZE);
+    r->size = (size + NEAR + page - 1) / page * page;
+    uint8_t *all = mmap(NULL, r->size + 2 * page, PROT_NONE, MAP_PRIVATE | MAP_ANONYMOUS, -1, 0);
+    r->start = all + page;
+    r->kept = malloc(r->size);
+    if (all == MAP_FAILED || r->kept == NULL || mprotect(r->start, r->size, PROT_READ | PROT_WRITE) != 0) {
+        printf("fuzz: no guarded memory\n");
+        exit(1);
+    }
+    r->at = r->start;
+    r->len = 0;
+}
+
+/* The part looked at: what is lent and the canaries beside it, on the free side. */
+static uint8_t *seen(const struct room *r, size_t *len)
+{
+    *len = r->len + NEAR;
+    return r->at == r->start ? r->start : r->at - NEAR;
+}
+
+/* Lends len bytes at one end or the other. */
+static void *lend(struct room *r, size_t len)
+{
+    size_t n;
+    r->len = len;
+    r->at = bits() & 1 ? r->start : r->start + r->size - len;
+    uint8_t *from = seen(r, &n);
+    /* By eights from an address that eight divides these bytes are NaNs, which no function answers. */
+    for (size_t i = 0; i < n; i++)
+        from[i] = canary[(uintptr_t)(from + i) % 8];
+    memcpy(r->kept, from, n);
+    return r->at;
+}
+
+/* What is given stays as it is from here. */
+static void given(struct room *r)
+{
+    size_t n;
+    uint8_t *from = seen(r, &n);
+    memcpy(r->kept, from, n);
+}
+
+static int kept(const struct room *r)
+{
+    size_t n;
+    uint8_t *from = seen(r, &n);
+    return memcmp(r->kept, from, n) == 0;
+}
+
+/* Kept but for the first len bytes lent. */
+static int kept_beyond(const struct room *r, size_t len)
+{
+    size_t n, skipped = r->at == r->start ? 0 : NEAR;
+    uint8_t *from = seen(r, &n);
+    return memcmp(r->kept, from, skipped) == 0 && memcmp(r->kept + skipped + len, from + skipped + len, n - skipped - len) == 0;
+}
+
+static struct room places[3], bytes, statuses, ascs, decs, tally, words[4];
+
+/* ---- what is told where a call is unsound ---- */
+
+static const char *name = "start";
+static double args[9];
+static uint64_t at_call;
+
+static void tell(const char *what)
+{
+    char line[512];
+    int n = snprintf(line, sizeof line, "fuzz: call %" PRIu64 ", %s: %s;", at_call, name, what);
+    for (int i = 0; i < 9 && n < 480; i++) {
+        uint64_t b;
+        memcpy(&b, &args[i], sizeof b);
+        n += snprintf(line + n, sizeof line - (size_t)n, " %016" PRIx64, b);
+    }
+    line[n++] = '\n';
+    if (write(1, line, (size_t)n) < 0)
+        _exit(1);
+}
+
+static void fault(int signal)
+{
+    tell(signal == SIGFPE ? "a fault of arithmetic" : "memory that is not lent");
+    _exit(1);
+}
+
+/* ---- calls ---- */
+
+/* star, find and batch stand behind the functions of numbers. */
+enum { KINDS = FUNCTION_COUNT + 3 };
+static uint64_t answered[KINDS], refused[KINDS], unsound;
+static size_t which;
+
+static void judge(uint8_t status, int sound)
+{
+    answered[which] += status == 0;
+    refused[which] += status != 0;
+    if (!sound) {
+        unsound++;
+        if (unsound <= 5)
+            tell("unsound");
+    }
+}
+
+/* What a function answered last: most calls change a number or two of it. */
+static double last[FUNCTION_COUNT][9];
+
+static void numbers(const struct function *f)
+{
+    double *to[3];
+    int all_kept = 1, sound = 1;
+    name = f->name;
+    if (answered[which] > 0 && below(8) != 0) {
+        memcpy(args, last[which], sizeof args);
+        for (size_t k = below(3); k > 0; k--)
+            args[below(f->given)] = any_double();
+    } else {
+        for (size_t i = 0; i < f->given; i++)
+            args[i] = any_double();
+    }
+    for (size_t i = 0; i < f->answered; i++)
+        to[i] = lend(&places[i], sizeof(double));
+    uint8_t status = f->f(args, to);
+    for (size_t i = 0; i < f->answered; i++) {
+        all_kept &= kept(&places[i]);
+        sound &= kept_beyond(&places[i], sizeof(double)) && (status != 0 || isfinite(*to[i]));
+    }
+    if (status == 0)
+        memcpy(last[which], args, sizeof args);
+    judge(status, sound && (status == 0 || (all_kept && status <= 7)));
+}
+
+/* A list of some length, records in range or of any bytes; its length. */
+static size_t list(void)
+{
+    static const uint32_t asc_at[] = {0, 1295999999, 1296000000, 0xFFFFFFFF}, dec_at[] = {324000000, 324000001, 0x80000000, 0};
+    size_t len = 12 * (below(64) == 0 ? 4990 + below(12) : below(16));
+    if (below(6) == 0)
+        len += below(12);
+    uint8_t *to = lend(&bytes, len);
+    for (size_t i = 0; i < len; i += 12) {
+        uint32_t record[3] = {(uint32_t)below(16), (uint32_t)below(1296000000), (uint32_t)below(648000001) - 324000000};
+        size_t damage = below(8);
+        if (damage == 0)
+            record[1] = asc_at[below(4)];
+        if (damage == 1)
+            record[2] = dec_at[below(4)];
+        if (damage == 2)
+            for (size_t k = 0; k < 3; k++)
+                record[k] = (uint32_t)bits();
+        for (size_t k = 0; k < 12 && i + k < len; k++)
+            to[i + k] = (uint8_t)(record[k / 4] >> 8 * (k % 4));
+    }
+    given(&bytes);
+    return len;
+}
+
+static int bad_list(size_t len)
+{
+    return len % 12 != 0 || len > 60000;
+}
+
+static void star(void)
+{
+    static const size_t far[] = {SIZE_MAX, SIZE_MAX - 3, SIZE_MAX - 11, SIZE_MAX / 12 * 12, (size_t)1 << 63};
+    name = "star";
+    size_t len = list(), place = below(8) == 0 ? far[below(5)] : below(3) == 0 ? len - len % 12 : below(len + 13);
+    if (below(2) == 0)
+        place -= place % 12;
+    uint8_t status = brundelak_star(bytes.at, len, place, lend(&words[0], 4), lend(&words[1], 4), lend(&words[2], 4), lend(&words[3], sizeof(size_t)));
+    uint8_t expected = bad_list(len) || place > len || place % 12 != 0 ? 8 : place == len ? 255 : 0;
+    int sound = status == expected && kept(&bytes);
+    for (size_t i = 0; i < 4; i++)
+        sound &= status == 0 ? kept_beyond(&words[i], words[i].len) : kept(&words[i]);
+    if (status == 0) {
+        size_t next;
+        memcpy(&next, words[3].at, sizeof next);
+        sound &= next == place + 12;
+        for (size_t i = 0; i < 3; i++)
+            sound &= memcmp(words[i].at, bytes.at + place + 4 * i, 4) == 0;
+    }
+    judge(status, sound);
+}
+
+static void find(void)
+{
+    name = "find";
+    size_t len = list();
+    uint32_t number = below(8) == 0 ? (uint32_t)bits() : (uint32_t)below(20);
+    uint8_t status = brundelak_find(bytes.at, len, number, lend(&words[0], sizeof(size_t)), lend(&words[1], 4), lend(&words[2], 4));
+    int sound = (status == 8) == bad_list(len) && (status == 0 || (status >= 8 && status <= 10)) && kept(&bytes);
+    for (size_t i = 0; i < 3; i++)
+        sound &= status == 0 ? kept_beyond(&words[i], words[i].len) : kept(&words[i]);
+    if (status == 0) {
+        size_t index;
+        memcpy(&index, words[0].at, sizeof index);
+        sound &= index < len / 12 && memcmp(bytes.at + 12 * index + 4, words[1].at, 4) == 0 && memcmp(bytes.at + 12 * index + 8, words[2].at, 4) == 0;
+    }
+    judge(status, sound);
+}
+
+/* The length of a lent slice: exact, longer, or too short. */
+static size_t length(size_t stars)
+{
+    size_t by = below(16);
+    return by == 0 ? 0 : by == 1 && stars > 0 ? stars - 1 : by == 2 ? stars + below(9) : stars;
+}
+
+static void batch(void)
+{
+    name = "batch";
+    size_t len = list(), stars = len / 12, lens[3] = {length(stars), length(stars), length(stars)};
+    args[0] = any_day();
+    args[1] = any_day();
+    uint8_t *status_of = lend(&statuses, lens[0]);
+    double *asc = lend(&ascs, 8 * lens[1]), *dec = lend(&decs, 8 * lens[2]);
+    uint32_t *counts = lend(&tally, 80), sum = 0;
+    uint8_t status = brundelak_batch(bytes.at, len, args[0], args[1], status_of, lens[0], asc, lens[1], dec, lens[2], counts);
+    int bad = bad_list(len) || lens[0] < stars || lens[1] < stars || lens[2] < stars;
+    int sound = kept(&bytes) && (status <= 2 || status == 8) && (status == 1 || status == 2 || (status == 8) == bad);
+    if (status != 0) {
+        judge(status, sound && kept(&statuses) && kept(&ascs) && kept(&decs) && kept(&tally));
+        return;
+    }
+    sound &= kept_beyond(&statuses, stars) && kept_beyond(&ascs, 8 * stars) && kept_beyond(&decs, 8 * stars) && kept_beyond(&tally, 80);
+    for (size_t i = 0; i < stars; i++) {
+        sound &= status_of[i] == 0 ? isfinite(asc[i]) && isfinite(dec[i]) : asc[i] == 0.0 && dec[i] == 0.0;
+        sound &= status_of[i] == 0 || status_of[i] == 4 || status_of[i] == 7 || status_of[i] == 9;
+    }
+    for (size_t i = 0; i < 20; i++)
+        sum += counts[i];
+    judge(status, sound && sum == stars);
+}
+
+/* ---- the guard is tried first ---- */
+
+enum { SEEN = 3 };
+
+static void see(int signal)
+{
+    (void)signal;
+    _exit(SEEN);
+}
+
+/* Reads a byte beyond what is lent, on the guarded side. */
+static void read_past(int side)
+{
+    volatile uint8_t *lent;
+    do
+        lent = lend(&places[0], sizeof(double));
+    while ((places[0].at == places[0].start) != (side < 0));
+    signal(SIGSEGV, see);
+    signal(SIGBUS, see);
+    (void)lent[side < 0 ? -1 : 8];
+    _exit(0);
+}
+
+static void try_the_guard(void)
+{
+    for (int side = -1; side <= 1; side += 2) {
+        int ended = 0;
+        pid_t child = fork();
+        if (child == 0)
+            read_past(side);
+        if (child < 0 || waitpid(child, &ended, 0) != child || !WIFEXITED(ended) || WEXITSTATUS(ended) != SEEN) {
+            printf("fuzz: a byte read past what is lent is not seen\n");
+            exit(1);
+        }
+    }
+    for (int k = 0; k < 64; k++) {
+        uint8_t *lent = lend(&places[0], sizeof(double));
+        lent[lent == places[0].start ? 8 : -1] ^= 1;
+        if (kept_beyond(&places[0], sizeof(double))) {
+            printf("fuzz: a canary written is not seen\n");
+            exit(1);
+        }
+    }
+}
+
+int main(int argc, char **argv)
+{
+    uint64_t calls = argc > 1 ? strtoull(argv[1], NULL, 10) : 0;
+    state = argc > 2 ? strtoull(argv[2], NULL, 10) : 1;
+    for (size_t i = 0; i < 3; i++)
+        make(&places[i], sizeof(double));
+    for (size_t i = 0; i < 4; i++)
+        make(&words[i], sizeof(size_t));
+    make(&bytes, 60100);
+    make(&statuses, 5100);
+    make(&ascs, 8 * 5100);
+    make(&decs, 8 * 5100);
+    make(&tally, 80);
+    try_the_guard();
+    signal(SIGSEGV, fault);
+    signal(SIGBUS, fault);
+    signal(SIGFPE, fault);
+    for (at_call = 0; at_call < calls; at_call++) {
+        which = below(KINDS);
+        memset(args, 0, sizeof args);
+        if (which < FUNCTION_COUNT)
+            numbers(&functions[which]);
+        else if (which == FUNCTION_COUNT)
+            star();
+        else if (which == FUNCTION_COUNT + 1)
+            find();
+        else
+            batch();
+    }
+    uint64_t all = 0, least = UINT64_MAX;
+    for (which = 0; which < KINDS; which++) {
+        uint64_t fewer = answered[which] < refused[which] ? answered[which] : refused[which];
+        least = fewer < least ? fewer : least;
+        all += answered[which];
+    }
+    printf("fuzz: %" PRIu64 " calls at guarded memory, %" PRIu64 " answered; each function answered and refused at least %" PRIu64
+           " times; unsound %" PRIu64 "\n", calls, all, least, unsound);
+    return least > 0 && unsound == 0 ? 0 : 1;
+}
