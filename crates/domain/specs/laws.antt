@@ -2,6 +2,7 @@
 -- is true, each answer is finite, and the refusals that the work can meet are named. Theorems only.
 pub mod Days
 pub mod Helpers
+pub mod Conversions
 pub mod Earth
 pub mod Annual
 pub mod Equatorial

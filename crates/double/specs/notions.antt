@@ -2,3 +2,4 @@
 pub mod Fraction
 pub mod Range
 pub mod Grid
+pub mod Greatest

@@ -12,7 +12,7 @@ use lib.Ieee.{Float, nan, inf, fin, binary64, up, down, round, neg, add, sub, mu
 use lib.Ieee.Fits.{down-pos}
 use lib.Ieee.Exact.{HasValue}
 use lib.Ieee.Positive.{den, den-pos}
-use Rattle.double.specs.rules.Operations.{bits, zero, half, one, two, _⊕_, _⊖_, _⊗_}
+use Rattle.double.specs.rules.Operations.{zero, half, one, two, _⊕_, _⊖_, _⊗_}
 use Rattle.double.specs.rules.Sign.{size, isFinite}
 use Rattle.double.specs.rules.Order.{_≼_, Finite, Plus, Between}
 use Rattle.double.specs.rules.Whole.{wholePart, fromWhole, IsWholePart}
@@ -27,21 +27,8 @@ use Rattle.double.specs.laws.Interval.{bounded}
 use Rattle.double.specs.laws.Grid.{parts-of-value, grid-parts, grid-under, grid-over, under-grid, over-grid}
 use Rattle.double.specs.laws.WholePart.{whole-part-mono, whole-part-true, from-whole-exact, from-whole-between}
 use Rattle.quantity.specs.rules.Refusal.{steepest}
-use Rattle.elementary.specs.rules.Fold.{quarters, rest}
+use Rattle.elementary.specs.rules.Fold.{I, P1, P2, P3, quarters, rest}
 use Rattle.elementary.specs.rules.Sine.{farthestAlone}
-
--- the rule's constants
-abbrev I : Float
-I = bits 0x3fe45f306dc9c883
-
-abbrev P1 : Float
-P1 = bits 0x3ff921fb54400000
-
-abbrev P2 : Float
-P2 = bits 0x3dd0b4611a600000
-
-abbrev P3 : Float
-P3 = bits 0x3ba3198a2e037073
 
 -- ---- s = a·I + 0.5, and its whole part
 
