@@ -219,9 +219,10 @@ fn table_sum(a: Moon) -> Nutations
         long: 0.0,
         oblq: 0.0,
     };
+    let table = ROWS;
     let mut i: usize = 0;
     while i < 63 {
-        s = with_row(ROWS[i], a, s);
+        s = with_row(table[i], a, s);
         i += 1;
     }
     s

@@ -63,7 +63,7 @@ scaled-value f s m (negsuc k) a b c =
         ∙ mul-comm (2 ^ suc (emax f)) (2 ^ low f)
         ∙ sym (pow-add 2 (low f) (suc (emax f)))
 
-own-value : (f : Format) (s : Bool) (m : ℕ) (e : ℤ) → T (fits f (fin s m e)) → HasValue (round f s (m * up e) (down e)) s (m * up e) (down e)
+pub own-value : (f : Format) (s : Bool) (m : ℕ) (e : ℤ) → T (fits f (fin s m e)) → HasValue (round f s (m * up e) (down e)) s (m * up e) (down e)
 unfolding fits
 own-value f s zero e t =
     subst (λ (n : ℕ). HasValue (round f s n (down e)) s n (down e)) (sym (zero-mul (up e)))

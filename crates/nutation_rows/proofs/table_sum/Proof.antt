@@ -22,13 +22,13 @@ unfolding summed
 next xs i d a s h = rw (drop-cons xs i d, add-one)
 
 abbrev Inv-loop : tie.InvT-loop
-Inv-loop a s₀ i₀ s i = (i ≤ 63) × (summed (drop i rows) a s ≡ summed rows a s₀)
+Inv-loop a s₀ table i₀ s i = (i ≤ 63) × (summed (drop i rows) a s ≡ summed rows a s₀) × (table ≡ rows)
 
 abbrev μ-loop : tie.MeasureT-loop
-μ-loop a s₀ i₀ s i = 63 - i
+μ-loop a s₀ table i₀ s i = 63 - i
 
 loop-holds : tie.Need-loop-holds Inv-loop μ-loop
-loop-holds c = (omega arith, refl)
+loop-holds c = (omega arith, refl, refl)
 
 mul-with-row : tie.Need-mul-with-row Inv-loop μ-loop
 mul-with-row c = search needs
@@ -47,7 +47,8 @@ loop-less c = omega arith
 
 loop-again : tie.Need-loop-again Inv-loop μ-loop
 loop-again c =
-    (omega arith, rw (c .with-row .ensures) (next rows _ _ _ _ (c .before .before .loop-test .taken) ∙ c .before .before .before .loop .inv .1))
+    let inv = c .before .before .before .loop .inv in
+    (omega arith, rw (c .with-row .ensures, inv .2) (next rows _ _ _ _ (c .before .before .loop-test .taken) ∙ inv .1), inv .2)
 
 returns : tie.Need-returns Inv-loop μ-loop
 unfolding summed
