@@ -1,7 +1,7 @@
 // Changes of frame.
 ghost use Rattle.brundelak.specs.rules.Boundary.{Told};
 ghost use Rattle.coords.specs.rules.HourAngle.{hrAnglFrmObserverLongRule, hrAnglFrmLocSidrRule};
-ghost use Rattle.coords.specs.rules.Ecliptic.{eclLongFrmEqRule, eclLatFrmEqRule, ascFrmEclRule, decFrmEclRule};
+ghost use Rattle.coords_ecl.specs.rules.Ecliptic.{eclLongFrmEqRule, eclLatFrmEqRule, ascFrmEclRule, decFrmEclRule};
 ghost use Rattle.coords.specs.rules.Horizon.{azFrmEqRule, altFrmEqRule, hrAnglFrmHzRule, decFrmHzRule};
 ghost use Rattle.coords_gal.specs.rules.Galactic.{galLongFrmEqRule, galLatFrmEqRule, ascFrmGalRule};
 use crate::give::give;
@@ -45,7 +45,7 @@ pub extern "C" fn brundelak_ecl_long_frm_eq(
     ensures { λ n. ⌜ Told (eclLongFrmEqRule (record { 0 = asc }) (record { 0 = dec }) (record { 0 = «oblq_eclip» })) n (now (out .entry)) (now (out .exit)) ⌝ }
 {
     give(
-        coords::ecl_long_frm_eq(Rad(asc), Rad(dec), Rad(oblq_eclip)),
+        coords_ecl::ecl_long_frm_eq(Rad(asc), Rad(dec), Rad(oblq_eclip)),
         out,
     )
 }
@@ -56,7 +56,7 @@ pub extern "C" fn brundelak_ecl_lat_frm_eq(asc: f64, dec: f64, oblq_eclip: f64, 
     ensures { λ n. ⌜ Told (eclLatFrmEqRule (record { 0 = asc }) (record { 0 = dec }) (record { 0 = «oblq_eclip» })) n (now (out .entry)) (now (out .exit)) ⌝ }
 {
     give(
-        coords::ecl_lat_frm_eq(Rad(asc), Rad(dec), Rad(oblq_eclip)),
+        coords_ecl::ecl_lat_frm_eq(Rad(asc), Rad(dec), Rad(oblq_eclip)),
         out,
     )
 }
@@ -72,7 +72,7 @@ pub extern "C" fn brundelak_asc_frm_ecl(
     ensures { λ n. ⌜ Told (ascFrmEclRule (record { 0 = «ecl_long» }) (record { 0 = «ecl_lat» }) (record { 0 = «oblq_eclip» })) n (now (out .entry)) (now (out .exit)) ⌝ }
 {
     give(
-        coords::asc_frm_ecl(Rad(ecl_long), Rad(ecl_lat), Rad(oblq_eclip)),
+        coords_ecl::asc_frm_ecl(Rad(ecl_long), Rad(ecl_lat), Rad(oblq_eclip)),
         out,
     )
 }
@@ -88,7 +88,7 @@ pub extern "C" fn brundelak_dec_frm_ecl(
     ensures { λ n. ⌜ Told (decFrmEclRule (record { 0 = «ecl_long» }) (record { 0 = «ecl_lat» }) (record { 0 = «oblq_eclip» })) n (now (out .entry)) (now (out .exit)) ⌝ }
 {
     give(
-        coords::dec_frm_ecl(Rad(ecl_long), Rad(ecl_lat), Rad(oblq_eclip)),
+        coords_ecl::dec_frm_ecl(Rad(ecl_long), Rad(ecl_lat), Rad(oblq_eclip)),
         out,
     )
 }

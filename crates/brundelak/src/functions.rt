@@ -1,8 +1,8 @@
 // The elementary functions, and the root.
 ghost use Rattle.brundelak.specs.rules.Boundary.{Told};
 ghost use Rattle.elementary.specs.rules.Sine.{sineRule, cosineRule, tangentRule};
-ghost use Rattle.elementary.specs.rules.Arctangent.{arctangentRule};
-ghost use Rattle.elementary.specs.rules.Arcsine.{arcsineRule};
+ghost use Rattle.elementary_arc.specs.rules.Arctangent.{arctangentRule};
+ghost use Rattle.elementary_arc.specs.rules.Arcsine.{arcsineRule};
 ghost use Rattle.root.specs.rules.Root.{rootRule};
 use crate::give::give;
 use quantity::Rad;
@@ -36,7 +36,7 @@ pub extern "C" fn brundelak_tangent(x: f64, out: &mut f64) -> u8
 pub extern "C" fn brundelak_arctangent(y: f64, x: f64, out: &mut f64) -> u8
     ensures { λ n. ⌜ Told (arctangentRule y x) n (now (out .entry)) (now (out .exit)) ⌝ }
 {
-    give(elementary::arctangent(y, x), out)
+    give(elementary_arc::arctangent(y, x), out)
 }
 
 // The arcsine of a number. Refusals: 1; 7 past 1.
@@ -44,7 +44,7 @@ pub extern "C" fn brundelak_arctangent(y: f64, x: f64, out: &mut f64) -> u8
 pub extern "C" fn brundelak_arcsine(s: f64, out: &mut f64) -> u8
     ensures { λ n. ⌜ Told (arcsineRule s) n (now (out .entry)) (now (out .exit)) ⌝ }
 {
-    give(elementary::arcsine(s), out)
+    give(elementary_arc::arcsine(s), out)
 }
 
 // The square root of a number. Refusals: 1; 5 below zero.

@@ -43,7 +43,7 @@ fn round_pole(n: Folded, d: Folded) -> One
     ensures { λ r. ⌜ shown r ≡ roundPole n d ⌝ }
 {
     let p = pole();
-    elementary::arctangent_in(n.sine(), p.sine() * n.cosine() - p.cosine() * d.tangent())
+    elementary_arc::arctangent_in(n.sine(), p.sine() * n.cosine() - p.cosine() * d.tangent())
 }
 
 // The angle at the pole from right ascension 192.25 degrees back to the point's, folded.
@@ -81,7 +81,7 @@ fn gal_lat_in(asc: Rad, dec: Rad) -> One
     let n = from_node(asc);
     let p = pole();
     let d = elementary::fold(dec);
-    elementary::arcsine_in(d.sine() * p.sine() + d.cosine() * p.cosine() * n.cosine())
+    elementary_arc::arcsine_in(d.sine() * p.sine() + d.cosine() * p.cosine() * n.cosine())
 }
 
 // The galactic latitude from equatorial coordinates. Refusals: 1; 3; then 7.

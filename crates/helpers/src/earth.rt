@@ -31,7 +31,7 @@ impl Earth {
         ensures { λ r. ⌜ shownTwo r ≡ rhoIn lat height ⌝ }
     {
         let p = elementary::fold(lat);
-        match elementary::arctangent_in(Earth::RATIO * p.tangent(), 1.0) {
+        match elementary_arc::arctangent_in(Earth::RATIO * p.tangent(), 1.0) {
             One::Is(u) => Earth::rho_at(elementary::fold(Rad(u)), p, height),
             One::Refused(n) => Two::Refused(n),
         }

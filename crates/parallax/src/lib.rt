@@ -30,7 +30,7 @@ fn sun_parallax() -> f64
 fn eq_hz_parallax_in(dist: f64) -> One
     ensures { λ r. ⌜ shown r ≡ eqHzParallaxIn dist ⌝ }
 {
-    elementary::arcsine_in(sun_parallax() / dist)
+    elementary_arc::arcsine_in(sun_parallax() / dist)
 }
 
 // The equatorial horizontal parallax of a body, from its distance to the Earth. Refusals: 1; 5.
@@ -103,7 +103,7 @@ fn ahead(c: Centre, h: Folded, d: Folded) -> f64
 fn topocent_dec(c: Centre, d: Folded, change: f64, x: f64) -> One
     ensures { λ r. ⌜ shown r ≡ topocentDec c d change x ⌝ }
 {
-    elementary::arctangent_in(
+    elementary_arc::arctangent_in(
         (d.sine() - c.rho_sin * c.parallax) * elementary::fold(Rad(change)).cosine(),
         x,
     )
@@ -127,7 +127,7 @@ fn topocent_at(c: Centre, h: Folded, d: Folded, asc: f64) -> Point
     ensures { λ r. ⌜ shownPoint r ≡ topocentAt c h d asc ⌝ }
 {
     let x = ahead(c, h, d);
-    match elementary::arctangent_in(eastward(c, h), x) {
+    match elementary_arc::arctangent_in(eastward(c, h), x) {
         One::Is(change) => topocent_from(c, d, asc, change, x),
         One::Refused(n) => Point::Refused(n),
     }

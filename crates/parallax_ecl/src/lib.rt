@@ -27,7 +27,7 @@ fn nearby(c: Centre, l: Folded, b: Folded, s: Folded) -> f64
 fn long_top(c: Centre, l: Folded, b: Folded, s: Folded, e: Folded, n: f64) -> One
     ensures { λ r. ⌜ shown r ≡ longTop c l b s e n ⌝ }
 {
-    elementary::arctangent_in(
+    elementary_arc::arctangent_in(
         l.sine() * b.cosine()
             - c.parallax * (c.rho_sin * e.sine() + c.rho_cos * e.cosine() * s.sine()),
         n,
@@ -38,7 +38,7 @@ fn long_top(c: Centre, l: Folded, b: Folded, s: Folded, e: Folded, n: f64) -> On
 fn lat_top(c: Centre, b: Folded, s: Folded, e: Folded, cos_long: f64, n: f64) -> One
     ensures { λ r. ⌜ shown r ≡ latTop c b s e «cos_long» n ⌝ }
 {
-    elementary::arctangent_in(
+    elementary_arc::arctangent_in(
         cos_long
             * (b.sine() - c.parallax * (c.rho_sin * e.cosine() - c.rho_cos * e.sine() * s.sine())),
         n,
@@ -49,7 +49,7 @@ fn lat_top(c: Centre, b: Folded, s: Folded, e: Folded, cos_long: f64, n: f64) ->
 fn semidiameter_in(cos_long: f64, lat: f64, semidiameter: Rad, n: f64) -> One
     ensures { λ r. ⌜ shown r ≡ semidiameterIn «cos_long» lat semidiameter n ⌝ }
 {
-    elementary::arcsine_in(
+    elementary_arc::arcsine_in(
         cos_long * elementary::fold(Rad(lat)).cosine() * elementary::fold(semidiameter).sine() / n,
     )
 }

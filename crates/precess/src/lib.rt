@@ -174,10 +174,10 @@ fn placed(a: Folded, d: Folded, turns: EqTurns) -> Two
     let cd = d.cosine();
     quantity::both(
         quantity::plus(
-            elementary::arctangent_in(cd * sa, turns.cosine * cd * ca - turns.sine * sd),
+            elementary_arc::arctangent_in(cd * sa, turns.cosine * cd * ca - turns.sine * sd),
             turns.zeta,
         ),
-        elementary::arcsine_in(turns.sine * cd * ca + turns.cosine * sd),
+        elementary_arc::arcsine_in(turns.sine * cd * ca + turns.cosine * sd),
     )
 }
 

@@ -99,9 +99,9 @@ fn ecl_placed(p: Folded, b: Folded, turns: EclTurns) -> Two
     quantity::both(
         quantity::taken_from(
             turns.rho + turns.pi,
-            elementary::arctangent_in(turns.cosine * cb * sp - turns.sine * sb, cb * cp),
+            elementary_arc::arctangent_in(turns.cosine * cb * sp - turns.sine * sb, cb * cp),
         ),
-        elementary::arcsine_in(turns.cosine * sb + turns.sine * cb * sp),
+        elementary_arc::arcsine_in(turns.cosine * sb + turns.sine * cb * sp),
     )
 }
 
@@ -154,7 +154,7 @@ fn new_inclination(inc: Rad, l: Leaned, turns: EclTurns) -> One
         return One::Is(turns.nu);
     }
     match root::square_root(l.a * l.a + l.b * l.b) {
-        One::Is(s) => elementary::arcsine_in(s),
+        One::Is(s) => elementary_arc::arcsine_in(s),
         One::Refused(n) => One::Refused(n),
     }
 }
@@ -167,7 +167,7 @@ fn new_node(inc: Rad, l: Leaned, turns: EclTurns) -> One
     if inc.0 == 0.0 {
         return One::Is(phi + quantity::PI);
     }
-    quantity::added_to(phi, elementary::arctangent_in(l.a, l.b))
+    quantity::added_to(phi, elementary_arc::arctangent_in(l.a, l.b))
 }
 
 // The new node and perihelion, where the new inclination's sine s is not zero. Refusals: 7.
@@ -176,7 +176,10 @@ fn node_and_perihelion(s: f64, node: One, perih: Rad, n: Folded, turns: EclTurns
 {
     quantity::both(
         node,
-        quantity::added_to(perih.0, elementary::arcsine_in(-turns.sine * n.sine() / s)),
+        quantity::added_to(
+            perih.0,
+            elementary_arc::arcsine_in(-turns.sine * n.sine() / s),
+        ),
     )
 }
 

@@ -179,25 +179,25 @@ fn frames() {
     );
     one(
         b"13.a longitude:",
-        coords::ecl_long_frm_eq(deg(116.328942), deg(28.026183), deg(23.4392911)),
+        coords_ecl::ecl_long_frm_eq(deg(116.328942), deg(28.026183), deg(23.4392911)),
         DEGREES,
         b"published: 113.215630",
     );
     one(
         b"13.a latitude:",
-        coords::ecl_lat_frm_eq(deg(116.328942), deg(28.026183), deg(23.4392911)),
+        coords_ecl::ecl_lat_frm_eq(deg(116.328942), deg(28.026183), deg(23.4392911)),
         DEGREES,
         b"published: 6.684170",
     );
     one(
         b"13.a back, right ascension:",
-        coords::asc_frm_ecl(deg(113.21563), deg(6.68417), deg(23.4392911)),
+        coords_ecl::asc_frm_ecl(deg(113.21563), deg(6.68417), deg(23.4392911)),
         DEGREES,
         b"published: 116.328942 (the last digit from rounded input)",
     );
     one(
         b"13.a back, declination:",
-        coords::dec_frm_ecl(deg(113.21563), deg(6.68417), deg(23.4392911)),
+        coords_ecl::dec_frm_ecl(deg(113.21563), deg(6.68417), deg(23.4392911)),
         DEGREES,
         b"published: 28.026183",
     );

@@ -11,8 +11,8 @@ use Rattle.quantity.specs.declared.EqPoint.{EqPoint}
 use Rattle.quantity.specs.rules.Answer.{Answer, answered, refused, Pair, unless, then, plus, both}
 use Rattle.quantity.specs.rules.Refusal.{lower, past, angleRefusal, latitudeRefusal, steepRefusal}
 use Rattle.root.specs.rules.Root.{rootRule, rootRefusal}
-use Rattle.elementary.specs.rules.Arctangent.{arctangentIn}
-use Rattle.elementary.specs.rules.Arcsine.{arcsineIn}
+use Rattle.elementary_arc.specs.rules.Arctangent.{arctangentIn}
+use Rattle.elementary_arc.specs.rules.Arcsine.{arcsineIn}
 use Rattle.precess.specs.declared.EqTurns.{EqTurns}
 use Rattle.precess.specs.rules.Equatorial.{placed, turnedIn}
 use Rattle.chain.specs.declared.Night.{Night}

@@ -13,9 +13,9 @@ use Rattle.quantity.specs.rules.Angle.{PI, HALF}
 use Rattle.quantity.specs.rules.Answer.{answered}
 use Rattle.quantity.specs.rules.Refusal.{angleRefusal, latitudeRefusal, steepRefusal}
 use Rattle.elementary.specs.rules.Sine.{sineOf}
-use Rattle.elementary.specs.rules.Arctangent.{arctangentIn}
+use Rattle.elementary_arc.specs.rules.Arctangent.{arctangentIn}
 use Rattle.elementary.specs.laws.Accepted.{answered-unless}
-use Rattle.elementary.specs.laws.Arctangent.{arctangent-in-sign, arctangent-in-finite, arctangent-in-at-most-half, arctangent-in-at-least-half, arctangent-in-at-most-pi}
+use Rattle.elementary_arc.specs.laws.Arctangent.{arctangent-in-sign, arctangent-in-finite, arctangent-in-at-most-half, arctangent-in-at-least-half, arctangent-in-at-most-pi}
 use Rattle.coords.specs.rules.Arguments.{steepSkyRefusal}
 use Rattle.coords.specs.rules.Horizon.{southward, azimuthIn, azFrmEqRule}
 use Rattle.conditions.specs.laws.Accepted.{none-of-three, angle-sine, angle-cosine, latitude-sine, latitude-cosine, steep-tangent}

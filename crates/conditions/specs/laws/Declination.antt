@@ -16,9 +16,9 @@ use Rattle.quantity.specs.rules.Angle.{PI, opposite}
 use Rattle.quantity.specs.rules.Answer.{answered, refused, unless}
 use Rattle.quantity.specs.laws.Refusal.{latitude-opposite, steep-opposite}
 use Rattle.elementary.specs.rules.Sine.{sineOf, cosineOf, tangentOf}
-use Rattle.elementary.specs.rules.Arctangent.{arctangentOf, arctangentIn}
+use Rattle.elementary_arc.specs.rules.Arctangent.{arctangentOf, arctangentIn}
 use Rattle.elementary.specs.laws.Mirror.{sine-odd, cosine-even, tangent-odd}
-use Rattle.elementary.specs.laws.Arctangent.{arctangent-in-behind}
+use Rattle.elementary_arc.specs.laws.Arctangent.{arctangent-in-behind}
 use Rattle.coords.specs.rules.Arguments.{steepSkyRefusal}
 use Rattle.coords.specs.rules.Horizon.{southward, azimuthIn, azFrmEqRule, altitudeIn, altFrmEqRule}
 use Rattle.conditions.specs.laws.Azimuth.{azimuth-accepted, southward-finite, azimuth-worked-out, azimuth-sign}

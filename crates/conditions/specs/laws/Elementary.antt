@@ -21,10 +21,10 @@ use Rattle.quantity.specs.rules.Angle.{PI, HALF}
 use Rattle.root.specs.rules.Count.{IsFromZero}
 use Rattle.root.specs.rules.Root.{rootOf, rootRule}
 use Rattle.root.specs.laws.Root.{root-from-zero, root-answered}
-use Rattle.elementary.specs.rules.Arctangent.{arctangentOf, arctangentIn}
-use Rattle.elementary.specs.rules.Arcsine.{arcsineIn}
-use Rattle.elementary.specs.laws.Arctangent.{arctangent-at-most-pi}
-use Rattle.elementary.specs.laws.Arcsine.{arcsine-at-most-half, arcsine-refuses-seven}
+use Rattle.elementary_arc.specs.rules.Arctangent.{arctangentOf, arctangentIn}
+use Rattle.elementary_arc.specs.rules.Arcsine.{arcsineIn}
+use Rattle.elementary_arc.specs.laws.Arctangent.{arctangent-at-most-pi}
+use Rattle.elementary_arc.specs.laws.Arcsine.{arcsine-at-most-half, arcsine-refuses-seven}
 use Rattle.conditions.specs.notions.Outcome.{Outcome}
 use Rattle.conditions.specs.laws.Outcome.{outcome-answered, outcome-refused}
 

@@ -14,15 +14,16 @@ use Rattle.quantity.specs.rules.Answer.{answered, unless, addedTo, takenFrom}
 use Rattle.quantity.specs.rules.Refusal.{angleRefusal, latitudeRefusal, steepRefusal}
 use Rattle.elementary.specs.rules.Fold.{fold}
 use Rattle.elementary.specs.rules.Sine.{sineOf, cosineOf, tangentOf, farthestAlone}
-use Rattle.elementary.specs.rules.Arctangent.{arctangentIn}
-use Rattle.elementary.specs.rules.Arcsine.{arcsineIn}
+use Rattle.elementary_arc.specs.rules.Arctangent.{arctangentIn}
+use Rattle.elementary_arc.specs.rules.Arcsine.{arcsineIn}
 use Rattle.elementary.specs.laws.Accepted.{lower-none}
 use Rattle.elementary.specs.laws.Sine.{sine-between, cosine-between}
 use Rattle.helpers.specs.rules.Angle.{radiansOf}
-use Rattle.coords.specs.rules.Arguments.{frameRefusal, steepFrameRefusal, skyRefusal, steepSkyRefusal}
+use Rattle.coords_ecl.specs.rules.Arguments.{frameRefusal, steepFrameRefusal}
+use Rattle.coords.specs.rules.Arguments.{skyRefusal, steepSkyRefusal}
 use Rattle.coords_gal.specs.rules.Arguments.{placeRefusal, steepPlaceRefusal}
 use Rattle.coords.specs.rules.HourAngle.{hrAnglFrmObserverLong, observerLongRefusal, hrAnglFrmObserverLongRule, locSidrRefusal, hrAnglFrmLocSidrRule}
-use Rattle.coords.specs.rules.Ecliptic.{eclLongSum, eclLongIn, eclLongFrmEqRule, eclLatSum, eclLatIn, eclLatFrmEqRule, ascFrmEclIn, ascFrmEclRule, decFrmEclIn, decFrmEclRule}
+use Rattle.coords_ecl.specs.rules.Ecliptic.{eclLongSum, eclLongIn, eclLongFrmEqRule, eclLatSum, eclLatIn, eclLatFrmEqRule, ascFrmEclIn, ascFrmEclRule, decFrmEclIn, decFrmEclRule}
 use Rattle.coords.specs.rules.Horizon.{azFrmEqRule, upward, altitudeIn, altFrmEqRule, hrAnglFrmHzIn, hrAnglFrmHzRule, decFrmHzIn, decFrmHzRule}
 use Rattle.coords_gal.specs.rules.Galactic.{poleLong, poleAsc, poleDec, northLong, southAsc, roundPole, galLongIn, galLongFrmEqRule, galLatIn, galLatFrmEqRule, ascFrmGalIn, ascFrmGalRule}
 use Rattle.conditions.specs.notions.Outcome.{Outcome, Never, Seven}

@@ -12,7 +12,7 @@ use Rattle.quantity.specs.rules.Angle.{PI, HALF, opposite}
 use Rattle.quantity.specs.rules.Answer.{shown, with}
 use Rattle.elementary.specs.rules.Sine.{sineOf}
 use Rattle.coords.specs.rules.Horizon.{southward, azFrmEqRule, altFrmEqRule}
-use Rattle.coords.specs.rules.Ecliptic.{eclLongSum, eclLongFrmEqRule, eclLatSum, eclLatFrmEqRule}
+use Rattle.coords_ecl.specs.rules.Ecliptic.{eclLongSum, eclLongFrmEqRule, eclLatSum, eclLatFrmEqRule}
 use Rattle.conditions.specs.laws.Answers.{answered-by, mirrored, unchanged}
 use Rattle.conditions.specs.laws.Azimuth.{azimuth-sign, azimuth-at-most-quarter-turn, azimuth-at-least-quarter-turn}
 use Rattle.conditions.specs.laws.HourAngle.{azimuth-hour, altitude-hour}

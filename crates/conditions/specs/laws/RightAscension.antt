@@ -11,9 +11,10 @@ use Rattle.quantity.specs.rules.Answer.{with}
 use Rattle.quantity.specs.laws.Answer.{with-unless}
 use Rattle.quantity.specs.laws.Refusal.{angle-opposite, latitude-opposite, steep-opposite}
 use Rattle.elementary.specs.rules.Sine.{sineOf, cosineOf, tangentOf}
-use Rattle.elementary.specs.laws.Mirror.{sine-odd, cosine-even, tangent-odd, arctangent-in-odd, arcsine-in-odd}
-use Rattle.coords.specs.rules.Arguments.{frameRefusal, steepFrameRefusal}
-use Rattle.coords.specs.rules.Ecliptic.{eclLongSum, eclLongIn, eclLongFrmEqRule, eclLatSum, eclLatIn, eclLatFrmEqRule}
+use Rattle.elementary.specs.laws.Mirror.{sine-odd, cosine-even, tangent-odd}
+use Rattle.elementary_arc.specs.laws.Mirror.{arctangent-in-odd, arcsine-in-odd}
+use Rattle.coords_ecl.specs.rules.Arguments.{frameRefusal, steepFrameRefusal}
+use Rattle.coords_ecl.specs.rules.Ecliptic.{eclLongSum, eclLongIn, eclLongFrmEqRule, eclLatSum, eclLatIn, eclLatFrmEqRule}
 
 module _ (a d e : Rad) where
   -- ---- longitude

@@ -3,13 +3,6 @@ use Prim.Native.Nat.{ℕ}
 use Rattle.quantity.specs.declared.Rad.{Rad}
 use Rattle.quantity.specs.rules.Refusal.{lower, angleRefusal, latitudeRefusal, steepRefusal}
 
--- a longitude, a latitude and an obliquity
-abbrev pub frameRefusal : Rad → Rad → Rad → ℕ
-frameRefusal long lat oblq = lower (angleRefusal long) (lower (latitudeRefusal lat) (angleRefusal oblq))
-
-abbrev pub steepFrameRefusal : Rad → Rad → Rad → ℕ
-steepFrameRefusal long lat oblq = lower (angleRefusal long) (lower (steepRefusal lat) (angleRefusal oblq))
-
 -- an hour angle or an azimuth, a declination or an altitude, and the observer's latitude
 abbrev pub skyRefusal : Rad → Rad → Rad → ℕ
 skyRefusal long lat observer = lower (angleRefusal long) (lower (latitudeRefusal lat) (latitudeRefusal observer))

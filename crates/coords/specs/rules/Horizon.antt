@@ -4,8 +4,8 @@ use Rattle.double.specs.rules.Operations.{_⊕_, _⊖_, _⊗_}
 use Rattle.quantity.specs.declared.Rad.{Rad}
 use Rattle.quantity.specs.rules.Answer.{Answer, unless}
 use Rattle.elementary.specs.rules.Sine.{sineOf, cosineOf, tangentOf}
-use Rattle.elementary.specs.rules.Arctangent.{arctangentIn}
-use Rattle.elementary.specs.rules.Arcsine.{arcsineIn}
+use Rattle.elementary_arc.specs.rules.Arctangent.{arctangentIn}
+use Rattle.elementary_arc.specs.rules.Arcsine.{arcsineIn}
 use Rattle.coords.specs.rules.Arguments.{skyRefusal, steepSkyRefusal}
 
 -- the arctangent's second argument: south is where it bears no minus sign

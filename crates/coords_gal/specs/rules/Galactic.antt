@@ -7,8 +7,8 @@ use Rattle.quantity.specs.rules.Answer.{Answer, unless, addedTo, takenFrom}
 use Rattle.elementary.specs.declared.Folded.{Folded}
 use Rattle.elementary.specs.rules.Fold.{fold}
 use Rattle.elementary.specs.rules.Sine.{foldedSine, foldedCosine, foldedTangent}
-use Rattle.elementary.specs.rules.Arctangent.{arctangentIn}
-use Rattle.elementary.specs.rules.Arcsine.{arcsineIn}
+use Rattle.elementary_arc.specs.rules.Arctangent.{arctangentIn}
+use Rattle.elementary_arc.specs.rules.Arcsine.{arcsineIn}
 use Rattle.helpers.specs.rules.Angle.{radiansOf}
 use Rattle.coords_gal.specs.rules.Arguments.{placeRefusal, steepPlaceRefusal}
 

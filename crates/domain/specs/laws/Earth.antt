@@ -12,7 +12,7 @@ use Rattle.quantity.specs.rules.Answer.{answered, refused, Pair, pair}
 use Rattle.quantity.specs.rules.Refusal.{steepRefusal, heightRefusal}
 use Rattle.elementary.specs.rules.Fold.{fold}
 use Rattle.elementary.specs.rules.Sine.{sineOf, cosineOf, tangentOf, farthestAlone}
-use Rattle.elementary.specs.rules.Arctangent.{arctangentIn}
+use Rattle.elementary_arc.specs.rules.Arctangent.{arctangentIn}
 use Rattle.elementary.specs.laws.Accepted.{lower-none, height-accepted}
 use Rattle.elementary.specs.laws.Sine.{sine-between, cosine-between}
 use Rattle.helpers.specs.rules.Earth.{ratio, radius, rhoAt, rhoIn, rhoRefusal, rhoSinCosPhiRule}

@@ -11,8 +11,8 @@ use Rattle.quantity.specs.declared.Rad.{Rad}
 use Rattle.quantity.specs.rules.Answer.{answered, refused, Pair, takenFrom}
 use Rattle.quantity.specs.rules.Refusal.{angleRefusal, latitudeRefusal}
 use Rattle.elementary.specs.rules.Sine.{sineOf, cosineOf, farthestAlone}
-use Rattle.elementary.specs.rules.Arctangent.{arctangentIn}
-use Rattle.elementary.specs.rules.Arcsine.{arcsineIn}
+use Rattle.elementary_arc.specs.rules.Arctangent.{arctangentIn}
+use Rattle.elementary_arc.specs.rules.Arcsine.{arcsineIn}
 use Rattle.helpers.specs.rules.Angle.{arc, degree, radiansOf}
 use Rattle.helpers.specs.rules.Time.{centuryOf}
 use Rattle.precess_ecl.specs.declared.EclTurns.{EclTurns}

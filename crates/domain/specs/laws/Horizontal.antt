@@ -17,7 +17,7 @@ use Rattle.quantity.specs.rules.Refusal.{distanceRefusal}
 use Rattle.elementary.specs.rules.Fold.{fold}
 use Rattle.elementary.specs.rules.Sine.{foldedSine, farthestAlone}
 use Rattle.elementary.specs.laws.Accepted.{distance-accepted}
-use Rattle.elementary.specs.laws.Arcsine.{arcsine-refuses-seven}
+use Rattle.elementary_arc.specs.laws.Arcsine.{arcsine-refuses-seven}
 use Rattle.helpers.specs.rules.Angle.{arc, radiansOf}
 use Rattle.parallax.specs.rules.Numbers.{n8·794}
 use Rattle.parallax.specs.rules.Horizontal.{sunParallax, eqHzParallaxIn, eqHzParallaxRule}

@@ -7,7 +7,7 @@ use Rattle.double.specs.notions.Range.{known}
 use Rattle.quantity.specs.declared.Rad.{Rad}
 use Rattle.quantity.specs.declared.GeographPoint.{GeographPoint}
 use Rattle.quantity.specs.rules.Refusal.{lower, angleRefusal, steepRefusal, heightRefusal}
-use Rattle.elementary.specs.rules.Arctangent.{arctangentIn}
+use Rattle.elementary_arc.specs.rules.Arctangent.{arctangentIn}
 use Rattle.elementary.specs.laws.Accepted.{lower-none}
 use Rattle.parallax.specs.rules.Observer.{observerRefusal}
 use Rattle.conditions.specs.notions.Outcome.{Outcome}

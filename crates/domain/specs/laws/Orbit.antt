@@ -16,8 +16,8 @@ use Rattle.quantity.specs.rules.Refusal.{lower, angleRefusal}
 use Rattle.root.specs.rules.Root.{rootRule}
 use Rattle.elementary.specs.rules.Fold.{fold}
 use Rattle.elementary.specs.rules.Sine.{sineOf, cosineOf, farthestAlone}
-use Rattle.elementary.specs.rules.Arctangent.{arctangentIn}
-use Rattle.elementary.specs.rules.Arcsine.{arcsineIn}
+use Rattle.elementary_arc.specs.rules.Arctangent.{arctangentIn}
+use Rattle.elementary_arc.specs.rules.Arcsine.{arcsineIn}
 use Rattle.elementary.specs.laws.Accepted.{lower-none}
 use Rattle.precess_ecl.specs.declared.EclTurns.{EclTurns}
 use Rattle.precess.specs.rules.Days.{daysRefusal}

@@ -15,7 +15,7 @@ use Rattle.quantity.specs.rules.Answer.{answered, refused, Pair, first, second}
 use Rattle.quantity.specs.rules.Refusal.{lower, angleRefusal, latitudeRefusal}
 use Rattle.elementary.specs.rules.Fold.{fold}
 use Rattle.elementary.specs.rules.Sine.{sineOf, cosineOf, farthestAlone}
-use Rattle.elementary.specs.rules.Arctangent.{arctangentIn}
+use Rattle.elementary_arc.specs.rules.Arctangent.{arctangentIn}
 use Rattle.elementary.specs.laws.Accepted.{lower-none}
 use Rattle.helpers.specs.rules.Earth.{rhoIn}
 use Rattle.coords.specs.rules.HourAngle.{hrAnglFrmObserverLong}

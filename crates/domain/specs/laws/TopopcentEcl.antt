@@ -15,7 +15,7 @@ use Rattle.quantity.specs.rules.Answer.{answered, refused, Pair, first, second,
 use Rattle.quantity.specs.rules.Refusal.{lower, angleRefusal, latitudeRefusal}
 use Rattle.elementary.specs.rules.Fold.{fold}
 use Rattle.elementary.specs.rules.Sine.{sineOf, cosineOf, farthestAlone}
-use Rattle.elementary.specs.rules.Arcsine.{arcsineIn}
+use Rattle.elementary_arc.specs.rules.Arcsine.{arcsineIn}
 use Rattle.elementary.specs.laws.Accepted.{lower-none}
 use Rattle.helpers.specs.rules.Angle.{withinTwoPI}
 use Rattle.helpers.specs.rules.Earth.{rhoIn}

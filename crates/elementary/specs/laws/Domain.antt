@@ -1,4 +1,4 @@
--- No answer is a NaN or an infinity: what sine, cosine, tangent, arctangent and arcsine answer, called alone, is finite.
+-- No answer is a NaN or an infinity: what sine, cosine and tangent answer, called alone, is finite.
 -- Assumes nothing.
 use mathlib.Core.Path.{_≡_}
 use lib.Dec.{lit<}
@@ -7,16 +7,12 @@ use Rattle.double.specs.rules.Sign.{isFinite}
 use Rattle.double.specs.rules.Order.{Finite}
 use Rattle.quantity.specs.declared.Rad.{Rad}
 use Rattle.quantity.specs.rules.Answer.{answered}
-use Rattle.elementary.specs.laws.Accepted.{lower-none, answered-unless, number-accepted, past-accepted}
-use Rattle.quantity.specs.rules.Refusal.{past, numberRefusal, steepest}
+use Rattle.elementary.specs.laws.Accepted.{lower-none, answered-unless, past-accepted}
+use Rattle.quantity.specs.rules.Refusal.{past, steepest}
 use Rattle.elementary.specs.rules.Sine.{farthestAlone, aloneRefusal, sineOf, cosineOf, tangentOf, sineRule, cosineRule, tangentRefusal, tangentRule}
-use Rattle.elementary.specs.rules.Arctangent.{arctangentIn, arctangentRefusal, arctangentRule}
-use Rattle.elementary.specs.rules.Arcsine.{arcsineIn, arcsineRule}
 use Rattle.elementary.specs.laws.Sine.{sine-finite, cosine-finite, tangent-finite}
-use Rattle.elementary.specs.laws.Arctangent.{arctangent-in-finite}
-use Rattle.elementary.specs.laws.Arcsine.{arcsine-finite}
 
--- ---- the five called alone
+-- ---- the three called alone
 
 same-answer : {A : Type 0} (v w : A) → answered v ≡ answered w → v ≡ w
 same-answer v w e = cc
@@ -47,16 +43,3 @@ tangent-answers-finite x v e =
     let a = answered-unless (tangentRefusal x) (answered (tangentOf x)) v e in
     let n = lower-none (aloneRefusal x) (past (x .0) steepest 4) (a .0) in
     rw (← same-answer (tangentOf x) v (a .1)) (tangent-finite x (past-accepted (x .0) steepest 4 (lit< tt) finite-steepest (n .1)))
-
-pub arctangent-answers-finite : (y x v : Float) → arctangentRule y x ≡ answered v → Finite v
-unfolding arctangentRule
-arctangent-answers-finite y x v e =
-    let a = answered-unless (arctangentRefusal y x) (arctangentIn y x) v e in
-    let n = lower-none (numberRefusal y) (numberRefusal x) (a .0) in
-    arctangent-in-finite y x v (a .1) (number-accepted y (n .0)) (number-accepted x (n .1))
-
-pub arcsine-answers-finite : (s v : Float) → arcsineRule s ≡ answered v → Finite v
-unfolding arcsineRule
-arcsine-answers-finite s v e =
-    let a = answered-unless (numberRefusal s) (arcsineIn s) v e in
-    arcsine-finite s (number-accepted s (a .0)) v (a .1)

@@ -8,7 +8,7 @@ use Rattle.quantity.specs.rules.Refusal.{lower, steepRefusal, heightRefusal}
 use Rattle.elementary.specs.declared.Folded.{Folded}
 use Rattle.elementary.specs.rules.Fold.{fold}
 use Rattle.elementary.specs.rules.Sine.{foldedSine, foldedCosine, tangentOf}
-use Rattle.elementary.specs.rules.Arctangent.{arctangentIn}
+use Rattle.elementary_arc.specs.rules.Arctangent.{arctangentIn}
 
 -- 0.99664719
 abbrev pub ratio : Float

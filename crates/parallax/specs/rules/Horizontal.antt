@@ -4,7 +4,7 @@ use Rattle.double.specs.rules.Operations.{_⊘_}
 use Rattle.quantity.specs.rules.Answer.{Answer, unless}
 use Rattle.quantity.specs.rules.Refusal.{distanceRefusal}
 use Rattle.elementary.specs.rules.Sine.{sineOf}
-use Rattle.elementary.specs.rules.Arcsine.{arcsineIn}
+use Rattle.elementary_arc.specs.rules.Arcsine.{arcsineIn}
 use Rattle.helpers.specs.rules.Angle.{arc, radiansOf}
 use Rattle.parallax.specs.rules.Numbers.{n8·794}
 

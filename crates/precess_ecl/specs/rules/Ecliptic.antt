@@ -8,8 +8,8 @@ use Rattle.quantity.specs.rules.Answer.{Answer, Pair, unless, takenFrom, both}
 use Rattle.elementary.specs.declared.Folded.{Folded}
 use Rattle.elementary.specs.rules.Fold.{fold}
 use Rattle.elementary.specs.rules.Sine.{foldedSine, foldedCosine, sineOf, cosineOf}
-use Rattle.elementary.specs.rules.Arctangent.{arctangentIn}
-use Rattle.elementary.specs.rules.Arcsine.{arcsineIn}
+use Rattle.elementary_arc.specs.rules.Arctangent.{arctangentIn}
+use Rattle.elementary_arc.specs.rules.Arcsine.{arcsineIn}
 use Rattle.helpers.specs.rules.Angle.{arc, radiansOf}
 use Rattle.helpers.specs.rules.Time.{centuryOf}
 use Rattle.precess_ecl.specs.declared.EclTurns.{EclTurns}

@@ -11,8 +11,8 @@ use Rattle.root.specs.rules.Root.{rootRule}
 use Rattle.elementary.specs.declared.Folded.{Folded}
 use Rattle.elementary.specs.rules.Fold.{fold}
 use Rattle.elementary.specs.rules.Sine.{foldedSine, foldedCosine, sineOf}
-use Rattle.elementary.specs.rules.Arctangent.{arctangentIn}
-use Rattle.elementary.specs.rules.Arcsine.{arcsineIn}
+use Rattle.elementary_arc.specs.rules.Arctangent.{arctangentIn}
+use Rattle.elementary_arc.specs.rules.Arcsine.{arcsineIn}
 use Rattle.precess_ecl.specs.declared.EclTurns.{EclTurns}
 use Rattle.precess_ecl.specs.declared.Leaned.{Leaned}
 use Rattle.precess.specs.rules.Days.{daysRefusal}

@@ -1,0 +1,119 @@
+// Ecliptic coordinates (section 4). All angles are in radians.
+// Rules: specs/rules, in reading order in specs/rules.antt.
+ghost use mathlib.Core.Path.{_≡_};
+ghost use Rattle.quantity.specs.rules.Answer.{shown};
+ghost use Rattle.coords_ecl.specs.rules.Arguments.{frameRefusal, steepFrameRefusal};
+ghost use Rattle.coords_ecl.specs.rules.Ecliptic.{eclLongIn, eclLongFrmEqRule, eclLatIn, eclLatFrmEqRule, ascFrmEclIn, ascFrmEclRule, decFrmEclIn, decFrmEclRule};
+use quantity::One;
+use quantity::Rad;
+
+// ---- refusals of the arguments, shared by the functions
+
+// A longitude, a latitude and an obliquity: 1; 3.
+fn frame_refusal(long: Rad, lat: Rad, oblq: Rad) -> u8
+    ensures { λ r. ⌜ r ≡ frameRefusal long lat oblq ⌝ }
+{
+    quantity::lower(
+        quantity::angle_refusal(long),
+        quantity::lower(
+            quantity::latitude_refusal(lat),
+            quantity::angle_refusal(oblq),
+        ),
+    )
+}
+
+// The same where the latitude goes into a tangent: 1; 3; 4.
+fn steep_frame_refusal(long: Rad, lat: Rad, oblq: Rad) -> u8
+    ensures { λ r. ⌜ r ≡ steepFrameRefusal long lat oblq ⌝ }
+{
+    quantity::lower(
+        quantity::angle_refusal(long),
+        quantity::lower(quantity::steep_refusal(lat), quantity::angle_refusal(oblq)),
+    )
+}
+
+// ---- ecliptic coordinates (Meeus, chapter 13)
+
+// The ecliptic longitude of arguments that are not refused.
+fn ecl_long_in(asc: Rad, dec: Rad, oblq: Rad) -> One
+    ensures { λ r. ⌜ shown r ≡ eclLongIn asc dec oblq ⌝ }
+{
+    let a = elementary::fold(asc);
+    let e = elementary::fold(oblq);
+    let d = elementary::fold(dec);
+    elementary_arc::arctangent_in(a.sine() * e.cosine() + d.tangent() * e.sine(), a.cosine())
+}
+
+// The ecliptic longitude from equatorial coordinates and the obliquity. Refusals: 1; 3; 4 past 1.57 for declination.
+pub fn ecl_long_frm_eq(asc: Rad, dec: Rad, oblq_eclip: Rad) -> One
+    ensures { λ r. ⌜ shown r ≡ eclLongFrmEqRule asc dec «oblq_eclip» ⌝ }
+{
+    let no = steep_frame_refusal(asc, dec, oblq_eclip);
+    if no != 0 {
+        return One::Refused(no);
+    }
+    ecl_long_in(asc, dec, oblq_eclip)
+}
+
+// The ecliptic latitude of arguments that are not refused.
+fn ecl_lat_in(asc: Rad, dec: Rad, oblq: Rad) -> One
+    ensures { λ r. ⌜ shown r ≡ eclLatIn asc dec oblq ⌝ }
+{
+    let a = elementary::fold(asc);
+    let e = elementary::fold(oblq);
+    let d = elementary::fold(dec);
+    elementary_arc::arcsine_in(d.sine() * e.cosine() - d.cosine() * e.sine() * a.sine())
+}
+
+// The ecliptic latitude from equatorial coordinates and the obliquity. Refusals: 1; 3; then 7.
+pub fn ecl_lat_frm_eq(asc: Rad, dec: Rad, oblq_eclip: Rad) -> One
+    ensures { λ r. ⌜ shown r ≡ eclLatFrmEqRule asc dec «oblq_eclip» ⌝ }
+{
+    let no = frame_refusal(asc, dec, oblq_eclip);
+    if no != 0 {
+        return One::Refused(no);
+    }
+    ecl_lat_in(asc, dec, oblq_eclip)
+}
+
+// The right ascension of arguments that are not refused.
+fn asc_frm_ecl_in(long: Rad, lat: Rad, oblq: Rad) -> One
+    ensures { λ r. ⌜ shown r ≡ ascFrmEclIn long lat oblq ⌝ }
+{
+    let l = elementary::fold(long);
+    let e = elementary::fold(oblq);
+    let b = elementary::fold(lat);
+    elementary_arc::arctangent_in(l.sine() * e.cosine() - b.tangent() * e.sine(), l.cosine())
+}
+
+// The right ascension from ecliptic coordinates and the obliquity. Refusals: 1; 3; 4 past 1.57 for latitude.
+pub fn asc_frm_ecl(ecl_long: Rad, ecl_lat: Rad, oblq_eclip: Rad) -> One
+    ensures { λ r. ⌜ shown r ≡ ascFrmEclRule «ecl_long» «ecl_lat» «oblq_eclip» ⌝ }
+{
+    let no = steep_frame_refusal(ecl_long, ecl_lat, oblq_eclip);
+    if no != 0 {
+        return One::Refused(no);
+    }
+    asc_frm_ecl_in(ecl_long, ecl_lat, oblq_eclip)
+}
+
+// The declination of arguments that are not refused.
+fn dec_frm_ecl_in(long: Rad, lat: Rad, oblq: Rad) -> One
+    ensures { λ r. ⌜ shown r ≡ decFrmEclIn long lat oblq ⌝ }
+{
+    let l = elementary::fold(long);
+    let e = elementary::fold(oblq);
+    let b = elementary::fold(lat);
+    elementary_arc::arcsine_in(b.sine() * e.cosine() + b.cosine() * e.sine() * l.sine())
+}
+
+// The declination from ecliptic coordinates and the obliquity. Refusals: 1; 3; then 7.
+pub fn dec_frm_ecl(ecl_long: Rad, ecl_lat: Rad, oblq_eclip: Rad) -> One
+    ensures { λ r. ⌜ shown r ≡ decFrmEclRule «ecl_long» «ecl_lat» «oblq_eclip» ⌝ }
+{
+    let no = frame_refusal(ecl_long, ecl_lat, oblq_eclip);
+    if no != 0 {
+        return One::Refused(no);
+    }
+    dec_frm_ecl_in(ecl_long, ecl_lat, oblq_eclip)
+}

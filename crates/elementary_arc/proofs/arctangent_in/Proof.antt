@@ -1,0 +1,12 @@
+-- `elementary_arc::arctangent_in` meets its contract. Assumes nothing.
+use Rattle.double.specs.laws.Calls.{asks-nothing}
+use Rattle.elementary_arc.specs.rules.Arctangent.{arctangentIn}
+use Rattle.elementary_arc.proofs.arctangent_in.Statement.{statement}
+use Rattle.elementary_arc.proofs.arctangent_in.Tie as tie
+
+returns : tie.Need-returns
+unfolding arctangentIn
+returns c = cc
+
+pub arctangent-in-spec : {M : Type 1} → statement M
+arctangent-in-spec = tie.close (tie.spec asks-nothing returns)

@@ -1,0 +1,10 @@
+-- `elementary_arc::arctangent_refusal` meets its contract. Assumes nothing.
+use Rattle.double.specs.laws.Calls.{asks-nothing}
+use Rattle.elementary_arc.proofs.arctangent_refusal.Statement.{statement}
+use Rattle.elementary_arc.proofs.arctangent_refusal.Tie as tie
+
+returns : tie.Need-returns
+returns c = cc
+
+pub arctangent-refusal-spec : {M : Type 1} → statement M
+arctangent-refusal-spec = tie.close (tie.spec asks-nothing asks-nothing asks-nothing returns)

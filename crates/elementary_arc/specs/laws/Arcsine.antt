@@ -1,0 +1,128 @@
+-- The arcsine of a number of size 1 at most is answered: the root is not refused, and the answer bears the number's sign and is a
+-- quarter turn at most. So 7 is the only refusal of a finite number. Assumes nothing.
+use mathlib.Core.Path.{_≡_, refl}
+use Prim.Native.Nat.{ℕ}
+use native.Mathlib.Omega.{arith}
+use mathlib.Core.Bool.{Bool, true, false}
+use lib.Dec.{T}
+use lib.Ieee.{Float, binary64, neg, add, sub, mul, le, lt, ofBits, round}
+use lib.Ieee.Bits.{is-true, is-false}
+use lib.Ieee.Fits.{mul-fits}
+use Rattle.double.specs.rules.Operations.{zero, one, two, _⊕_, _⊖_, _⊗_}
+use Rattle.double.specs.rules.Sign.{bearsMinus, size, isFinite}
+use Rattle.double.specs.rules.Order.{_≼_, Finite, Plus, Between}
+use Rattle.double.specs.rules.Table.{over}
+use Rattle.double.specs.notions.Range.{known, con, _⊞_, _⊟_, _⊠_}
+use Rattle.double.specs.laws.Tests.{holds, fails}
+use Rattle.double.specs.laws.Sign.{finite-size, no-minus-of-plus}
+use Rattle.double.specs.laws.Order.{le-of-not-lt, not-lt-of-le}
+use Rattle.double.specs.laws.Between.{size→between}
+use Rattle.double.specs.laws.Interval.{bounded}
+use Rattle.double.specs.laws.NearZero.{mul-plus, add-plus, sub-plus}
+use Rattle.quantity.specs.rules.Angle.{HALF}
+use Rattle.quantity.specs.rules.Answer.{answered, refused, then}
+use Rattle.root.specs.rules.Count.{IsFromZero}
+use Rattle.root.specs.rules.Root.{rootOf}
+use Rattle.root.specs.laws.Root.{root-from-zero, root-answered}
+use Rattle.elementary_arc.specs.rules.Arctangent.{arctangentOf, arctangentIn}
+use Rattle.elementary_arc.specs.rules.Arcsine.{arcsineIn}
+use Rattle.elementary_arc.specs.laws.Arctangent.{arctangent-sign, arctangent-finite, arctangent-at-most-half}
+
+-- what the root is taken of
+abbrev square : Float → Float
+square s = (one ⊖ s) ⊗ (one ⊕ s)
+
+abbrev arcsineOf : Float → Float
+arcsineOf s = arctangentOf s (rootOf (square s))
+
+finite-one : Finite one
+unfolding isFinite ofBits
+finite-one = tt
+
+module _ (s : Float) (h : size s ≼ one) where
+  place : Between (neg one) one s
+  place = size→between one s finite-one h
+
+  square-plus : Plus (square s)
+  unfolding isFinite le neg add sub ofBits
+  square-plus =
+      let less = bounded binary64 zero two (con one ⊟ known place) tt in
+      let more = bounded binary64 zero two (con one ⊞ known place) tt in
+      mul-plus binary64 (one ⊖ s) (one ⊕ s) (less .finite) (more .finite)
+      (sub-plus binary64 one s tt (place .finite) tt (place .to))
+      (add-plus binary64 one s tt (place .finite) tt (place .from))
+
+  square-finite : Finite (square s)
+  unfolding isFinite le neg add sub mul ofBits round
+  square-finite = bounded binary64 zero (over 4 1) ((con one ⊟ known place) ⊠ (con one ⊞ known place)) tt .finite
+
+  square-from-zero : IsFromZero (square s)
+  square-from-zero =
+      record {
+        held = mul-fits binary64 (one ⊖ s) (one ⊕ s);
+        finite = is-true (isFinite (square s)) square-finite;
+        plus = no-minus-of-plus (square s) square-plus;
+      }
+
+  root-double : IsFromZero (rootOf (square s))
+  root-double = root-from-zero (square s) square-from-zero
+
+  root-finite : Finite (rootOf (square s))
+  root-finite = holds (root-double .finite)
+
+  -- the root is not refused
+  pub arcsine-answered : arcsineIn s ≡ answered (arcsineOf s)
+  unfolding arcsineIn then arctangentIn
+  arcsine-answered = rw (not-past, root-answered (square s) (square-from-zero .finite) (square-from-zero .plus))
+    where
+      not-past : lt one (size s) ≡ false
+      not-past = is-false (lt one (size s)) (not-lt-of-le (size s) one (rw (finite-size s) (place .finite)) finite-one h)
+
+-- ---- what it answers to a finite number
+
+module _ (s : Float) (p : Finite s) where
+  past-one : lt one (size s) ≡ true → arcsineIn s ≡ refused 7
+  unfolding arcsineIn
+  past-one t = rw t
+
+  up-to-one : lt one (size s) ≡ false → size s ≼ one
+  up-to-one t = le-of-not-lt one (size s) finite-one (rw (finite-size s) p) (fails t)
+
+  -- 7 is the only refusal, and is given only past 1 in size
+  pub arcsine-refuses-seven : (n : ℕ) → arcsineIn s ≡ refused n → (n ≡ 7) × T (lt one (size s))
+  arcsine-refuses-seven n e = by-case (lt one (size s)) refl
+    where
+      by-case : (b : Bool) → lt one (size s) ≡ b → (n ≡ 7) × T (lt one (size s))
+      by-case true t = (cc (past-one t), holds t)
+      by-case false t =
+          let a = arcsine-answered s (up-to-one t) in
+          let z : _≡_ {A = ℕ} 0 1 = cc in
+          absurd (omega arith)
+
+  module _ (v : Float) (e : arcsineIn s ≡ answered v) where
+    within-one : size s ≼ one
+    within-one = by-case (lt one (size s)) refl
+      where
+        by-case : (b : Bool) → lt one (size s) ≡ b → size s ≼ one
+        by-case true t =
+            let a = past-one t in
+            let z : _≡_ {A = ℕ} 0 1 = cc in
+            absurd (omega arith)
+        by-case false t = up-to-one t
+
+    is-arcsine : v ≡ arcsineOf s
+    is-arcsine = cc (arcsine-answered s within-one)
+
+    -- the answer bears s's sign
+    pub arcsine-sign : bearsMinus v ≡ bearsMinus s
+    arcsine-sign = rw is-arcsine (arctangent-sign s (rootOf (square s)) p (root-finite s within-one))
+
+    pub arcsine-finite : Finite v
+    arcsine-finite = rw is-arcsine (arctangent-finite s (rootOf (square s)) p (root-finite s within-one))
+
+    -- a quarter turn at most
+    pub arcsine-at-most-half : size v ≼ HALF
+    arcsine-at-most-half =
+        rw is-arcsine
+        (arctangent-at-most-half s (rootOf (square s)) p (root-finite s within-one)
+        (root-double s within-one .plus))

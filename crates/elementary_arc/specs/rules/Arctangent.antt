@@ -1,0 +1,44 @@
+-- The arctangent of (y, x).
+use Prim.Native.Nat.{ℕ}
+use mathlib.Core.Bool.{Bool, cond, _&&_}
+use lib.Ieee.{Float, eq, le}
+use Rattle.double.specs.rules.Operations.{bits, zero, one, _⊕_, _⊖_, _⊘_}
+use Rattle.double.specs.rules.Sign.{bearsMinus, negatedIf, size}
+use Rattle.quantity.specs.rules.Angle.{PI, HALF, QUARTER}
+use Rattle.quantity.specs.rules.Answer.{Answer, answered, unless}
+use Rattle.quantity.specs.rules.Refusal.{lower, numberRefusal}
+use Rattle.elementary_arc.specs.rules.Series.{arctangentSeries}
+
+-- 0.4142
+abbrev pub near : Float
+near = bits 0x3fda8240b780346e
+
+-- Atn(v)
+abbrev pub atn : Float → Float
+atn v = cond (le v near) (arctangentSeries v) (QUARTER ⊕ arctangentSeries ((v ⊖ one) ⊘ (v ⊕ one)))
+
+abbrev pub bothZero : Float → Float → Bool
+bothZero y x = eq y zero && eq x zero
+
+-- of two sizes
+abbrev pub base : Float → Float → Float
+base y x = cond (bothZero y x) zero (cond (le y x) (atn (y ⊘ x)) (HALF ⊖ atn (x ⊘ y)))
+
+-- where x bears a minus sign, base becomes PI − base
+abbrev pub turned : Bool → Float → Float
+turned minus b = cond minus (PI ⊖ b) b
+
+-- base's size and y's sign
+unfoldable pub arctangentOf : Float → Float → Float
+arctangentOf y x = negatedIf (bearsMinus y) (size (turned (bearsMinus x) (base (size y) (size x))))
+
+-- as other rules use it: what it refuses they refuse
+unfoldable pub arctangentIn : Float → Float → Answer Float
+arctangentIn y x = answered (arctangentOf y x)
+
+-- called alone: 1
+abbrev pub arctangentRefusal : Float → Float → ℕ
+arctangentRefusal y x = lower (numberRefusal y) (numberRefusal x)
+
+unfoldable pub arctangentRule : Float → Float → Answer Float
+arctangentRule y x = unless (arctangentRefusal y x) (arctangentIn y x)

@@ -1,0 +1,179 @@
+// Arctangent and arcsine (section 2). Every operation is one f64 operation, rounded once, in the order written.
+// Those that other functions use are total on all doubles. Rules: specs/rules, in reading order in specs/rules.antt.
+ghost use mathlib.Core.Path.{_≡_};
+ghost use Rattle.quantity.specs.rules.Answer.{shown};
+ghost use Rattle.elementary_arc.specs.rules.Series.{arctangentSeries};
+ghost use Rattle.elementary_arc.specs.rules.Arctangent.{atn, bothZero, base, turned, arctangentOf, arctangentIn, arctangentRefusal, arctangentRule};
+ghost use Rattle.elementary_arc.specs.rules.Arcsine.{arcsineIn, arcsineRule};
+use quantity::HALF;
+use quantity::One;
+use quantity::PI;
+use quantity::QUARTER;
+
+// The entries of A: 1/n.
+const A41: f64 = 0.024390243902439025;
+
+const A39: f64 = -0.02564102564102564;
+
+const A37: f64 = 0.02702702702702703;
+
+const A35: f64 = -0.02857142857142857;
+
+const A33: f64 = 0.030303030303030304;
+
+const A31: f64 = -0.03225806451612903;
+
+const A29: f64 = 0.034482758620689655;
+
+const A27: f64 = -0.037037037037037035;
+
+const A25: f64 = 0.04;
+
+const A23: f64 = -0.043478260869565216;
+
+const A21: f64 = 0.047619047619047616;
+
+const A19: f64 = -0.05263157894736842;
+
+const A17: f64 = 0.058823529411764705;
+
+const A15: f64 = -0.06666666666666667;
+
+const A13: f64 = 0.07692307692307693;
+
+const A11: f64 = -0.09090909090909091;
+
+const A9: f64 = 0.1111111111111111;
+
+const A7: f64 = -0.14285714285714285;
+
+const A5: f64 = 0.2;
+
+const A3: f64 = -0.3333333333333333;
+
+// A(u)
+fn arctangent_series(u: f64) -> f64
+    ensures { λ v. ⌜ v ≡ arctangentSeries u ⌝ }
+{
+    let w = u * u;
+    let mut p = A41;
+    p = p * w + A39;
+    p = p * w + A37;
+    p = p * w + A35;
+    p = p * w + A33;
+    p = p * w + A31;
+    p = p * w + A29;
+    p = p * w + A27;
+    p = p * w + A25;
+    p = p * w + A23;
+    p = p * w + A21;
+    p = p * w + A19;
+    p = p * w + A17;
+    p = p * w + A15;
+    p = p * w + A13;
+    p = p * w + A11;
+    p = p * w + A9;
+    p = p * w + A7;
+    p = p * w + A5;
+    p = p * w + A3;
+    u + (u * w) * p
+}
+
+// Atn(v), for v from 0 to 1.
+fn atn(v: f64) -> f64
+    ensures { λ r. ⌜ r ≡ atn v ⌝ }
+{
+    if v <= 0.4142 {
+        arctangent_series(v)
+    } else {
+        QUARTER + arctangent_series((v - 1.0) / (v + 1.0))
+    }
+}
+
+// Whether y and x are zero, of either sign.
+fn both_zero(y: f64, x: f64) -> bool
+    ensures { λ r. ⌜ r ≡ bothZero y x ⌝ }
+{
+    if y == 0.0 { x == 0.0 } else { false }
+}
+
+// The base of two sizes.
+fn base(y: f64, x: f64) -> f64
+    ensures { λ r. ⌜ r ≡ base y x ⌝ }
+{
+    if both_zero(y, x) {
+        return 0.0;
+    }
+    if y <= x {
+        atn(y / x)
+    } else {
+        HALF - atn(x / y)
+    }
+}
+
+// Base as it becomes where x bears a minus sign.
+fn turned(minus: bool, b: f64) -> f64
+    ensures { λ r. ⌜ r ≡ turned minus b ⌝ }
+{
+    if minus { PI - b } else { b }
+}
+
+// The arctangent of (y, x): the angle from the second axis, with y's sign.
+fn arctangent_of(y: f64, x: f64) -> f64
+    ensures { λ r. ⌜ r ≡ arctangentOf y x ⌝ }
+{
+    let b = turned(
+        double::bears_minus(x),
+        base(double::size(y), double::size(x)),
+    );
+    double::negated_if(double::bears_minus(y), double::size(b))
+}
+
+// The arctangent as other functions use it. Answered: the angle. Refusals, which callers hand on: none.
+pub fn arctangent_in(y: f64, x: f64) -> One
+    ensures { λ r. ⌜ shown r ≡ arctangentIn y x ⌝ }
+{
+    One::Is(arctangent_of(y, x))
+}
+
+// Refusals of the arctangent's arguments: 1.
+fn arctangent_refusal(y: f64, x: f64) -> u8
+    ensures { λ r. ⌜ r ≡ arctangentRefusal y x ⌝ }
+{
+    quantity::lower(quantity::number_refusal(y), quantity::number_refusal(x))
+}
+
+// The arctangent of (y, x), called alone. Refusals: 1.
+pub fn arctangent(y: f64, x: f64) -> One
+    ensures { λ r. ⌜ shown r ≡ arctangentRule y x ⌝ }
+{
+    let no = arctangent_refusal(y, x);
+    if no != 0 {
+        return One::Refused(no);
+    }
+    arctangent_in(y, x)
+}
+
+// The arcsine as other functions use it. Refusals, which callers hand on: 7 where s exceeds 1 in size.
+pub fn arcsine_in(s: f64) -> One
+    ensures { λ r. ⌜ shown r ≡ arcsineIn s ⌝ }
+{
+    if 1.0 < double::size(s) {
+        return One::Refused(7);
+    }
+    match root::square_root((1.0 - s) * (1.0 + s)) {
+        One::Is(r) => arctangent_in(s, r),
+        One::Refused(n) => One::Refused(n),
+    }
+}
+
+// The arcsine of s, called alone. Refusals: 1; 7 where s exceeds 1 in size.
+pub fn arcsine(s: f64) -> One
+    ensures { λ r. ⌜ shown r ≡ arcsineRule s ⌝ }
+{
+    let no = quantity::number_refusal(s);
+    if no != 0 {
+        return One::Refused(no);
+    }
+    arcsine_in(s)
+}
