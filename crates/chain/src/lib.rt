@@ -83,7 +83,7 @@ pub fn night_of(day1: f64, day2: f64) -> Night
 {
     gathered(
         precess::eq_turns(day1, day2),
-        nutation_rows::nutation_on(day2),
+        nutation_table::nutation_on(day2),
         obliquity_on(day2),
         aberr_rows::velocity_on(day2),
     )

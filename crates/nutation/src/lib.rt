@@ -1,4 +1,4 @@
-// Nutation (section 4), on a day and at a point. Angles are in radians. The sums over the table stand in nutation_rows.
+// Nutation (section 4), on a day and at a point. Angles are in radians. The sums over the table stand in nutation_table.
 // Rules: specs/rules, in reading order in specs/rules.antt.
 ghost use mathlib.Core.Path.{_≡_};
 ghost use Rattle.quantity.specs.rules.Answer.{shownTwo};
@@ -21,7 +21,7 @@ pub fn nutation(day: f64) -> Two
     if no != 0 {
         return Two::Refused(no);
     }
-    let n = nutation_rows::nutation_on(day);
+    let n = nutation_table::nutation_on(day);
     Two::Are(n.long, n.oblq)
 }
 

@@ -1,2 +1,2 @@
--- What is proved of the rows of nutation, for callers to cite. Theorems only.
+-- What is proved of a row of nutation, for callers to cite. Theorems only.
 pub mod Constants

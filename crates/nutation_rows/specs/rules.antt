@@ -1,5 +1,4 @@
--- What a reader must believe of the rows of nutation (section 4), in the crate's order. Definitions only.
+-- What a reader must believe of a row of nutation (section 4), in the crate's order. Definitions only.
 pub mod Numbers
 pub mod Arguments
-pub mod Rows
 pub mod Sum

@@ -1,91 +1,33 @@
-// The rows of nutation (section 4): 63 of nine whole numbers, summed in table order. Angles are in radians.
+// One row of nutation (section 4): its argument from the five angles of a day, and its shares. Angles are in radians.
 // Rules: specs/rules, in reading order in specs/rules.antt.
 ghost use mathlib.Core.Path.{_≡_};
 ghost use Rattle.nutation_rows.specs.rules.Arguments.{moonM1, moonM, moonD, moonF, moonNode, inTurn, gathered, moonOf};
-ghost use Rattle.nutation_rows.specs.rules.Rows.{rows};
-ghost use Rattle.nutation_rows.specs.rules.Sum.{argumentOf, longShare, oblqShare, withRow, none, summed, converted, nutationOf};
+ghost use Rattle.nutation_rows.specs.rules.Sum.{argumentOf, longShare, oblqShare, withRow, converted};
 use helpers::angle;
-use helpers::time;
 use quantity::Deg;
 use quantity::Rad;
 
 // How often D, M, M', F and Ω enter the argument; the coefficients of longitude and of obliquity, each with its slow part.
-struct Row(i8, i8, i8, i8, i8, i32, i32, i32, i16);
-
-const ROWS: [Row; 63] = [
-    Row(0, 0, 0, 0, 1, -171996, -1742, 92025, 89),
-    Row(-2, 0, 0, 2, 2, -13187, -16, 5736, -31),
-    Row(0, 0, 0, 2, 2, -2274, -2, 977, -5),
-    Row(0, 0, 0, 0, 2, 2062, 2, -895, 5),
-    Row(0, 1, 0, 0, 0, 1426, -34, 54, -1),
-    Row(0, 0, 1, 0, 0, 712, 1, -7, 0),
-    Row(-2, 1, 0, 2, 2, -517, 12, 224, -6),
-    Row(0, 0, 0, 2, 1, -386, -4, 200, 0),
-    Row(0, 0, 1, 2, 2, -301, 0, 129, -1),
-    Row(-2, -1, 0, 2, 2, 217, -5, -95, 3),
-    Row(-2, 0, 1, 0, 0, -158, 0, 0, 0),
-    Row(-2, 0, 0, 2, 1, 129, 1, -70, 0),
-    Row(0, 0, -1, 2, 2, 123, 0, -53, 0),
-    Row(2, 0, 0, 0, 0, 63, 0, 0, 0),
-    Row(0, 0, 1, 0, 1, 63, 1, -33, 0),
-    Row(2, 0, -1, 2, 2, -59, 0, 26, 0),
-    Row(0, 0, -1, 0, 1, -58, -1, 32, 0),
-    Row(0, 0, 1, 2, 1, -51, 0, 27, 0),
-    Row(-2, 0, 2, 0, 0, 48, 0, 0, 0),
-    Row(0, 0, -2, 2, 1, 46, 0, -24, 0),
-    Row(2, 0, 0, 2, 2, -38, 0, 16, 0),
-    Row(0, 0, 2, 2, 2, -31, 0, 13, 0),
-    Row(0, 0, 2, 0, 0, 29, 0, 0, 0),
-    Row(-2, 0, 1, 2, 2, 29, 0, -12, 0),
-    Row(0, 0, 0, 2, 0, 26, 0, 0, 0),
-    Row(-2, 0, 0, 2, 0, -22, 0, 0, 0),
-    Row(0, 0, -1, 2, 1, 21, 0, -10, 0),
-    Row(0, 2, 0, 0, 0, 17, -1, 0, 0),
-    Row(2, 0, -1, 0, 1, 16, 0, -8, 0),
-    Row(-2, 2, 0, 2, 2, -16, 1, 7, 0),
-    Row(0, 1, 0, 0, 1, -15, 0, 9, 0),
-    Row(-2, 0, 1, 0, 1, -13, 0, 7, 0),
-    Row(0, -1, 0, 0, 1, -12, 0, 6, 0),
-    Row(0, 0, 2, -2, 0, 11, 0, 0, 0),
-    Row(2, 0, -1, 2, 1, -10, 0, 5, 0),
-    Row(2, 0, 1, 2, 2, -8, 0, 3, 0),
-    Row(0, 1, 0, 2, 2, 7, 0, -3, 0),
-    Row(-2, 1, 1, 0, 0, -7, 0, 0, 0),
-    Row(0, -1, 0, 2, 2, -7, 0, 3, 0),
-    Row(2, 0, 0, 2, 1, -7, 0, 3, 0),
-    Row(2, 0, 1, 0, 0, 6, 0, 0, 0),
-    Row(-2, 0, 2, 2, 2, 6, 0, -3, 0),
-    Row(-2, 0, 1, 2, 1, 6, 0, -3, 0),
-    Row(2, 0, -2, 0, 1, -6, 0, 3, 0),
-    Row(2, 0, 0, 0, 1, -6, 0, 3, 0),
-    Row(0, -1, 1, 0, 0, 5, 0, 0, 0),
-    Row(-2, -1, 0, 2, 1, -5, 0, 3, 0),
-    Row(-2, 0, 0, 0, 1, -5, 0, 3, 0),
-    Row(0, 0, 2, 2, 1, -5, 0, 3, 0),
-    Row(-2, 0, 2, 0, 1, 4, 0, 0, 0),
-    Row(-2, 1, 0, 2, 1, 4, 0, 0, 0),
-    Row(0, 0, 1, -2, 0, 4, 0, 0, 0),
-    Row(-1, 0, 1, 0, 0, -4, 0, 0, 0),
-    Row(-2, 1, 0, 0, 0, -4, 0, 0, 0),
-    Row(1, 0, 0, 0, 0, -4, 0, 0, 0),
-    Row(0, 0, 1, 2, 0, 3, 0, 0, 0),
-    Row(0, 0, -2, 2, 2, -3, 0, 0, 0),
-    Row(-1, -1, 1, 0, 0, -3, 0, 0, 0),
-    Row(0, 1, 1, 0, 0, -3, 0, 0, 0),
-    Row(0, -1, 1, 2, 2, -3, 0, 0, 0),
-    Row(2, -1, -1, 2, 2, -3, 0, 0, 0),
-    Row(0, 0, 3, 2, 2, -3, 0, 0, 0),
-    Row(2, -1, 0, 2, 2, -3, 0, 0, 0),
-];
+pub struct Row(
+    pub i8,
+    pub i8,
+    pub i8,
+    pub i8,
+    pub i8,
+    pub i32,
+    pub i32,
+    pub i32,
+    pub i16,
+);
 
 // The century t, and at it the five arguments in radians, each folded into one turn of degrees first.
-struct Moon {
-    t: f64,
-    d: f64,
-    m: f64,
-    m1: f64,
-    f: f64,
-    node: f64,
+pub struct Moon {
+    pub t: f64,
+    pub d: f64,
+    pub m: f64,
+    pub m1: f64,
+    pub f: f64,
+    pub node: f64,
 }
 
 // Nutation in longitude and in obliquity.
@@ -153,7 +95,7 @@ fn gathered(t: f64, d: Rad, m: Rad, m1: Rad, f: Rad, node: Rad) -> Moon
 }
 
 // The arguments at a century.
-fn moon_at(t: f64) -> Moon
+pub fn moon_at(t: f64) -> Moon
     ensures { λ r. ⌜ r ≡ moonOf t ⌝ }
 {
     gathered(
@@ -199,7 +141,7 @@ fn oblq_share(x: Row, t: f64, cosine: f64) -> f64
 }
 
 // The sums with one row more.
-fn with_row(x: Row, a: Moon, s: Nutations) -> Nutations
+pub fn with_row(x: Row, a: Moon, s: Nutations) -> Nutations
     ensures { λ r. ⌜ r ≡ withRow x a s ⌝ }
 {
     let w = elementary::fold(argument(x, a));
@@ -211,36 +153,12 @@ fn with_row(x: Row, a: Moon, s: Nutations) -> Nutations
     }
 }
 
-// The sums over the table, in degrees.
-fn table_sum(a: Moon) -> Nutations
-    ensures { λ r. ⌜ r ≡ summed rows a none ⌝ }
-{
-    let mut s = Nutations {
-        long: 0.0,
-        oblq: 0.0,
-    };
-    let table = ROWS;
-    let mut i: usize = 0;
-    while i < 63 {
-        s = with_row(table[i], a, s);
-        i += 1;
-    }
-    s
-}
-
 // Both sums in radians.
-fn converted(s: Nutations) -> Nutations
+pub fn converted(s: Nutations) -> Nutations
     ensures { λ r. ⌜ r ≡ converted s ⌝ }
 {
     Nutations {
         long: angle::radians(Deg(s.long)).0,
         oblq: angle::radians(Deg(s.oblq)).0,
     }
-}
-
-// Nutation on a day that is not refused.
-pub fn nutation_on(day: f64) -> Nutations
-    ensures { λ r. ⌜ r ≡ nutationOf day ⌝ }
-{
-    converted(table_sum(moon_at(time::century(day))))
 }

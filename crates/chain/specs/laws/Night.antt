@@ -13,7 +13,7 @@ use Rattle.elementary.specs.laws.Accepted.{lower-none}
 use Rattle.precess.specs.rules.Days.{daysRefusal, placeRefusal}
 use Rattle.precess.specs.rules.Equatorial.{precessEqCoordsRule, turnedIn, eqTurnsOf}
 use Rattle.nutation.specs.rules.Day.{nutationRule}
-use Rattle.nutation_rows.specs.rules.Sum.{nutationOf}
+use Rattle.nutation_table.specs.rules.Day.{nutationOf}
 use Rattle.nutation.specs.rules.Point.{nutationInEqCoordsRule, nutationInEqCoordsIn}
 use Rattle.aberr.specs.rules.Star.{stellAberrInEqCoordsRule, stellAberrInEqCoordsIn}
 use Rattle.chain.specs.rules.Obliquity.{obliquityOf}

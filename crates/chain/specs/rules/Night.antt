@@ -11,7 +11,7 @@ use Rattle.elementary.specs.rules.Direction.{directionOf}
 use Rattle.precess.specs.declared.EqTurns.{EqTurns}
 use Rattle.precess.specs.rules.Equatorial.{eqTurnsOf, turnedIn}
 use Rattle.nutation_rows.specs.declared.Nutations.{Nutations}
-use Rattle.nutation_rows.specs.rules.Sum.{nutationOf}
+use Rattle.nutation_table.specs.rules.Day.{nutationOf}
 use Rattle.nutation.specs.rules.Point.{nutationAt}
 use Rattle.aberr_rows.specs.declared.Velocity.{Velocity}
 use Rattle.aberr_rows.specs.rules.Velocity.{velocityOf}

@@ -21,8 +21,9 @@ use Rattle.helpers.specs.rules.Time.{centuryOf}
 use Rattle.nutation_rows.specs.declared.Nutations.{Nutations}
 use Rattle.nutation_rows.specs.rules.Numbers.{n10}
 use Rattle.nutation_rows.specs.rules.Arguments.{moonOf}
-use Rattle.nutation_rows.specs.rules.Rows.{rows}
-use Rattle.nutation_rows.specs.rules.Sum.{whole, argumentOf, unit, share, withRow, summed, none, converted, nutationOf}
+use Rattle.nutation_table.specs.rules.Rows.{rows}
+use Rattle.nutation_rows.specs.rules.Sum.{whole, argumentOf, unit, share, withRow, summed, none, converted}
+use Rattle.nutation_table.specs.rules.Day.{nutationOf}
 use Rattle.nutation.specs.rules.Day.{nutationRule}
 use Rattle.conditions.specs.notions.Outcome.{Outcome, Never}
 use Rattle.conditions.specs.notions.Within.{Within, BothFinite, BothWithin}

@@ -8,7 +8,7 @@ use Rattle.double.specs.rules.Table.{over}
 use Rattle.double.specs.notions.Range.{Range, _to_, span, addRange, mulRange, divRange, inside}
 use Rattle.nutation_rows.specs.rules.Numbers.{n10}
 use Rattle.nutation_rows.specs.rules.Arguments.{moonOf}
-use Rattle.nutation_rows.specs.rules.Rows.{rows}
+use Rattle.nutation_table.specs.rules.Rows.{rows}
 use Rattle.nutation_rows.specs.rules.Sum.{whole, unit}
 use Rattle.conditions.specs.notions.Within.{Within}
 

@@ -2,7 +2,7 @@
 use lib.Ieee.{Float}
 use Rattle.quantity.specs.rules.Answer.{Answer, answered, Pair, pair, unless}
 use Rattle.quantity.specs.rules.Refusal.{dayRefusal}
-use Rattle.nutation_rows.specs.rules.Sum.{nutationOf}
+use Rattle.nutation_table.specs.rules.Day.{nutationOf}
 
 unfoldable pub nutationRule : Float → Answer Pair
 nutationRule day = unless (dayRefusal day) (answered (pair (nutationOf day .long) (nutationOf day .oblq)))

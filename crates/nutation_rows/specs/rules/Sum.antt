@@ -1,4 +1,4 @@
--- One row's share, the sums over the rows in table order, and nutation on a day.
+-- One row's shares, and the sums over a list of rows in its order.
 use mathlib.Core.List.{List, [], _∷_}
 use lib.IntN.{ℤ}
 use lib.Ieee.{Float, binary64, ofInt}
@@ -6,13 +6,10 @@ use Rattle.double.specs.rules.Operations.{bits, zero, _⊕_, _⊗_, _⊘_}
 use Rattle.quantity.specs.declared.Rad.{Rad}
 use Rattle.elementary.specs.rules.Sine.{sineOf, cosineOf}
 use Rattle.helpers.specs.rules.Angle.{radiansOf}
-use Rattle.helpers.specs.rules.Time.{centuryOf}
 use Rattle.nutation_rows.specs.declared.Row.{Row}
 use Rattle.nutation_rows.specs.declared.Moon.{Moon}
 use Rattle.nutation_rows.specs.declared.Nutations.{Nutations}
 use Rattle.nutation_rows.specs.rules.Numbers.{n10}
-use Rattle.nutation_rows.specs.rules.Arguments.{moonOf}
-use Rattle.nutation_rows.specs.rules.Rows.{rows}
 
 -- a whole number of the table
 abbrev pub whole : ℤ → Float
@@ -54,6 +51,3 @@ none = record { long = zero; oblq = zero }
 -- both sums from degrees to radians
 unfoldable pub converted : Nutations → Nutations
 converted s = record { long = radiansOf (record { 0 = s .long }) .0; oblq = radiansOf (record { 0 = s .oblq }) .0 }
-
-unfoldable pub nutationOf : Float → Nutations
-nutationOf day = converted (summed rows (moonOf (centuryOf day)) none)

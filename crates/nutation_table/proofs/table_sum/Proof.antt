@@ -1,4 +1,4 @@
--- `nutation_rows::table_sum` meets its contract. The invariant: the sums over the rows that are left, from the sums so far, are those over
+-- `nutation_table::table_sum` meets its contract. The invariant: the sums over the rows that are left, from the sums so far, are those over
 -- all rows. Assumes nothing.
 use borrow.Author.Needs.{needs}
 use mathlib.Core.Path.{_≡_, refl, _∙_}
@@ -8,13 +8,13 @@ use native.Mathlib.Omega.{arith}
 use native.Mathlib.Numerals.{add-one}
 use lib.ListN.{length, getD, drop}
 use lib.Seq.{drop-cons}
 use Rattle.nutation_rows.specs.declared.Row.{Row}
 use Rattle.nutation_rows.specs.declared.Moon.{Moon}
 use Rattle.nutation_rows.specs.declared.Nutations.{Nutations}
-use Rattle.nutation_rows.specs.rules.Rows.{rows}
+use Rattle.nutation_table.specs.rules.Rows.{rows}
 use Rattle.nutation_rows.specs.rules.Sum.{summed, withRow}
-use Rattle.nutation_rows.proofs.table_sum.Statement.{statement}
-use Rattle.nutation_rows.proofs.table_sum.Tie as tie
+use Rattle.nutation_table.proofs.table_sum.Statement.{statement}
+use Rattle.nutation_table.proofs.table_sum.Tie as tie
 
 -- one row more
 next : (xs : List Row) (i : ℕ) (d : Row) (a : Moon) (s : Nutations) → i < length xs → summed (drop (i + 1) xs) a (withRow (getD xs i d) a s) ≡ summed (drop i xs) a s

@@ -1,12 +1,13 @@
--- `nutation_rows::nutation_on` meets its contract. Assumes nothing.
+-- `nutation_table::nutation_on` meets its contract. Assumes nothing.
 use Rattle.double.specs.laws.Calls.{asks-nothing}
 use mathlib.Core.Path.{ap, _∙_}
 use Rattle.nutation_rows.specs.declared.Moon.{Moon}
 use Rattle.nutation_rows.specs.rules.Arguments.{moonOf}
-use Rattle.nutation_rows.specs.rules.Rows.{rows}
-use Rattle.nutation_rows.specs.rules.Sum.{summed, none, converted, nutationOf}
-use Rattle.nutation_rows.proofs.nutation_on.Statement.{statement}
-use Rattle.nutation_rows.proofs.nutation_on.Tie as tie
+use Rattle.nutation_table.specs.rules.Rows.{rows}
+use Rattle.nutation_rows.specs.rules.Sum.{summed, none, converted}
+use Rattle.nutation_table.specs.rules.Day.{nutationOf}
+use Rattle.nutation_table.proofs.nutation_on.Statement.{statement}
+use Rattle.nutation_table.proofs.nutation_on.Tie as tie
 
 returns : tie.Need-returns
 unfolding nutationOf

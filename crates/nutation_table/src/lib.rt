@@ -1,0 +1,102 @@
+// The table of nutation (section 4): 63 rows of nine whole numbers, summed in table order. Angles are in radians.
+// Rules: specs/rules, in reading order in specs/rules.antt.
+ghost use mathlib.Core.Path.{_≡_};
+ghost use Rattle.nutation_table.specs.rules.Rows.{rows};
+ghost use Rattle.nutation_rows.specs.rules.Sum.{none, summed};
+ghost use Rattle.nutation_table.specs.rules.Day.{nutationOf};
+use helpers::time;
+use nutation_rows::Moon;
+use nutation_rows::Nutations;
+use nutation_rows::Row;
+
+const ROWS: [Row; 63] = [
+    Row(0, 0, 0, 0, 1, -171996, -1742, 92025, 89),
+    Row(-2, 0, 0, 2, 2, -13187, -16, 5736, -31),
+    Row(0, 0, 0, 2, 2, -2274, -2, 977, -5),
+    Row(0, 0, 0, 0, 2, 2062, 2, -895, 5),
+    Row(0, 1, 0, 0, 0, 1426, -34, 54, -1),
+    Row(0, 0, 1, 0, 0, 712, 1, -7, 0),
+    Row(-2, 1, 0, 2, 2, -517, 12, 224, -6),
+    Row(0, 0, 0, 2, 1, -386, -4, 200, 0),
+    Row(0, 0, 1, 2, 2, -301, 0, 129, -1),
+    Row(-2, -1, 0, 2, 2, 217, -5, -95, 3),
+    Row(-2, 0, 1, 0, 0, -158, 0, 0, 0),
+    Row(-2, 0, 0, 2, 1, 129, 1, -70, 0),
+    Row(0, 0, -1, 2, 2, 123, 0, -53, 0),
+    Row(2, 0, 0, 0, 0, 63, 0, 0, 0),
+    Row(0, 0, 1, 0, 1, 63, 1, -33, 0),
+    Row(2, 0, -1, 2, 2, -59, 0, 26, 0),
+    Row(0, 0, -1, 0, 1, -58, -1, 32, 0),
+    Row(0, 0, 1, 2, 1, -51, 0, 27, 0),
+    Row(-2, 0, 2, 0, 0, 48, 0, 0, 0),
+    Row(0, 0, -2, 2, 1, 46, 0, -24, 0),
+    Row(2, 0, 0, 2, 2, -38, 0, 16, 0),
+    Row(0, 0, 2, 2, 2, -31, 0, 13, 0),
+    Row(0, 0, 2, 0, 0, 29, 0, 0, 0),
+    Row(-2, 0, 1, 2, 2, 29, 0, -12, 0),
+    Row(0, 0, 0, 2, 0, 26, 0, 0, 0),
+    Row(-2, 0, 0, 2, 0, -22, 0, 0, 0),
+    Row(0, 0, -1, 2, 1, 21, 0, -10, 0),
+    Row(0, 2, 0, 0, 0, 17, -1, 0, 0),
+    Row(2, 0, -1, 0, 1, 16, 0, -8, 0),
+    Row(-2, 2, 0, 2, 2, -16, 1, 7, 0),
+    Row(0, 1, 0, 0, 1, -15, 0, 9, 0),
+    Row(-2, 0, 1, 0, 1, -13, 0, 7, 0),
+    Row(0, -1, 0, 0, 1, -12, 0, 6, 0),
+    Row(0, 0, 2, -2, 0, 11, 0, 0, 0),
+    Row(2, 0, -1, 2, 1, -10, 0, 5, 0),
+    Row(2, 0, 1, 2, 2, -8, 0, 3, 0),
+    Row(0, 1, 0, 2, 2, 7, 0, -3, 0),
+    Row(-2, 1, 1, 0, 0, -7, 0, 0, 0),
+    Row(0, -1, 0, 2, 2, -7, 0, 3, 0),
+    Row(2, 0, 0, 2, 1, -7, 0, 3, 0),
+    Row(2, 0, 1, 0, 0, 6, 0, 0, 0),
+    Row(-2, 0, 2, 2, 2, 6, 0, -3, 0),
+    Row(-2, 0, 1, 2, 1, 6, 0, -3, 0),
+    Row(2, 0, -2, 0, 1, -6, 0, 3, 0),
+    Row(2, 0, 0, 0, 1, -6, 0, 3, 0),
+    Row(0, -1, 1, 0, 0, 5, 0, 0, 0),
+    Row(-2, -1, 0, 2, 1, -5, 0, 3, 0),
+    Row(-2, 0, 0, 0, 1, -5, 0, 3, 0),
+    Row(0, 0, 2, 2, 1, -5, 0, 3, 0),
+    Row(-2, 0, 2, 0, 1, 4, 0, 0, 0),
+    Row(-2, 1, 0, 2, 1, 4, 0, 0, 0),
+    Row(0, 0, 1, -2, 0, 4, 0, 0, 0),
+    Row(-1, 0, 1, 0, 0, -4, 0, 0, 0),
+    Row(-2, 1, 0, 0, 0, -4, 0, 0, 0),
+    Row(1, 0, 0, 0, 0, -4, 0, 0, 0),
+    Row(0, 0, 1, 2, 0, 3, 0, 0, 0),
+    Row(0, 0, -2, 2, 2, -3, 0, 0, 0),
+    Row(-1, -1, 1, 0, 0, -3, 0, 0, 0),
+    Row(0, 1, 1, 0, 0, -3, 0, 0, 0),
+    Row(0, -1, 1, 2, 2, -3, 0, 0, 0),
+    Row(2, -1, -1, 2, 2, -3, 0, 0, 0),
+    Row(0, 0, 3, 2, 2, -3, 0, 0, 0),
+    Row(2, -1, 0, 2, 2, -3, 0, 0, 0),
+];
+
+// ---- the sums
+
+// The sums over the table, in degrees.
+fn table_sum(a: Moon) -> Nutations
+    ensures { λ r. ⌜ r ≡ summed rows a none ⌝ }
+{
+    let mut s = Nutations {
+        long: 0.0,
+        oblq: 0.0,
+    };
+    let table = ROWS;
+    let mut i: usize = 0;
+    while i < 63 {
+        s = nutation_rows::with_row(table[i], a, s);
+        i += 1;
+    }
+    s
+}
+
+// Nutation on a day that is not refused.
+pub fn nutation_on(day: f64) -> Nutations
+    ensures { λ r. ⌜ r ≡ nutationOf day ⌝ }
+{
+    nutation_rows::converted(table_sum(nutation_rows::moon_at(time::century(day))))
+}
