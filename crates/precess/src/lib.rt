@@ -7,10 +7,12 @@ ghost use Rattle.precess.specs.rules.Days.{spanOf, daysRefusal, placeRef
 ghost use Rattle.precess.specs.rules.Annual.{annualM, annualN, annualAt, annualIn, annualRefusal, annualPrecessRule};
 ghost use Rattle.precess.specs.rules.Equatorial.{eqXi, eqZeta, eqTheta, turnsOf, eqTurnsOf, placed, turnedIn, precessEqCoordsRule};
 ghost use Rattle.precess.specs.rules.Fk4.{fk4Century, fk4Span, fk4Xi, fk4Zeta, fk4Theta, degreesAsRadians, fk4TurnsOf, precessEqCoordsFK5Rule};
+use elementary::Direction;
 use elementary::Folded;
 use helpers::angle;
 use helpers::time;
 use quantity::Deg;
+use quantity::EqPoint;
 use quantity::Rad;
 use quantity::Two;
 
@@ -164,14 +166,14 @@ pub fn eq_turns(day1: f64, day2: f64) -> EqTurns
     )
 }
 
-// A place after the turns: a is its right ascension with xi added, d its declination. Refusals: 7.
-fn placed(a: Folded, d: Folded, turns: EqTurns) -> Two
-    ensures { λ r. ⌜ shownTwo r ≡ placed a d turns ⌝ }
+// A place after the turns, from the direction of its right ascension with xi added and its declination. Refusals: 7.
+fn placed(d: Direction, turns: EqTurns) -> Two
+    ensures { λ r. ⌜ shownTwo r ≡ placed d turns ⌝ }
 {
-    let sa = a.sine();
-    let ca = a.cosine();
-    let sd = d.sine();
-    let cd = d.cosine();
+    let sa = d.sin_asc;
+    let ca = d.cos_asc;
+    let sd = d.sin_dec;
+    let cd = d.cos_dec;
     quantity::both(
         quantity::plus(
             elementary_arc::arctangent_in(cd * sa, turns.cosine * cd * ca - turns.sine * sd),
@@ -185,11 +187,11 @@ fn placed(a: Folded, d: Folded, turns: EqTurns) -> Two
 pub fn turned_in(asc: Rad, dec: Rad, turns: EqTurns) -> Two
     ensures { λ r. ⌜ shownTwo r ≡ turnedIn asc dec turns ⌝ }
 {
-    placed(
-        elementary::fold(Rad(asc.0 + turns.xi)),
-        elementary::fold(dec),
-        turns,
-    )
+    let p = EqPoint {
+        asc: asc.0 + turns.xi,
+        dec: dec.0,
+    };
+    placed(elementary::toward(p), turns)
 }
 
 // Equatorial coordinates reduced from the first day to the second. Refusals: 1; 2; 3; then 7.

@@ -10,6 +10,7 @@ use Rattle.double.specs.notions.Range.{Expr, known, con, _⊞_, _⊟_, _⊠_}
 use Rattle.quantity.specs.declared.Rad.{Rad}
 use Rattle.quantity.specs.rules.Answer.{answered, refused, Pair, plus}
 use Rattle.quantity.specs.rules.Refusal.{angleRefusal, latitudeRefusal}
+use Rattle.elementary.specs.rules.Direction.{directionOf}
 use Rattle.elementary.specs.rules.Sine.{sineOf, cosineOf, farthestAlone}
 use Rattle.elementary_arc.specs.rules.Arctangent.{arctangentIn}
 use Rattle.elementary_arc.specs.rules.Arcsine.{arcsineIn}
@@ -124,7 +125,7 @@ module _ (asc dec : Rad) (turns : EqTurns) (A : angleRefusal asc ≡ 0) (D : lat
   turned-far = near-far (asc .0 ⊕ turns .xi) turned-within
 
   pub turned-outcome : Outcome IsPlace Seven (turnedIn asc dec turns)
-  unfolding turnedIn placed plus isFinite le neg add sub mul ofBits round
+  unfolding turnedIn directionOf placed plus isFinite le neg add sub mul ofBits round
   turned-outcome =
       let a : Rad = record { 0 = asc .0 ⊕ turns .xi } in
       let sa = known (near-sine a turned-within) in

@@ -9,4 +9,4 @@ unfolding placed
 returns c = cc
 
 pub placed-spec : {M : Type 1} → statement M
-placed-spec = tie.close (tie.spec asks-nothing asks-nothing asks-nothing asks-nothing asks-nothing asks-nothing asks-nothing asks-nothing returns)
+placed-spec = tie.close (tie.spec asks-nothing asks-nothing asks-nothing asks-nothing returns)

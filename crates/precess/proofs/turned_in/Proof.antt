@@ -9,4 +9,4 @@ unfolding turnedIn
 returns c = cc
 
 pub turned-in-spec : {M : Type 1} → statement M
-turned-in-spec = tie.close (tie.spec asks-nothing asks-nothing asks-nothing returns)
+turned-in-spec = tie.close (tie.spec asks-nothing asks-nothing returns)

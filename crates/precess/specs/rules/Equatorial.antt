@@ -5,9 +5,9 @@ use Rattle.double.specs.rules.Operations.{_⊕_, _⊖_, _⊗_}
 use Rattle.quantity.specs.declared.Deg.{Deg}
 use Rattle.quantity.specs.declared.Rad.{Rad}
 use Rattle.quantity.specs.rules.Answer.{Answer, Pair, unless, plus, both}
-use Rattle.elementary.specs.declared.Folded.{Folded}
-use Rattle.elementary.specs.rules.Fold.{fold}
-use Rattle.elementary.specs.rules.Sine.{foldedSine, foldedCosine, sineOf, cosineOf}
+use Rattle.elementary.specs.declared.Direction.{Direction}
+use Rattle.elementary.specs.rules.Direction.{directionOf}
+use Rattle.elementary.specs.rules.Sine.{sineOf, cosineOf}
 use Rattle.elementary_arc.specs.rules.Arctangent.{arctangentIn}
 use Rattle.elementary_arc.specs.rules.Arcsine.{arcsineIn}
 use Rattle.helpers.specs.rules.Angle.{arc, radiansOf}
@@ -44,19 +44,19 @@ eqTurnsOf day1 day2 =
     let t = spanOf day1 day2 in
     turnsOf (radiansOf (eqXi c t)) (radiansOf (eqZeta c t)) (radiansOf (eqTheta c t))
 
--- a place after the turns: a is its right ascension with xi added, d its declination
-unfoldable pub placed : Folded → Folded → EqTurns → Answer Pair
-placed a d turns =
-    let sa = foldedSine a in
-    let ca = foldedCosine a in
-    let sd = foldedSine d in
-    let cd = foldedCosine d in
+-- a place after the turns, from the direction of its right ascension with xi added and its declination
+unfoldable pub placed : Direction → EqTurns → Answer Pair
+placed d turns =
+    let sa = d .«sin_asc» in
+    let ca = d .«cos_asc» in
+    let sd = d .«sin_dec» in
+    let cd = d .«cos_dec» in
     both
     (plus (arctangentIn (cd ⊗ sa) (turns .cosine ⊗ cd ⊗ ca ⊖ turns .sine ⊗ sd)) (turns .zeta))
     (arcsineIn (turns .sine ⊗ cd ⊗ ca ⊕ turns .cosine ⊗ sd))
 
 unfoldable pub turnedIn : Rad → Rad → EqTurns → Answer Pair
-turnedIn asc dec turns = placed (fold (record { 0 = asc .0 ⊕ turns .xi })) (fold dec) turns
+turnedIn asc dec turns = placed (directionOf (record { asc = asc .0 ⊕ turns .xi; dec = dec .0 })) turns
 
 abbrev pub precessEqCoordsRule : Rad → Rad → Float → Float → Answer Pair
 precessEqCoordsRule asc dec day1 day2 =
