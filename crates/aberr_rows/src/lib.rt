@@ -1,7 +1,7 @@
 // The rows of aberration (section 4): 11 arguments and 36 rows in source order, with the crate's grouping. Angles are in radians.
 // Rules: specs/rules, in reading order in specs/rules.antt.
 ghost use mathlib.Core.Path.{_≡_};
-ghost use Rattle.aberr_rows.specs.rules.Arguments.{argumentsOf, waveOf};
+ghost use Rattle.aberr_rows.specs.rules.Arguments.{argumentsOf};
 ghost use Rattle.aberr_rows.specs.rules.Rows.{row1, row2, row3, row4, row5, row6, row7, row8, row9, row10, row11, row12, row13, row14, row15, row16, row17, row18, row19, row20, row21, row22, row23, row24, row25, row26, row27, row28, row29, row30, row31, row32, row33, row34, row35, row36};
 ghost use Rattle.aberr_rows.specs.rules.Velocity.{rows, summed, none, velocityOf};
 use helpers::time;
@@ -46,23 +46,6 @@ fn arguments_at(t: f64) -> Arguments
     }
 }
 
-// The sine and the cosine of one angle.
-struct Wave {
-    sin: f64,
-    cos: f64,
-}
-
-// Both share the angle's fold.
-fn wave_of(x: Rad) -> Wave
-    ensures { λ r. ⌜ r ≡ waveOf x ⌝ }
-{
-    let f = elementary::fold(x);
-    Wave {
-        sin: f.sine(),
-        cos: f.cosine(),
-    }
-}
-
 // ---- the rows: each adds its terms to the sums so far, from the sine and cosine of its argument A
 
 // The Earth's velocity along the axes of J2000, in 10^-8 AU a day.
@@ -83,23 +66,23 @@ fn rows_1_to_3(g: Arguments, v: Velocity) -> Velocity
     let mut y = v.y;
     let mut z = v.z;
     // row 1
-    let a = wave_of(Rad(l3));
-    let sin_a = a.sin;
-    let cos_a = a.cos;
+    let a = elementary::turn_of(Rad(l3));
+    let sin_a = a.sine;
+    let cos_a = a.cosine;
     x += (-1719914.0 - 2.0 * t) * sin_a - 25.0 * cos_a;
     y += (25.0 - 13.0 * t) * sin_a + (1578089.0 + 156.0 * t) * cos_a;
     z += (10.0 + 32.0 * t) * sin_a + (684185.0 - 358.0 * t) * cos_a;
     // row 2
-    let a = wave_of(Rad(2.0 * l3));
-    let sin_a = a.sin;
-    let cos_a = a.cos;
+    let a = elementary::turn_of(Rad(2.0 * l3));
+    let sin_a = a.sine;
+    let cos_a = a.cosine;
     x += (6434.0 + 141.0 * t) * sin_a + (28007.0 - 107.0 * t) * cos_a;
     y += (25697.0 - 95.0 * t) * sin_a + (-5904.0 - 130.0 * t) * cos_a;
     z += (11141.0 - 48.0 * t) * sin_a + (-2559.0 - 55.0 * t) * cos_a;
     // row 3
-    let a = wave_of(Rad(l5));
-    let sin_a = a.sin;
-    let cos_a = a.cos;
+    let a = elementary::turn_of(Rad(l5));
+    let sin_a = a.sine;
+    let cos_a = a.cosine;
     x += 715.0 * sin_a;
     y += 6.0 * sin_a - 657.0 * cos_a;
     z += -15.0 * sin_a - 282.0 * cos_a;
@@ -118,23 +101,23 @@ fn rows_4_to_6(g: Arguments, v: Velocity) -> Velocity
     let mut y = v.y;
     let mut z = v.z;
     // row 4
-    let a = wave_of(Rad(l1));
-    let sin_a = a.sin;
-    let cos_a = a.cos;
+    let a = elementary::turn_of(Rad(l1));
+    let sin_a = a.sine;
+    let cos_a = a.cosine;
     x += 715.0 * sin_a;
     y += -656.0 * cos_a;
     z += -285.0 * cos_a;
     // row 5
-    let a = wave_of(Rad(3.0 * l3));
-    let sin_a = a.sin;
-    let cos_a = a.cos;
+    let a = elementary::turn_of(Rad(3.0 * l3));
+    let sin_a = a.sine;
+    let cos_a = a.cosine;
     x += (486.0 - 5.0 * t) * sin_a + (-236.0 - 4.0 * t) * cos_a;
     y += (-216.0 - 4.0 * t) * sin_a + (-446.0 + 5.0 * t) * cos_a;
     z += -94.0 * sin_a - 193.0 * cos_a;
     // row 6
-    let a = wave_of(Rad(l6));
-    let sin_a = a.sin;
-    let cos_a = a.cos;
+    let a = elementary::turn_of(Rad(l6));
+    let sin_a = a.sine;
+    let cos_a = a.cosine;
     x += 159.0 * sin_a;
     y += 2.0 * sin_a - 147.0 * cos_a;
     z += -6.0 * sin_a - 61.0 * cos_a;
@@ -153,21 +136,21 @@ fn rows_7_to_9(g: Arguments, v: Velocity) -> Velocity
     let mut y = v.y;
     let mut z = v.z;
     // row 7
-    let a = wave_of(Rad(f));
-    let cos_a = a.cos;
+    let a = elementary::turn_of(Rad(f));
+    let cos_a = a.cosine;
     y += 26.0 * cos_a;
     z += -59.0 * cos_a;
     // row 8
-    let a = wave_of(Rad(l1 + m1));
-    let sin_a = a.sin;
-    let cos_a = a.cos;
+    let a = elementary::turn_of(Rad(l1 + m1));
+    let sin_a = a.sine;
+    let cos_a = a.cosine;
     x += 39.0 * sin_a;
     y += -36.0 * cos_a;
     z += -16.0 * cos_a;
     // row 9
-    let a = wave_of(Rad(2.0 * l5));
-    let sin_a = a.sin;
-    let cos_a = a.cos;
+    let a = elementary::turn_of(Rad(2.0 * l5));
+    let sin_a = a.sine;
+    let cos_a = a.cosine;
     x += 33.0 * sin_a - 10.0 * cos_a;
     y += -9.0 * sin_a - 30.0 * cos_a;
     z += -5.0 * sin_a - 13.0 * cos_a;
@@ -185,23 +168,23 @@ fn rows_10_to_12(g: Arguments, v: Velocity) -> Velocity
     let mut y = v.y;
     let mut z = v.z;
     // row 10
-    let a = wave_of(Rad(2.0 * l3 - l5));
-    let sin_a = a.sin;
-    let cos_a = a.cos;
+    let a = elementary::turn_of(Rad(2.0 * l3 - l5));
+    let sin_a = a.sine;
+    let cos_a = a.cosine;
     x += 31.0 * sin_a + cos_a;
     y += sin_a - 28.0 * cos_a;
     z += -12.0 * cos_a;
     // row 11
-    let a = wave_of(Rad(3.0 * l3 - 8.0 * l4 + 3.0 * l5));
-    let sin_a = a.sin;
-    let cos_a = a.cos;
+    let a = elementary::turn_of(Rad(3.0 * l3 - 8.0 * l4 + 3.0 * l5));
+    let sin_a = a.sine;
+    let cos_a = a.cosine;
     x += 8.0 * sin_a - 28.0 * cos_a;
     y += 25.0 * sin_a + 8.0 * cos_a;
     z += 11.0 * sin_a + 3.0 * cos_a;
     // row 12
-    let a = wave_of(Rad(5.0 * l3 - 8.0 * l4 + 3.0 * l5));
-    let sin_a = a.sin;
-    let cos_a = a.cos;
+    let a = elementary::turn_of(Rad(5.0 * l3 - 8.0 * l4 + 3.0 * l5));
+    let sin_a = a.sine;
+    let cos_a = a.cosine;
     x += 8.0 * sin_a - 28.0 * cos_a;
     y += -25.0 * sin_a - 8.0 * cos_a;
     z += -11.0 * sin_a - 3.0 * cos_a;
@@ -219,23 +202,23 @@ fn rows_13_to_15(g: Arguments, v: Velocity) -> Velocity
     let mut y = v.y;
     let mut z = v.z;
     // row 13
-    let a = wave_of(Rad(2.0 * l2 - l3));
-    let sin_a = a.sin;
-    let cos_a = a.cos;
+    let a = elementary::turn_of(Rad(2.0 * l2 - l3));
+    let sin_a = a.sine;
+    let cos_a = a.cosine;
     x += 21.0 * sin_a;
     y += -19.0 * cos_a;
     z += -8.0 * cos_a;
     // row 14
-    let a = wave_of(Rad(l2));
-    let sin_a = a.sin;
-    let cos_a = a.cos;
+    let a = elementary::turn_of(Rad(l2));
+    let sin_a = a.sine;
+    let cos_a = a.cosine;
     x += -19.0 * sin_a;
     y += 17.0 * cos_a;
     z += 8.0 * cos_a;
     // row 15
-    let a = wave_of(Rad(l7));
-    let sin_a = a.sin;
-    let cos_a = a.cos;
+    let a = elementary::turn_of(Rad(l7));
+    let sin_a = a.sine;
+    let cos_a = a.cosine;
     x += 17.0 * sin_a;
     y += -16.0 * cos_a;
     z += -7.0 * cos_a;
@@ -253,23 +236,23 @@ fn rows_16_to_18(g: Arguments, v: Velocity) -> Velocity
     let mut y = v.y;
     let mut z = v.z;
     // row 16
-    let a = wave_of(Rad(l3 - 2.0 * l5));
-    let sin_a = a.sin;
-    let cos_a = a.cos;
+    let a = elementary::turn_of(Rad(l3 - 2.0 * l5));
+    let sin_a = a.sine;
+    let cos_a = a.cosine;
     x += 16.0 * sin_a;
     y += 15.0 * cos_a;
     z += sin_a + 7.0 * cos_a;
     // row 17
-    let a = wave_of(Rad(l8));
-    let sin_a = a.sin;
-    let cos_a = a.cos;
+    let a = elementary::turn_of(Rad(l8));
+    let sin_a = a.sine;
+    let cos_a = a.cosine;
     x += 16.0 * sin_a;
     y += sin_a - 15.0 * cos_a;
     z += -3.0 * sin_a - 6.0 * cos_a;
     // row 18
-    let a = wave_of(Rad(l3 + l5));
-    let sin_a = a.sin;
-    let cos_a = a.cos;
+    let a = elementary::turn_of(Rad(l3 + l5));
+    let sin_a = a.sine;
+    let cos_a = a.cosine;
     x += 11.0 * sin_a - cos_a;
     y += -1.0 * sin_a - 10.0 * cos_a;
     z += -1.0 * sin_a - 5.0 * cos_a;
@@ -287,23 +270,23 @@ fn rows_19_to_21(g: Arguments, v: Velocity) -> Velocity
     let mut y = v.y;
     let mut z = v.z;
     // row 19
-    let a = wave_of(Rad(2.0 * (l2 - l3)));
-    let sin_a = a.sin;
-    let cos_a = a.cos;
+    let a = elementary::turn_of(Rad(2.0 * (l2 - l3)));
+    let sin_a = a.sine;
+    let cos_a = a.cosine;
     x += -11.0 * cos_a;
     y += -10.0 * sin_a;
     z += -4.0 * sin_a;
     // row 20
-    let a = wave_of(Rad(l3 - l5));
-    let sin_a = a.sin;
-    let cos_a = a.cos;
+    let a = elementary::turn_of(Rad(l3 - l5));
+    let sin_a = a.sine;
+    let cos_a = a.cosine;
     x += -11.0 * sin_a - 2.0 * cos_a;
     y += -2.0 * sin_a + 9.0 * cos_a;
     z += -1.0 * sin_a + 4.0 * cos_a;
     // row 21
-    let a = wave_of(Rad(4.0 * l3));
-    let sin_a = a.sin;
-    let cos_a = a.cos;
+    let a = elementary::turn_of(Rad(4.0 * l3));
+    let sin_a = a.sine;
+    let cos_a = a.cosine;
     x += -7.0 * sin_a - 8.0 * cos_a;
     y += -8.0 * sin_a + 6.0 * cos_a;
     z += 3.0 * (cos_a - sin_a);
@@ -321,23 +304,23 @@ fn rows_22_to_24(g: Arguments, v: Velocity) -> Velocity
     let mut y = v.y;
     let mut z = v.z;
     // row 22
-    let a = wave_of(Rad(3.0 * l3 - 2.0 * l5));
-    let sin_a = a.sin;
-    let cos_a = a.cos;
+    let a = elementary::turn_of(Rad(3.0 * l3 - 2.0 * l5));
+    let sin_a = a.sine;
+    let cos_a = a.cosine;
     x += -10.0 * sin_a;
     y += 9.0 * cos_a;
     z += 4.0 * cos_a;
     // row 23
-    let a = wave_of(Rad(l2 - 2.0 * l3));
-    let sin_a = a.sin;
-    let cos_a = a.cos;
+    let a = elementary::turn_of(Rad(l2 - 2.0 * l3));
+    let sin_a = a.sine;
+    let cos_a = a.cosine;
     x += -9.0 * sin_a;
     y += -9.0 * cos_a;
     z += -4.0 * cos_a;
     // row 24
-    let a = wave_of(Rad(2.0 * l2 - 3.0 * l3));
-    let sin_a = a.sin;
-    let cos_a = a.cos;
+    let a = elementary::turn_of(Rad(2.0 * l2 - 3.0 * l3));
+    let sin_a = a.sine;
+    let cos_a = a.cosine;
     x += -9.0 * sin_a;
     y += -8.0 * cos_a;
     z += -4.0 * cos_a;
@@ -356,23 +339,23 @@ fn rows_25_to_27(g: Arguments, v: Velocity) -> Velocity
     let mut y = v.y;
     let mut z = v.z;
     // row 25
-    let a = wave_of(Rad(2.0 * l6));
-    let sin_a = a.sin;
-    let cos_a = a.cos;
+    let a = elementary::turn_of(Rad(2.0 * l6));
+    let sin_a = a.sine;
+    let cos_a = a.cosine;
     x += -9.0 * cos_a;
     y += -8.0 * sin_a;
     z += -3.0 * sin_a;
     // row 26
-    let a = wave_of(Rad(2.0 * l2 - 4.0 * l3));
-    let sin_a = a.sin;
-    let cos_a = a.cos;
+    let a = elementary::turn_of(Rad(2.0 * l2 - 4.0 * l3));
+    let sin_a = a.sine;
+    let cos_a = a.cosine;
     x += -9.0 * cos_a;
     y += 8.0 * sin_a;
     z += 3.0 * sin_a;
     // row 27
-    let a = wave_of(Rad(3.0 * l3 - 2.0 * l4));
-    let sin_a = a.sin;
-    let cos_a = a.cos;
+    let a = elementary::turn_of(Rad(3.0 * l3 - 2.0 * l4));
+    let sin_a = a.sine;
+    let cos_a = a.cosine;
     x += 8.0 * sin_a;
     y += -8.0 * cos_a;
     z += -3.0 * cos_a;
@@ -392,23 +375,23 @@ fn rows_28_to_30(g: Arguments, v: Velocity) -> Velocity
     let mut y = v.y;
     let mut z = v.z;
     // row 28
-    let a = wave_of(Rad(l1 + 2.0 * d - m1));
-    let sin_a = a.sin;
-    let cos_a = a.cos;
+    let a = elementary::turn_of(Rad(l1 + 2.0 * d - m1));
+    let sin_a = a.sine;
+    let cos_a = a.cosine;
     x += 8.0 * sin_a;
     y += -7.0 * cos_a;
     z += -3.0 * cos_a;
     // row 29
-    let a = wave_of(Rad(8.0 * l2 - 12.0 * l3));
-    let sin_a = a.sin;
-    let cos_a = a.cos;
+    let a = elementary::turn_of(Rad(8.0 * l2 - 12.0 * l3));
+    let sin_a = a.sine;
+    let cos_a = a.cosine;
     x += -4.0 * sin_a - 7.0 * cos_a;
     y += -6.0 * sin_a + 4.0 * cos_a;
     z += -3.0 * sin_a + 2.0 * cos_a;
     // row 30
-    let a = wave_of(Rad(8.0 * l2 - 14.0 * l3));
-    let sin_a = a.sin;
-    let cos_a = a.cos;
+    let a = elementary::turn_of(Rad(8.0 * l2 - 14.0 * l3));
+    let sin_a = a.sine;
+    let cos_a = a.cosine;
     x += -4.0 * sin_a - 7.0 * cos_a;
     y += 6.0 * sin_a - 4.0 * cos_a;
     z += 3.0 * sin_a - 2.0 * cos_a;
@@ -427,23 +410,23 @@ fn rows_31_to_33(g: Arguments, v: Velocity) -> Velocity
     let mut y = v.y;
     let mut z = v.z;
     // row 31
-    let a = wave_of(Rad(2.0 * l4));
-    let sin_a = a.sin;
-    let cos_a = a.cos;
+    let a = elementary::turn_of(Rad(2.0 * l4));
+    let sin_a = a.sine;
+    let cos_a = a.cosine;
     x += -6.0 * sin_a - 5.0 * cos_a;
     y += -4.0 * sin_a + 5.0 * cos_a;
     z += 2.0 * (cos_a - sin_a);
     // row 32
-    let a = wave_of(Rad(3.0 * l2 - 4.0 * l3));
-    let sin_a = a.sin;
-    let cos_a = a.cos;
+    let a = elementary::turn_of(Rad(3.0 * l2 - 4.0 * l3));
+    let sin_a = a.sine;
+    let cos_a = a.cosine;
     x += -1.0 * (sin_a + cos_a);
     y += -2.0 * sin_a - 7.0 * cos_a;
     z += sin_a - 4.0 * cos_a;
     // row 33
-    let a = wave_of(Rad(2.0 * (l3 - l5)));
-    let sin_a = a.sin;
-    let cos_a = a.cos;
+    let a = elementary::turn_of(Rad(2.0 * (l3 - l5)));
+    let sin_a = a.sine;
+    let cos_a = a.cosine;
     x += 4.0 * sin_a - 6.0 * cos_a;
     y += -5.0 * sin_a - 4.0 * cos_a;
     z += -2.0 * (sin_a + cos_a);
@@ -463,23 +446,23 @@ fn rows_34_to_36(g: Arguments, v: Velocity) -> Velocity
     let mut y = v.y;
     let mut z = v.z;
     // row 34
-    let a = wave_of(Rad(3.0 * (l2 - l3)));
-    let sin_a = a.sin;
-    let cos_a = a.cos;
+    let a = elementary::turn_of(Rad(3.0 * (l2 - l3)));
+    let sin_a = a.sine;
+    let cos_a = a.cosine;
     x += -7.0 * cos_a;
     y += -6.0 * sin_a;
     z += -3.0 * sin_a;
     // row 35
-    let a = wave_of(Rad(2.0 * (l3 - l4)));
-    let sin_a = a.sin;
-    let cos_a = a.cos;
+    let a = elementary::turn_of(Rad(2.0 * (l3 - l4)));
+    let sin_a = a.sine;
+    let cos_a = a.cosine;
     x += 5.0 * (sin_a - cos_a);
     y += -4.0 * sin_a - 5.0 * cos_a;
     z += -2.0 * (sin_a + cos_a);
     // row 36
-    let a = wave_of(Rad(l1 - 2.0 * d));
-    let sin_a = a.sin;
-    let cos_a = a.cos;
+    let a = elementary::turn_of(Rad(l1 - 2.0 * d));
+    let sin_a = a.sine;
+    let cos_a = a.cosine;
     x += 5.0 * sin_a;
     y += -5.0 * cos_a;
     z += -2.0 * cos_a;

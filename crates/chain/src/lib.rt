@@ -66,12 +66,12 @@ fn angles_refusal(n: Nutations, oblq: Rad) -> u8
 fn gathered(turns: EqTurns, n: Nutations, oblq: Rad, v: Velocity) -> Night
     ensures { λ r. ⌜ r ≡ gathered turns n oblq v ⌝ }
 {
-    let e = elementary::fold(oblq);
+    let e = elementary::turn_of(oblq);
     Night {
         turns: turns,
         nutation: n,
-        sin_oblq: e.sine(),
-        cos_oblq: e.cosine(),
+        sin_oblq: e.sine,
+        cos_oblq: e.cosine,
         velocity: v,
         refusal: angles_refusal(n, oblq),
     }

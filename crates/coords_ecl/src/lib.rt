@@ -38,10 +38,10 @@ fn steep_frame_refusal(long: Rad, lat: Rad, oblq: Rad) -> u8
 fn ecl_long_in(asc: Rad, dec: Rad, oblq: Rad) -> One
     ensures { λ r. ⌜ shown r ≡ eclLongIn asc dec oblq ⌝ }
 {
-    let a = elementary::fold(asc);
-    let e = elementary::fold(oblq);
+    let a = elementary::turn_of(asc);
+    let e = elementary::turn_of(oblq);
     let d = elementary::fold(dec);
-    elementary_arc::arctangent_in(a.sine() * e.cosine() + d.tangent() * e.sine(), a.cosine())
+    elementary_arc::arctangent_in(a.sine * e.cosine + d.tangent() * e.sine, a.cosine)
 }
 
 // The ecliptic longitude from equatorial coordinates and the obliquity. Refusals: 1; 3; 4 past 1.57 for declination.
@@ -59,10 +59,10 @@ pub fn ecl_long_frm_eq(asc: Rad, dec: Rad, oblq_eclip: Rad) -> One
 fn ecl_lat_in(asc: Rad, dec: Rad, oblq: Rad) -> One
     ensures { λ r. ⌜ shown r ≡ eclLatIn asc dec oblq ⌝ }
 {
-    let a = elementary::fold(asc);
-    let e = elementary::fold(oblq);
-    let d = elementary::fold(dec);
-    elementary_arc::arcsine_in(d.sine() * e.cosine() - d.cosine() * e.sine() * a.sine())
+    let a = elementary::turn_of(asc);
+    let e = elementary::turn_of(oblq);
+    let d = elementary::turn_of(dec);
+    elementary_arc::arcsine_in(d.sine * e.cosine - d.cosine * e.sine * a.sine)
 }
 
 // The ecliptic latitude from equatorial coordinates and the obliquity. Refusals: 1; 3; then 7.
@@ -80,10 +80,10 @@ pub fn ecl_lat_frm_eq(asc: Rad, dec: Rad, oblq_eclip: Rad) -> One
 fn asc_frm_ecl_in(long: Rad, lat: Rad, oblq: Rad) -> One
     ensures { λ r. ⌜ shown r ≡ ascFrmEclIn long lat oblq ⌝ }
 {
-    let l = elementary::fold(long);
-    let e = elementary::fold(oblq);
+    let l = elementary::turn_of(long);
+    let e = elementary::turn_of(oblq);
     let b = elementary::fold(lat);
-    elementary_arc::arctangent_in(l.sine() * e.cosine() - b.tangent() * e.sine(), l.cosine())
+    elementary_arc::arctangent_in(l.sine * e.cosine - b.tangent() * e.sine, l.cosine)
 }
 
 // The right ascension from ecliptic coordinates and the obliquity. Refusals: 1; 3; 4 past 1.57 for latitude.
@@ -101,10 +101,10 @@ pub fn asc_frm_ecl(ecl_long: Rad, ecl_lat: Rad, oblq_eclip: Rad) -> One
 fn dec_frm_ecl_in(long: Rad, lat: Rad, oblq: Rad) -> One
     ensures { λ r. ⌜ shown r ≡ decFrmEclIn long lat oblq ⌝ }
 {
-    let l = elementary::fold(long);
-    let e = elementary::fold(oblq);
-    let b = elementary::fold(lat);
-    elementary_arc::arcsine_in(b.sine() * e.cosine() + b.cosine() * e.sine() * l.sine())
+    let l = elementary::turn_of(long);
+    let e = elementary::turn_of(oblq);
+    let b = elementary::turn_of(lat);
+    elementary_arc::arcsine_in(b.sine * e.cosine + b.cosine * e.sine * l.sine)
 }
 
 // The declination from ecliptic coordinates and the obliquity. Refusals: 1; 3; then 7.

@@ -144,9 +144,9 @@ fn oblq_share(x: Row, t: f64, cosine: f64) -> f64
 pub fn with_row(x: Row, a: Moon, s: Nutations) -> Nutations
     ensures { λ r. ⌜ r ≡ withRow x a s ⌝ }
 {
-    let w = elementary::fold(argument(x, a));
-    let long = long_share(x, a.t, w.sine());
-    let oblq = oblq_share(x, a.t, w.cosine());
+    let w = elementary::turn_of(argument(x, a));
+    let long = long_share(x, a.t, w.sine);
+    let oblq = oblq_share(x, a.t, w.cosine);
     Nutations {
         long: s.long + long,
         oblq: s.oblq + oblq,

@@ -144,12 +144,12 @@ fn eq_theta(c: f64, t: f64) -> Deg
 fn turns_of(xi: Rad, zeta: Rad, theta: Rad) -> EqTurns
     ensures { λ r. ⌜ r ≡ turnsOf xi zeta theta ⌝ }
 {
-    let f = elementary::fold(theta);
+    let t = elementary::turn_of(theta);
     EqTurns {
         xi: xi.0,
         zeta: zeta.0,
-        sine: f.sine(),
-        cosine: f.cosine(),
+        sine: t.sine,
+        cosine: t.cosine,
     }
 }
 

@@ -65,11 +65,11 @@ fn ecl_rho(c: f64, t: f64) -> Deg
 fn ecl_turned(nu: Rad, pi: Rad, rho: Rad) -> EclTurns
     ensures { λ r. ⌜ r ≡ eclTurned nu pi rho ⌝ }
 {
-    let f = elementary::fold(nu);
+    let t = elementary::turn_of(nu);
     EclTurns {
         nu: nu.0,
-        sine: f.sine(),
-        cosine: f.cosine(),
+        sine: t.sine,
+        cosine: t.cosine,
         pi: pi.0,
         rho: rho.0,
     }

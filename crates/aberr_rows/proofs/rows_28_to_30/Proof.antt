@@ -6,7 +6,7 @@ use Rattle.aberr_rows.proofs.rows_28_to_30.Tie as tie
 
 returns : tie.Need-returns
 unfolding row28 row29 row30
-returns c = rw (c .before .before .wave-of .ensures, c .before .wave-of2 .ensures, c .wave-of3 .ensures)
+returns c = rw (c .before .before .turn-of .ensures, c .before .turn-of2 .ensures, c .turn-of3 .ensures)
 
 pub rows-28-to-30-spec : {M : Type 1} → statement M
 rows-28-to-30-spec = tie.close (tie.spec asks-nothing asks-nothing asks-nothing returns)

@@ -1,12 +1,15 @@
 -- `coords::dec_frm_hz_in` meets its contract. Assumes nothing.
 use Rattle.double.specs.laws.Calls.{asks-nothing}
+use Rattle.elementary.specs.rules.Sine.{turnOf}
 use Rattle.coords.specs.rules.Horizon.{decFrmHzIn}
 use Rattle.coords.proofs.dec_frm_hz_in.Statement.{statement}
 use Rattle.coords.proofs.dec_frm_hz_in.Tie as tie
 
 returns : tie.Need-returns
-unfolding decFrmHzIn
-returns c = cc
+unfolding decFrmHzIn turnOf
+returns c =
+    rw (c .before .before .before .before .before .before .turn-of .ensures, c .before .before .before .before .before .turn-of2 .ensures, c .before .before .before .before .turn-of3 .ensures)
+    at (c .arcsine-in .ensures)
 
 pub dec-frm-hz-in-spec : {M : Type 1} → statement M
-dec-frm-hz-in-spec = tie.close (tie.spec asks-nothing asks-nothing asks-nothing asks-nothing asks-nothing asks-nothing asks-nothing asks-nothing returns)
+dec-frm-hz-in-spec = tie.close (tie.spec asks-nothing asks-nothing asks-nothing asks-nothing returns)

@@ -1,12 +1,15 @@
 -- `coords_ecl::asc_frm_ecl_in` meets its contract. Assumes nothing.
 use Rattle.double.specs.laws.Calls.{asks-nothing}
+use Rattle.elementary.specs.rules.Sine.{turnOf}
 use Rattle.coords_ecl.specs.rules.Ecliptic.{ascFrmEclIn}
 use Rattle.coords_ecl.proofs.asc_frm_ecl_in.Statement.{statement}
 use Rattle.coords_ecl.proofs.asc_frm_ecl_in.Tie as tie
 
 returns : tie.Need-returns
-unfolding ascFrmEclIn
-returns c = cc
+unfolding ascFrmEclIn turnOf
+returns c =
+    rw (c .before .before .before .before .before .before .before .turn-of .ensures, c .before .before .before .before .before .before .turn-of2 .ensures, c .before .before .tangent .ensures, c .before .before .before .before .before .fold .ensures)
+    at (c .arctangent-in .ensures)
 
 pub asc-frm-ecl-in-spec : {M : Type 1} → statement M
-asc-frm-ecl-in-spec = tie.close (tie.spec asks-nothing asks-nothing asks-nothing asks-nothing asks-nothing asks-nothing asks-nothing asks-nothing asks-nothing returns)
+asc-frm-ecl-in-spec = tie.close (tie.spec asks-nothing asks-nothing asks-nothing asks-nothing asks-nothing returns)

@@ -5,11 +5,11 @@ use Rattle.double.specs.rules.Operations.{_⊕_, _⊖_, _⊗_}
 use Rattle.double.specs.rules.Sign.{size, isFinite}
 use Rattle.double.specs.rules.Order.{_≼_}
 use Rattle.double.specs.notions.Range.{known, con, _⊞_, _⊟_, _⊠_}
-use Rattle.elementary.specs.rules.Sine.{farthestAlone}
+use Rattle.elementary.specs.rules.Sine.{turnOf, farthestAlone}
 use Rattle.elementary.specs.laws.Sine.{sine-between, cosine-between}
 use Rattle.aberr_rows.specs.declared.Velocity.{Velocity}
 use Rattle.aberr_rows.specs.rules.Numbers.{n1, n2, n3, n4, n5, n6, n7, n8, n9, n10, n11, n15, n16, n17, n19, n21}
-use Rattle.aberr_rows.specs.rules.Arguments.{argumentsOf, rad, waveOf}
+use Rattle.aberr_rows.specs.rules.Arguments.{argumentsOf, rad}
 use Rattle.aberr_rows.specs.rules.Rows.{row13, row14, row15, row16, row17, row18, row19, row20, row21, row22, row23, row24}
 use Rattle.conditions.specs.notions.Within.{Within}
 use Rattle.domain.specs.notions.Aberration.{Held, l2, l3, l5, l7, l8}
@@ -21,7 +21,7 @@ module _ (t : Float) (T : Within 20 t) where
   row13-argument = up-to-farthest (con n2 ⊠ l2 T ⊟ l3 T) tt
 
   pub row13-held : {v : Velocity} → Held 2224000 v → Held 2226000 (row13 (argumentsOf t) v)
-  unfolding row13 waveOf argumentsOf isFinite le neg add sub mul ofBits round
+  unfolding row13 turnOf argumentsOf isFinite le neg add sub mul ofBits round
   row13-held h =
       let s = sine-between (rad (n2 ⊗ argumentsOf t .l2 ⊖ argumentsOf t .l3)) row13-argument in
       let c = cosine-between (rad (n2 ⊗ argumentsOf t .l2 ⊖ argumentsOf t .l3)) row13-argument in
@@ -36,7 +36,7 @@ module _ (t : Float) (T : Within 20 t) where
   row14-argument = up-to-farthest (l2 T) tt
 
   pub row14-held : {v : Velocity} → Held 2226000 v → Held 2228000 (row14 (argumentsOf t) v)
-  unfolding row14 waveOf argumentsOf isFinite le neg add sub mul ofBits round
+  unfolding row14 turnOf argumentsOf isFinite le neg add sub mul ofBits round
   row14-held h =
       let s = sine-between (rad (argumentsOf t .l2)) row14-argument in
       let c = cosine-between (rad (argumentsOf t .l2)) row14-argument in
@@ -51,7 +51,7 @@ module _ (t : Float) (T : Within 20 t) where
   row15-argument = up-to-farthest (l7 T) tt
 
   pub row15-held : {v : Velocity} → Held 2228000 v → Held 2230000 (row15 (argumentsOf t) v)
-  unfolding row15 waveOf argumentsOf isFinite le neg add sub mul ofBits round
+  unfolding row15 turnOf argumentsOf isFinite le neg add sub mul ofBits round
   row15-held h =
       let s = sine-between (rad (argumentsOf t .l7)) row15-argument in
       let c = cosine-between (rad (argumentsOf t .l7)) row15-argument in
@@ -66,7 +66,7 @@ module _ (t : Float) (T : Within 20 t) where
   row16-argument = up-to-farthest (l3 T ⊟ con n2 ⊠ l5 T) tt
 
   pub row16-held : {v : Velocity} → Held 2230000 v → Held 2232000 (row16 (argumentsOf t) v)
-  unfolding row16 waveOf argumentsOf isFinite le neg add sub mul ofBits round
+  unfolding row16 turnOf argumentsOf isFinite le neg add sub mul ofBits round
   row16-held h =
       let s = sine-between (rad (argumentsOf t .l3 ⊖ n2 ⊗ argumentsOf t .l5)) row16-argument in
       let c = cosine-between (rad (argumentsOf t .l3 ⊖ n2 ⊗ argumentsOf t .l5)) row16-argument in
@@ -81,7 +81,7 @@ module _ (t : Float) (T : Within 20 t) where
   row17-argument = up-to-farthest (l8 T) tt
 
   pub row17-held : {v : Velocity} → Held 2232000 v → Held 2234000 (row17 (argumentsOf t) v)
-  unfolding row17 waveOf argumentsOf isFinite le neg add sub mul ofBits round
+  unfolding row17 turnOf argumentsOf isFinite le neg add sub mul ofBits round
   row17-held h =
       let s = sine-between (rad (argumentsOf t .l8)) row17-argument in
       let c = cosine-between (rad (argumentsOf t .l8)) row17-argument in
@@ -96,7 +96,7 @@ module _ (t : Float) (T : Within 20 t) where
   row18-argument = up-to-farthest (l3 T ⊞ l5 T) tt
 
   pub row18-held : {v : Velocity} → Held 2234000 v → Held 2236000 (row18 (argumentsOf t) v)
-  unfolding row18 waveOf argumentsOf isFinite le neg add sub mul ofBits round
+  unfolding row18 turnOf argumentsOf isFinite le neg add sub mul ofBits round
   row18-held h =
       let s = sine-between (rad (argumentsOf t .l3 ⊕ argumentsOf t .l5)) row18-argument in
       let c = cosine-between (rad (argumentsOf t .l3 ⊕ argumentsOf t .l5)) row18-argument in
@@ -111,7 +111,7 @@ module _ (t : Float) (T : Within 20 t) where
   row19-argument = up-to-farthest (con n2 ⊠ (l2 T ⊟ l3 T)) tt
 
   pub row19-held : {v : Velocity} → Held 2236000 v → Held 2238000 (row19 (argumentsOf t) v)
-  unfolding row19 waveOf argumentsOf isFinite le neg add sub mul ofBits round
+  unfolding row19 turnOf argumentsOf isFinite le neg add sub mul ofBits round
   row19-held h =
       let s = sine-between (rad (n2 ⊗ (argumentsOf t .l2 ⊖ argumentsOf t .l3))) row19-argument in
       let c = cosine-between (rad (n2 ⊗ (argumentsOf t .l2 ⊖ argumentsOf t .l3))) row19-argument in
@@ -126,7 +126,7 @@ module _ (t : Float) (T : Within 20 t) where
   row20-argument = up-to-farthest (l3 T ⊟ l5 T) tt
 
   pub row20-held : {v : Velocity} → Held 2238000 v → Held 2240000 (row20 (argumentsOf t) v)
-  unfolding row20 waveOf argumentsOf isFinite le neg add sub mul ofBits round
+  unfolding row20 turnOf argumentsOf isFinite le neg add sub mul ofBits round
   row20-held h =
       let s = sine-between (rad (argumentsOf t .l3 ⊖ argumentsOf t .l5)) row20-argument in
       let c = cosine-between (rad (argumentsOf t .l3 ⊖ argumentsOf t .l5)) row20-argument in
@@ -141,7 +141,7 @@ module _ (t : Float) (T : Within 20 t) where
   row21-argument = up-to-farthest (con n4 ⊠ l3 T) tt
 
   pub row21-held : {v : Velocity} → Held 2240000 v → Held 2242000 (row21 (argumentsOf t) v)
-  unfolding row21 waveOf argumentsOf isFinite le neg add sub mul ofBits round
+  unfolding row21 turnOf argumentsOf isFinite le neg add sub mul ofBits round
   row21-held h =
       let s = sine-between (rad (n4 ⊗ argumentsOf t .l3)) row21-argument in
       let c = cosine-between (rad (n4 ⊗ argumentsOf t .l3)) row21-argument in
@@ -156,7 +156,7 @@ module _ (t : Float) (T : Within 20 t) where
   row22-argument = up-to-farthest (con n3 ⊠ l3 T ⊟ con n2 ⊠ l5 T) tt
 
   pub row22-held : {v : Velocity} → Held 2242000 v → Held 2244000 (row22 (argumentsOf t) v)
-  unfolding row22 waveOf argumentsOf isFinite le neg add sub mul ofBits round
+  unfolding row22 turnOf argumentsOf isFinite le neg add sub mul ofBits round
   row22-held h =
       let s = sine-between (rad (n3 ⊗ argumentsOf t .l3 ⊖ n2 ⊗ argumentsOf t .l5)) row22-argument in
       let c = cosine-between (rad (n3 ⊗ argumentsOf t .l3 ⊖ n2 ⊗ argumentsOf t .l5)) row22-argument in
@@ -171,7 +171,7 @@ module _ (t : Float) (T : Within 20 t) where
   row23-argument = up-to-farthest (l2 T ⊟ con n2 ⊠ l3 T) tt
 
   pub row23-held : {v : Velocity} → Held 2244000 v → Held 2246000 (row23 (argumentsOf t) v)
-  unfolding row23 waveOf argumentsOf isFinite le neg add sub mul ofBits round
+  unfolding row23 turnOf argumentsOf isFinite le neg add sub mul ofBits round
   row23-held h =
       let s = sine-between (rad (argumentsOf t .l2 ⊖ n2 ⊗ argumentsOf t .l3)) row23-argument in
       let c = cosine-between (rad (argumentsOf t .l2 ⊖ n2 ⊗ argumentsOf t .l3)) row23-argument in
@@ -186,7 +186,7 @@ module _ (t : Float) (T : Within 20 t) where
   row24-argument = up-to-farthest (con n2 ⊠ l2 T ⊟ con n3 ⊠ l3 T) tt
 
   pub row24-held : {v : Velocity} → Held 2246000 v → Held 2248000 (row24 (argumentsOf t) v)
-  unfolding row24 waveOf argumentsOf isFinite le neg add sub mul ofBits round
+  unfolding row24 turnOf argumentsOf isFinite le neg add sub mul ofBits round
   row24-held h =
       let s = sine-between (rad (n2 ⊗ argumentsOf t .l2 ⊖ n3 ⊗ argumentsOf t .l3)) row24-argument in
       let c = cosine-between (rad (n2 ⊗ argumentsOf t .l2 ⊖ n3 ⊗ argumentsOf t .l3)) row24-argument in

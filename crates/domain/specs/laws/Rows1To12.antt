@@ -5,11 +5,11 @@ use Rattle.double.specs.rules.Operations.{_⊕_, _⊖_, _⊗_}
 use Rattle.double.specs.rules.Sign.{size, isFinite}
 use Rattle.double.specs.rules.Order.{_≼_}
 use Rattle.double.specs.notions.Range.{known, con, _⊞_, _⊟_, _⊠_}
-use Rattle.elementary.specs.rules.Sine.{farthestAlone}
+use Rattle.elementary.specs.rules.Sine.{turnOf, farthestAlone}
 use Rattle.elementary.specs.laws.Sine.{sine-between, cosine-between}
 use Rattle.aberr_rows.specs.declared.Velocity.{Velocity}
 use Rattle.aberr_rows.specs.rules.Numbers.{n2, n3, n4, n5, n6, n8, n9, n10, n11, n12, n13, n15, n16, n25, n26, n28, n30, n31, n32, n33, n36, n39, n48, n55, n59, n61, n94, n95, n107, n130, n141, n147, n156, n159, n193, n216, n236, n282, n285, n358, n446, n486, n656, n657, n715, n2559, n5904, n6434, n11141, n25697, n28007, n684185, n1578089, n1719914}
-use Rattle.aberr_rows.specs.rules.Arguments.{argumentsOf, rad, waveOf}
+use Rattle.aberr_rows.specs.rules.Arguments.{argumentsOf, rad}
 use Rattle.aberr_rows.specs.rules.Rows.{row1, row2, row3, row4, row5, row6, row7, row8, row9, row10, row11, row12}
 use Rattle.conditions.specs.notions.Within.{Within}
 use Rattle.domain.specs.notions.Aberration.{Held, l3, l4, l5, l6, l1, m1, f}
@@ -21,7 +21,7 @@ module _ (t : Float) (T : Within 20 t) where
   row1-argument = up-to-farthest (l3 T) tt
 
   pub row1-held : {v : Velocity} → Held 0 v → Held 2000000 (row1 (argumentsOf t) v)
-  unfolding row1 waveOf argumentsOf isFinite le neg add sub mul ofBits round
+  unfolding row1 turnOf argumentsOf isFinite le neg add sub mul ofBits round
   row1-held h =
       let s = sine-between (rad (argumentsOf t .l3)) row1-argument in
       let c = cosine-between (rad (argumentsOf t .l3)) row1-argument in
@@ -36,7 +36,7 @@ module _ (t : Float) (T : Within 20 t) where
   row2-argument = up-to-farthest (con n2 ⊠ l3 T) tt
 
   pub row2-held : {v : Velocity} → Held 2000000 v → Held 2204000 (row2 (argumentsOf t) v)
-  unfolding row2 waveOf argumentsOf isFinite le neg add sub mul ofBits round
+  unfolding row2 turnOf argumentsOf isFinite le neg add sub mul ofBits round
   row2-held h =
       let s = sine-between (rad (n2 ⊗ argumentsOf t .l3)) row2-argument in
       let c = cosine-between (rad (n2 ⊗ argumentsOf t .l3)) row2-argument in
@@ -51,7 +51,7 @@ module _ (t : Float) (T : Within 20 t) where
   row3-argument = up-to-farthest (l5 T) tt
 
   pub row3-held : {v : Velocity} → Held 2204000 v → Held 2206000 (row3 (argumentsOf t) v)
-  unfolding row3 waveOf argumentsOf isFinite le neg add sub mul ofBits round
+  unfolding row3 turnOf argumentsOf isFinite le neg add sub mul ofBits round
   row3-held h =
       let s = sine-between (rad (argumentsOf t .l5)) row3-argument in
       let c = cosine-between (rad (argumentsOf t .l5)) row3-argument in
@@ -66,7 +66,7 @@ module _ (t : Float) (T : Within 20 t) where
   row4-argument = up-to-farthest (l1 T) tt
 
   pub row4-held : {v : Velocity} → Held 2206000 v → Held 2208000 (row4 (argumentsOf t) v)
-  unfolding row4 waveOf argumentsOf isFinite le neg add sub mul ofBits round
+  unfolding row4 turnOf argumentsOf isFinite le neg add sub mul ofBits round
   row4-held h =
       let s = sine-between (rad (argumentsOf t .l1)) row4-argument in
       let c = cosine-between (rad (argumentsOf t .l1)) row4-argument in
@@ -81,7 +81,7 @@ module _ (t : Float) (T : Within 20 t) where
   row5-argument = up-to-farthest (con n3 ⊠ l3 T) tt
 
   pub row5-held : {v : Velocity} → Held 2208000 v → Held 2210000 (row5 (argumentsOf t) v)
-  unfolding row5 waveOf argumentsOf isFinite le neg add sub mul ofBits round
+  unfolding row5 turnOf argumentsOf isFinite le neg add sub mul ofBits round
   row5-held h =
       let s = sine-between (rad (n3 ⊗ argumentsOf t .l3)) row5-argument in
       let c = cosine-between (rad (n3 ⊗ argumentsOf t .l3)) row5-argument in
@@ -96,7 +96,7 @@ module _ (t : Float) (T : Within 20 t) where
   row6-argument = up-to-farthest (l6 T) tt
 
   pub row6-held : {v : Velocity} → Held 2210000 v → Held 2212000 (row6 (argumentsOf t) v)
-  unfolding row6 waveOf argumentsOf isFinite le neg add sub mul ofBits round
+  unfolding row6 turnOf argumentsOf isFinite le neg add sub mul ofBits round
   row6-held h =
       let s = sine-between (rad (argumentsOf t .l6)) row6-argument in
       let c = cosine-between (rad (argumentsOf t .l6)) row6-argument in
@@ -111,7 +111,7 @@ module _ (t : Float) (T : Within 20 t) where
   row7-argument = up-to-farthest (f T) tt
 
   pub row7-held : {v : Velocity} → Held 2212000 v → Held 2214000 (row7 (argumentsOf t) v)
-  unfolding row7 waveOf argumentsOf isFinite le neg add sub mul ofBits round
+  unfolding row7 turnOf argumentsOf isFinite le neg add sub mul ofBits round
   row7-held h =
       let s = sine-between (rad (argumentsOf t .f)) row7-argument in
       let c = cosine-between (rad (argumentsOf t .f)) row7-argument in
@@ -126,7 +126,7 @@ module _ (t : Float) (T : Within 20 t) where
   row8-argument = up-to-farthest (l1 T ⊞ m1 T) tt
 
   pub row8-held : {v : Velocity} → Held 2214000 v → Held 2216000 (row8 (argumentsOf t) v)
-  unfolding row8 waveOf argumentsOf isFinite le neg add sub mul ofBits round
+  unfolding row8 turnOf argumentsOf isFinite le neg add sub mul ofBits round
   row8-held h =
       let s = sine-between (rad (argumentsOf t .l1 ⊕ argumentsOf t .m1)) row8-argument in
       let c = cosine-between (rad (argumentsOf t .l1 ⊕ argumentsOf t .m1)) row8-argument in
@@ -141,7 +141,7 @@ module _ (t : Float) (T : Within 20 t) where
   row9-argument = up-to-farthest (con n2 ⊠ l5 T) tt
 
   pub row9-held : {v : Velocity} → Held 2216000 v → Held 2218000 (row9 (argumentsOf t) v)
-  unfolding row9 waveOf argumentsOf isFinite le neg add sub mul ofBits round
+  unfolding row9 turnOf argumentsOf isFinite le neg add sub mul ofBits round
   row9-held h =
       let s = sine-between (rad (n2 ⊗ argumentsOf t .l5)) row9-argument in
       let c = cosine-between (rad (n2 ⊗ argumentsOf t .l5)) row9-argument in
@@ -156,7 +156,7 @@ module _ (t : Float) (T : Within 20 t) where
   row10-argument = up-to-farthest (con n2 ⊠ l3 T ⊟ l5 T) tt
 
   pub row10-held : {v : Velocity} → Held 2218000 v → Held 2220000 (row10 (argumentsOf t) v)
-  unfolding row10 waveOf argumentsOf isFinite le neg add sub mul ofBits round
+  unfolding row10 turnOf argumentsOf isFinite le neg add sub mul ofBits round
   row10-held h =
       let s = sine-between (rad (n2 ⊗ argumentsOf t .l3 ⊖ argumentsOf t .l5)) row10-argument in
       let c = cosine-between (rad (n2 ⊗ argumentsOf t .l3 ⊖ argumentsOf t .l5)) row10-argument in
@@ -171,7 +171,7 @@ module _ (t : Float) (T : Within 20 t) where
   row11-argument = up-to-farthest (con n3 ⊠ l3 T ⊟ con n8 ⊠ l4 T ⊞ con n3 ⊠ l5 T) tt
 
   pub row11-held : {v : Velocity} → Held 2220000 v → Held 2222000 (row11 (argumentsOf t) v)
-  unfolding row11 waveOf argumentsOf isFinite le neg add sub mul ofBits round
+  unfolding row11 turnOf argumentsOf isFinite le neg add sub mul ofBits round
   row11-held h =
       let s = sine-between (rad (n3 ⊗ argumentsOf t .l3 ⊖ n8 ⊗ argumentsOf t .l4 ⊕ n3 ⊗ argumentsOf t .l5)) row11-argument in
       let c = cosine-between (rad (n3 ⊗ argumentsOf t .l3 ⊖ n8 ⊗ argumentsOf t .l4 ⊕ n3 ⊗ argumentsOf t .l5)) row11-argument in
@@ -186,7 +186,7 @@ module _ (t : Float) (T : Within 20 t) where
   row12-argument = up-to-farthest (con n5 ⊠ l3 T ⊟ con n8 ⊠ l4 T ⊞ con n3 ⊠ l5 T) tt
 
   pub row12-held : {v : Velocity} → Held 2222000 v → Held 2224000 (row12 (argumentsOf t) v)
-  unfolding row12 waveOf argumentsOf isFinite le neg add sub mul ofBits round
+  unfolding row12 turnOf argumentsOf isFinite le neg add sub mul ofBits round
   row12-held h =
       let s = sine-between (rad (n5 ⊗ argumentsOf t .l3 ⊖ n8 ⊗ argumentsOf t .l4 ⊕ n3 ⊗ argumentsOf t .l5)) row12-argument in
       let c = cosine-between (rad (n5 ⊗ argumentsOf t .l3 ⊖ n8 ⊗ argumentsOf t .l4 ⊕ n3 ⊗ argumentsOf t .l5)) row12-argument in

@@ -8,11 +8,11 @@ use Rattle.double.specs.rules.Order.{_≼_}
 use Rattle.double.specs.rules.Table.{over, minusOver}
 use Rattle.double.specs.notions.Range.{known, con, _⊞_, _⊟_, _⊠_}
 use Rattle.double.specs.laws.Between.{between-cut}
-use Rattle.elementary.specs.rules.Sine.{farthestAlone}
+use Rattle.elementary.specs.rules.Sine.{turnOf, farthestAlone}
 use Rattle.elementary.specs.laws.Sine.{sine-between, cosine-between}
 use Rattle.aberr_rows.specs.declared.Velocity.{Velocity}
 use Rattle.aberr_rows.specs.rules.Numbers.{n1, n2, n3, n4, n5, n6, n7, n8, n9, n12, n14}
-use Rattle.aberr_rows.specs.rules.Arguments.{argumentsOf, rad, waveOf}
+use Rattle.aberr_rows.specs.rules.Arguments.{argumentsOf, rad}
 use Rattle.aberr_rows.specs.rules.Rows.{row25, row26, row27, row28, row29, row30, row31, row32, row33, row34, row35, row36}
 use Rattle.conditions.specs.notions.Within.{Within}
 use Rattle.domain.specs.notions.Aberration.{Held, l2, l3, l4, l5, l6, l1, d, m1}
@@ -24,7 +24,7 @@ module _ (t : Float) (T : Within 20 t) where
   row25-argument = up-to-farthest (con n2 ⊠ l6 T) tt
 
   pub row25-held : {v : Velocity} → Held 2248000 v → Held 2250000 (row25 (argumentsOf t) v)
-  unfolding row25 waveOf argumentsOf isFinite le neg add sub mul ofBits round
+  unfolding row25 turnOf argumentsOf isFinite le neg add sub mul ofBits round
   row25-held h =
       let s = sine-between (rad (n2 ⊗ argumentsOf t .l6)) row25-argument in
       let c = cosine-between (rad (n2 ⊗ argumentsOf t .l6)) row25-argument in
@@ -39,7 +39,7 @@ module _ (t : Float) (T : Within 20 t) where
   row26-argument = up-to-farthest (con n2 ⊠ l2 T ⊟ con n4 ⊠ l3 T) tt
 
   pub row26-held : {v : Velocity} → Held 2250000 v → Held 2252000 (row26 (argumentsOf t) v)
-  unfolding row26 waveOf argumentsOf isFinite le neg add sub mul ofBits round
+  unfolding row26 turnOf argumentsOf isFinite le neg add sub mul ofBits round
   row26-held h =
       let s = sine-between (rad (n2 ⊗ argumentsOf t .l2 ⊖ n4 ⊗ argumentsOf t .l3)) row26-argument in
       let c = cosine-between (rad (n2 ⊗ argumentsOf t .l2 ⊖ n4 ⊗ argumentsOf t .l3)) row26-argument in
@@ -54,7 +54,7 @@ module _ (t : Float) (T : Within 20 t) where
   row27-argument = up-to-farthest (con n3 ⊠ l3 T ⊟ con n2 ⊠ l4 T) tt
 
   pub row27-held : {v : Velocity} → Held 2252000 v → Held 2254000 (row27 (argumentsOf t) v)
-  unfolding row27 waveOf argumentsOf isFinite le neg add sub mul ofBits round
+  unfolding row27 turnOf argumentsOf isFinite le neg add sub mul ofBits round
   row27-held h =
       let s = sine-between (rad (n3 ⊗ argumentsOf t .l3 ⊖ n2 ⊗ argumentsOf t .l4)) row27-argument in
       let c = cosine-between (rad (n3 ⊗ argumentsOf t .l3 ⊖ n2 ⊗ argumentsOf t .l4)) row27-argument in
@@ -74,7 +74,7 @@ module _ (t : Float) (T : Within 20 t) where
       ]
 
   pub row28-held : {v : Velocity} → Held 2254000 v → Held 2256000 (row28 (argumentsOf t) v)
-  unfolding row28 waveOf argumentsOf isFinite le neg add sub mul ofBits round
+  unfolding row28 turnOf argumentsOf isFinite le neg add sub mul ofBits round
   row28-held h =
       let s = sine-between (rad (argumentsOf t .l1 ⊕ n2 ⊗ argumentsOf t .d ⊖ argumentsOf t .m1)) row28-argument in
       let c = cosine-between (rad (argumentsOf t .l1 ⊕ n2 ⊗ argumentsOf t .d ⊖ argumentsOf t .m1)) row28-argument in
@@ -89,7 +89,7 @@ module _ (t : Float) (T : Within 20 t) where
   row29-argument = up-to-farthest (con n8 ⊠ l2 T ⊟ con n12 ⊠ l3 T) tt
 
   pub row29-held : {v : Velocity} → Held 2256000 v → Held 2258000 (row29 (argumentsOf t) v)
-  unfolding row29 waveOf argumentsOf isFinite le neg add sub mul ofBits round
+  unfolding row29 turnOf argumentsOf isFinite le neg add sub mul ofBits round
   row29-held h =
       let s = sine-between (rad (n8 ⊗ argumentsOf t .l2 ⊖ n12 ⊗ argumentsOf t .l3)) row29-argument in
       let c = cosine-between (rad (n8 ⊗ argumentsOf t .l2 ⊖ n12 ⊗ argumentsOf t .l3)) row29-argument in
@@ -104,7 +104,7 @@ module _ (t : Float) (T : Within 20 t) where
   row30-argument = up-to-farthest (con n8 ⊠ l2 T ⊟ con n14 ⊠ l3 T) tt
 
   pub row30-held : {v : Velocity} → Held 2258000 v → Held 2260000 (row30 (argumentsOf t) v)
-  unfolding row30 waveOf argumentsOf isFinite le neg add sub mul ofBits round
+  unfolding row30 turnOf argumentsOf isFinite le neg add sub mul ofBits round
   row30-held h =
       let s = sine-between (rad (n8 ⊗ argumentsOf t .l2 ⊖ n14 ⊗ argumentsOf t .l3)) row30-argument in
       let c = cosine-between (rad (n8 ⊗ argumentsOf t .l2 ⊖ n14 ⊗ argumentsOf t .l3)) row30-argument in
@@ -119,7 +119,7 @@ module _ (t : Float) (T : Within 20 t) where
   row31-argument = up-to-farthest (con n2 ⊠ l4 T) tt
 
   pub row31-held : {v : Velocity} → Held 2260000 v → Held 2262000 (row31 (argumentsOf t) v)
-  unfolding row31 waveOf argumentsOf isFinite le neg add sub mul ofBits round
+  unfolding row31 turnOf argumentsOf isFinite le neg add sub mul ofBits round
   row31-held h =
       let s = sine-between (rad (n2 ⊗ argumentsOf t .l4)) row31-argument in
       let c = cosine-between (rad (n2 ⊗ argumentsOf t .l4)) row31-argument in
@@ -134,7 +134,7 @@ module _ (t : Float) (T : Within 20 t) where
   row32-argument = up-to-farthest (con n3 ⊠ l2 T ⊟ con n4 ⊠ l3 T) tt
 
   pub row32-held : {v : Velocity} → Held 2262000 v → Held 2264000 (row32 (argumentsOf t) v)
-  unfolding row32 waveOf argumentsOf isFinite le neg add sub mul ofBits round
+  unfolding row32 turnOf argumentsOf isFinite le neg add sub mul ofBits round
   row32-held h =
       let s = sine-between (rad (n3 ⊗ argumentsOf t .l2 ⊖ n4 ⊗ argumentsOf t .l3)) row32-argument in
       let c = cosine-between (rad (n3 ⊗ argumentsOf t .l2 ⊖ n4 ⊗ argumentsOf t .l3)) row32-argument in
@@ -149,7 +149,7 @@ module _ (t : Float) (T : Within 20 t) where
   row33-argument = up-to-farthest (con n2 ⊠ (l3 T ⊟ l5 T)) tt
 
   pub row33-held : {v : Velocity} → Held 2264000 v → Held 2266000 (row33 (argumentsOf t) v)
-  unfolding row33 waveOf argumentsOf isFinite le neg add sub mul ofBits round
+  unfolding row33 turnOf argumentsOf isFinite le neg add sub mul ofBits round
   row33-held h =
       let s = sine-between (rad (n2 ⊗ (argumentsOf t .l3 ⊖ argumentsOf t .l5))) row33-argument in
       let c = cosine-between (rad (n2 ⊗ (argumentsOf t .l3 ⊖ argumentsOf t .l5))) row33-argument in
@@ -164,7 +164,7 @@ module _ (t : Float) (T : Within 20 t) where
   row34-argument = up-to-farthest (con n3 ⊠ (l2 T ⊟ l3 T)) tt
 
   pub row34-held : {v : Velocity} → Held 2266000 v → Held 2268000 (row34 (argumentsOf t) v)
-  unfolding row34 waveOf argumentsOf isFinite le neg add sub mul ofBits round
+  unfolding row34 turnOf argumentsOf isFinite le neg add sub mul ofBits round
   row34-held h =
       let s = sine-between (rad (n3 ⊗ (argumentsOf t .l2 ⊖ argumentsOf t .l3))) row34-argument in
       let c = cosine-between (rad (n3 ⊗ (argumentsOf t .l2 ⊖ argumentsOf t .l3))) row34-argument in
@@ -179,7 +179,7 @@ module _ (t : Float) (T : Within 20 t) where
   row35-argument = up-to-farthest (con n2 ⊠ (l3 T ⊟ l4 T)) tt
 
   pub row35-held : {v : Velocity} → Held 2268000 v → Held 2270000 (row35 (argumentsOf t) v)
-  unfolding row35 waveOf argumentsOf isFinite le neg add sub mul ofBits round
+  unfolding row35 turnOf argumentsOf isFinite le neg add sub mul ofBits round
   row35-held h =
       let s = sine-between (rad (n2 ⊗ (argumentsOf t .l3 ⊖ argumentsOf t .l4))) row35-argument in
       let c = cosine-between (rad (n2 ⊗ (argumentsOf t .l3 ⊖ argumentsOf t .l4))) row35-argument in
@@ -199,7 +199,7 @@ module _ (t : Float) (T : Within 20 t) where
       ]
 
   pub row36-held : {v : Velocity} → Held 2270000 v → Held 2272000 (row36 (argumentsOf t) v)
-  unfolding row36 waveOf argumentsOf isFinite le neg add sub mul ofBits round
+  unfolding row36 turnOf argumentsOf isFinite le neg add sub mul ofBits round
   row36-held h =
       let s = sine-between (rad (argumentsOf t .l1 ⊖ n2 ⊗ argumentsOf t .d)) row36-argument in
       let c = cosine-between (rad (argumentsOf t .l1 ⊖ n2 ⊗ argumentsOf t .d)) row36-argument in
