@@ -57,6 +57,38 @@ fn fixed(x: f64) {
     six_digits(n % 1000000);
 }
 
+// Two digits, with their leading zero.
+fn two_digits(n: u64) {
+    if n < 10 {
+        word(b"0");
+    }
+    io::print_decimal(1, n);
+}
+
+// Seconds as the book writes them: hours or degrees, minutes, and seconds to six places.
+fn sixtieths(seconds: f64, whole: &[u8], minute: &[u8], second: &[u8]) {
+    if double::bears_minus(seconds) {
+        word(b"-");
+    }
+    let n = double::whole_part(double::size(seconds) * 1000000.0 + 0.5);
+    io::print_decimal(1, n / 3600000000);
+    word(whole);
+    two_digits(n / 60000000 % 60);
+    word(minute);
+    two_digits(n / 1000000 % 60);
+    word(b".");
+    six_digits(n % 1000000);
+    word(second);
+}
+
+fn hours(x: f64) {
+    sixtieths(x * SECONDS / 15.0, b"h", b"m", b"s");
+}
+
+fn degrees(x: f64) {
+    sixtieths(x * SECONDS, b"d", b"'", b"\"");
+}
+
 fn refusal(n: u8) {
     word(b" refused ");
     io::print_decimal(1, n as u64);
@@ -122,6 +154,28 @@ fn point(name: &[u8], a: Point, unit: f64, figure: &[u8]) {
         }
         Point::Refused(n) => refusal(n),
     }
+    beside(figure);
+}
+
+// A right ascension in hours and a declination in degrees.
+fn place(name: &[u8], a: Two, figure: &[u8]) {
+    word(name);
+    match a {
+        Two::Are(x, y) => {
+            word(b" ");
+            hours(x);
+            word(b" ");
+            degrees(y);
+        }
+        Two::Refused(n) => refusal(n),
+    }
+    beside(figure);
+}
+
+fn arc(name: &[u8], x: Rad, figure: &[u8]) {
+    word(name);
+    word(b" ");
+    degrees(x.0);
     beside(figure);
 }
 
@@ -247,12 +301,42 @@ fn frames() {
     );
 }
 
+// Polaris on a day: its place of J2000, 2h31m48.704s and 89d15'50.72", is moved by its yearly rates first.
+fn polaris(name: &[u8], day: f64, figure: &[u8]) {
+    let years = (day - J2000) / 365.25;
+    place(
+        name,
+        precess::precess_eq_coords(
+            deg((9108.704 + 0.19877 * years) / 240.0),
+            deg((321350.72 - 0.0152 * years) / 3600.0),
+            J2000,
+            day,
+        ),
+        figure,
+    );
+}
+
 fn reductions() {
     two(
         b"21.b theta Persei:",
         precess::precess_eq_coords(deg(41.054063), deg(49.22775), J2000, 2462088.69),
         DEGREES,
         b"published: 41.547214 49.348483",
+    );
+    polaris(
+        b"21 Polaris, B1900.0:",
+        2415020.3135,
+        b"published: 1h22m33.90s 88d46'26.18\"",
+    );
+    polaris(
+        b"21 Polaris, J2050.0:",
+        2469807.5,
+        b"published: 3h48m16.43s 89d27'15.38\"",
+    );
+    polaris(
+        b"21 Polaris, J2100.0:",
+        2488070.0,
+        b"published: 5h53m29.17s 89d32'22.18\"",
     );
     two(
         b"21.c Venus:",
@@ -265,6 +349,11 @@ fn reductions() {
         nutation::nutation(2446895.5),
         SECONDS,
         b"published: -3.788 9.443",
+    );
+    arc(
+        b"22.a mean obliquity:",
+        chain::obliquity_on(2446895.5),
+        b"published: 23d26'27.407\"",
     );
     two(
         b"23.a nutation of a point:",
