@@ -30,7 +30,7 @@ fn mean_obliquity(c: f64) -> Deg
 }
 
 // The mean obliquity on a day.
-fn obliquity_on(day: f64) -> Rad
+pub fn obliquity_on(day: f64) -> Rad
     ensures { λ r. ⌜ r ≡ obliquityOf day ⌝ }
 {
     angle::radians(mean_obliquity(time::century(day)))

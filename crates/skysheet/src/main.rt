@@ -26,24 +26,19 @@ fn word(text: &[u8]) {
     io::write_all(1, text);
 }
 
-// Six digits, with their leading zeros.
-fn six_digits(n: u64) {
-    if n < 100000 {
-        word(b"0");
-    }
-    if n < 10000 {
-        word(b"0");
-    }
-    if n < 1000 {
-        word(b"0");
-    }
-    if n < 100 {
-        word(b"0");
-    }
+// Two digits, with their leading zero.
+fn two_digits(n: u64) {
     if n < 10 {
         word(b"0");
     }
     io::print_decimal(1, n);
+}
+
+// Six digits, with their leading zeros.
+fn six_digits(n: u64) {
+    two_digits(n / 10000);
+    two_digits(n / 100 % 100);
+    two_digits(n % 100);
 }
 
 // A number to six places.
@@ -55,6 +50,22 @@ fn fixed(x: f64) {
     io::print_decimal(1, n / 1000000);
     word(b".");
     six_digits(n % 1000000);
+}
+
+// Seconds as the book writes them: hours or degrees, minutes, and seconds to six places.
+fn sixtieths(seconds: f64, whole: &[u8], minute: &[u8], second: &[u8]) {
+    if double::bears_minus(seconds) {
+        word(b"-");
+    }
+    let n = double::whole_part(double::size(seconds) * 1000000.0 + 0.5);
+    io::print_decimal(1, n / 3600000000);
+    word(whole);
+    two_digits(n / 60000000 % 60);
+    word(minute);
+    two_digits(n / 1000000 % 60);
+    word(b".");
+    six_digits(n % 1000000);
+    word(second);
 }
 
 fn refusal(n: u8) {
@@ -170,7 +181,7 @@ fn limits() {
     );
 }
 
-fn frames() {
+fn earth_and_ecliptic() {
     two(
         b"11.a rho sin, rho cos:",
         Earth::rho_sin_cos_phi(deg(33.35611111111111), 1706.0),
@@ -201,6 +212,9 @@ fn frames() {
         DEGREES,
         b"published: 28.026183",
     );
+}
+
+fn horizon_and_galaxy() {
     one(
         b"13.b azimuth:",
         coords::az_frm_eq(
@@ -247,12 +261,53 @@ fn frames() {
     );
 }
 
-fn reductions() {
+// Polaris on a day, in hours and degrees: its place of J2000, 2h31m48.704s and 89d15'50.72", is moved by its yearly rates first.
+fn polaris(name: &[u8], day: f64, figure: &[u8]) {
+    let years = (day - J2000) / 365.25;
+    let asc = deg((9108.704 + 0.19877 * years) / 240.0);
+    let dec = deg((321350.72 - 0.0152 * years) / 3600.0);
+    word(name);
+    match precess::precess_eq_coords(asc, dec, J2000, day) {
+        Two::Are(x, y) => {
+            word(b" ");
+            sixtieths(x * SECONDS / 15.0, b"h", b"m", b"s");
+            word(b" ");
+            sixtieths(y * SECONDS, b"d", b"'", b"\"");
+        }
+        Two::Refused(n) => refusal(n),
+    }
+    beside(figure);
+}
+
+// The mean obliquity on a day, in degrees.
+fn obliquity(name: &[u8], day: f64, figure: &[u8]) {
+    word(name);
+    word(b" ");
+    sixtieths(chain::obliquity_on(day).0 * SECONDS, b"d", b"'", b"\"");
+    beside(figure);
+}
+
+fn precessions() {
     two(
         b"21.b theta Persei:",
         precess::precess_eq_coords(deg(41.054063), deg(49.22775), J2000, 2462088.69),
         DEGREES,
         b"published: 41.547214 49.348483",
+    );
+    polaris(
+        b"21 Polaris, B1900.0:",
+        2415020.3135,
+        b"published: 1h22m33.90s 88d46'26.18\"",
+    );
+    polaris(
+        b"21 Polaris, J2050.0:",
+        2469807.5,
+        b"published: 3h48m16.43s 89d27'15.38\"",
+    );
+    polaris(
+        b"21 Polaris, J2100.0:",
+        2488070.0,
+        b"published: 5h53m29.17s 89d32'22.18\"",
     );
     two(
         b"21.c Venus:",
@@ -260,11 +315,19 @@ fn reductions() {
         DEGREES,
         b"published: 118.704 1.615 (outside the stated days)",
     );
+}
+
+fn reductions() {
     two(
         b"22.a nutation:",
         nutation::nutation(2446895.5),
         SECONDS,
         b"published: -3.788 9.443",
+    );
+    obliquity(
+        b"22.a mean obliquity:",
+        2446895.5,
+        b"published: 23d26'27.407\"",
     );
     two(
         b"23.a nutation of a point:",
@@ -349,7 +412,9 @@ fn parallaxes() {
 
 fn main() {
     limits();
-    frames();
+    earth_and_ecliptic();
+    horizon_and_galaxy();
+    precessions();
     reductions();
     parallaxes();
 }
