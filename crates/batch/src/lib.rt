@@ -3,7 +3,7 @@
 ghost use mathlib.Core.Path.{_≡_};
 ghost use lib.IntN.{pos};
 ghost use Rattle.quantity.specs.rules.Answer.{shownTwo};
-ghost use Rattle.batch.specs.rules.Star.{degreesOf, ascOf, decOf, anglesRefusal, reduceAt, reduceStar, statusOf, firstOf, secondOf};
+ghost use Rattle.batch.specs.rules.Star.{degreesOf, ascOf, decOf, reduceStar, statusOf, firstOf, secondOf};
 ghost use Rattle.batch.specs.rules.Batch.{batchRefusal};
 ghost use Rattle.batch.specs.rules.Batch.{Batch as Batch·Batch};
 use chain::Night;
@@ -50,33 +50,12 @@ fn dec_of(star: Star) -> Rad
     angle::radians(dec_degrees(star))
 }
 
-// Refusals of a right ascension and a declination: 1; 3.
-fn angles_refusal(asc: Rad, dec: Rad) -> u8
-    ensures { λ r. ⌜ r ≡ anglesRefusal asc dec ⌝ }
-{
-    quantity::lower(
-        quantity::angle_refusal(asc),
-        quantity::latitude_refusal(dec),
-    )
-}
-
-// A place under a night. Refusals: 1; 3; then 7 and 4.
-fn reduce_at(asc: Rad, dec: Rad, night: Night) -> Two
-    ensures { λ r. ⌜ shownTwo r ≡ reduceAt asc dec night ⌝ }
-{
-    let no = angles_refusal(asc, dec);
-    if no != 0 {
-        return Two::Refused(no);
-    }
-    chain::reduced_in(asc, dec, night)
-}
-
-// A star's place under a night. Refusals: 9 for a record out of range; then the chain's.
+// A star's place under a night. Refusals: 9 for a record out of range; then 7 and 4, since the angles of one in range are near enough.
 pub fn reduce_star(star: Star, night: Night) -> Two
     ensures { λ r. ⌜ shownTwo r ≡ reduceStar star night ⌝ }
 {
     if list::in_range(star) {
-        return reduce_at(asc_of(star), dec_of(star), night);
+        return chain::reduced_in(asc_of(star), dec_of(star), night);
     }
     Two::Refused(9)
 }

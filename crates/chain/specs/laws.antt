@@ -1,3 +1,4 @@
 -- What is proved of the chain, for callers to cite. Theorems only.
 pub mod Constants
 pub mod Night
+pub mod Point

@@ -91,10 +91,15 @@ pub fn night_of(day1: f64, day2: f64) -> Night
 
 // ---- a star under a night
 
-// Refusals of a point whose declination goes into a tangent: 1; 3; 4.
+// Refusals of a point whose declination goes into a tangent: 1; 3; 4. Most points are within both limits.
 fn point_refusal(p: EqPoint) -> u8
     ensures { λ r. ⌜ r ≡ pointRefusal p ⌝ }
 {
+    if double::size(p.asc) <= 64.0 {
+        if double::size(p.dec) <= 1.57 {
+            return 0;
+        }
+    }
     quantity::lower(
         quantity::angle_refusal(Rad(p.asc)),
         quantity::steep_refusal(Rad(p.dec)),

@@ -7,7 +7,7 @@ use Rattle.batch.proofs.reduce_star.Tie as tie
 
 returns : tie.Need-returns
 unfolding reduceStar
-returns c = rw (sym (c .before .before .before .before .in-range .ensures) ∙ c .before .before .before .if1 .taken) (rw (c .before .before .asc-of .ensures, c .before .dec-of .ensures) at (c .reduce-at .ensures))
+returns c = rw (sym (c .before .before .before .before .in-range .ensures) ∙ c .before .before .before .if1 .taken) (rw (c .before .before .asc-of .ensures, c .before .dec-of .ensures) at (c .reduced-in .ensures))
 
 returns-2 : tie.Need-returns-2
 unfolding reduceStar

@@ -20,7 +20,7 @@ use Rattle.chain.specs.rules.Night.{gathered, nightOf, moved, reducedAt, reduce
 use Rattle.tally.specs.rules.Tally.{highest}
 use Rattle.list.specs.declared.Star.{Star}
 use Rattle.list.specs.rules.Record.{inRange}
-use Rattle.batch.specs.rules.Star.{ascOf, decOf, reduceAt, reduceStar, statusOf}
+use Rattle.batch.specs.rules.Star.{ascOf, decOf, reduceStar, statusOf}
 
 -- ---- numbers, and what rules do with answers
 
@@ -102,9 +102,9 @@ module _ (night : Night) (h : night .refusal ≤ highest) where
   known-in asc dec = known-then _ _ (known-turned asc dec (night .turns)) (λ (p : Pair). known-at _)
 
   known-star : (star : Star) → statusOf (reduceStar star night) ≤ highest
-  unfolding reduceStar reduceAt
+  unfolding reduceStar
   known-star star =
-      known-choice (inRange star) _ (refused 9) (known-unless _ _ (known-lower _ _ (known-angle _) (known-latitude _)) (known-in (ascOf star) (decOf star))) (omega arith)
+      known-choice (inRange star) _ (refused 9) (known-in (ascOf star) (decOf star)) (omega arith)
 
 pub known-under : (star : Star) (day1 day2 : Float) → statusOf (reduceStar star (nightOf day1 day2)) ≤ highest
 known-under star day1 day2 = known-star (nightOf day1 day2) (known-night day1 day2) star

@@ -6,8 +6,7 @@ use lib.Ieee.{Float, binary64, ofInt}
 use Rattle.double.specs.rules.Operations.{bits, zero, _⊘_}
 use Rattle.quantity.specs.declared.Deg.{Deg}
 use Rattle.quantity.specs.declared.Rad.{Rad}
-use Rattle.quantity.specs.rules.Answer.{Answer, answered, refused, Pair, first, second, unless}
-use Rattle.quantity.specs.rules.Refusal.{lower, angleRefusal, latitudeRefusal}
+use Rattle.quantity.specs.rules.Answer.{Answer, answered, refused, Pair, first, second}
 use Rattle.helpers.specs.rules.Angle.{radiansOf}
 use Rattle.chain.specs.declared.Night.{Night}
 use Rattle.chain.specs.rules.Chain.{chainRule}
@@ -33,15 +32,9 @@ decOf star = radiansOf (degreesOf (star .dec))
 unfoldable pub starRule : Star → Float → Float → Answer Pair
 starRule star day1 day2 = cond (inRange star) (chainRule (ascOf star) (decOf star) day1 day2) (refused 9)
 
--- the same under a night, whose days are not refused
-abbrev pub anglesRefusal : Rad → Rad → ℕ
-anglesRefusal asc dec = lower (angleRefusal asc) (latitudeRefusal dec)
-
-unfoldable pub reduceAt : Rad → Rad → Night → Answer Pair
-reduceAt asc dec night = unless (anglesRefusal asc dec) (reducedIn asc dec night)
-
+-- the same under a night, whose days are not refused; the angles of a star in range never are
 unfoldable pub reduceStar : Star → Night → Answer Pair
-reduceStar star night = cond (inRange star) (reduceAt (ascOf star) (decOf star) night) (refused 9)
+reduceStar star night = cond (inRange star) (reducedIn (ascOf star) (decOf star) night) (refused 9)
 
 -- what is stored of an answer: its status, and the two angles or 0.0 and 0.0
 abbrev pub statusOf : {A : Type 0} → Answer A → ℕ
