@@ -33,21 +33,15 @@ impl Tally {
     pub fn raise(self, status: u8) -> Raised
         ensures { λ r. ⌜ r ≡ raiseRule self status ⌝ }
     {
+        let mut tally = self;
         if status > HIGHEST {
-            return Raised {
-                tally: self,
-                refusal: 9,
-            };
+            return Raised { tally, refusal: 9 };
         }
         let k = status as usize;
-        let n = self.counts[k];
+        let n = tally.counts[k];
         if n >= FULLEST {
-            return Raised {
-                tally: self,
-                refusal: 8,
-            };
+            return Raised { tally, refusal: 8 };
         }
-        let mut tally = self;
         tally.counts[k] = n + 1;
         Raised { tally, refusal: 0 }
     }
