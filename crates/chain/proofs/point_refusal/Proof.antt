@@ -12,7 +12,7 @@ returns c =
     sym (point-taken p (holds (rw (c .before .before .before .size .ensures) at (c .before .before .if1 .taken))) (holds (rw (c .before .size2 .ensures) at (c .if2 .taken))))
 
 returns-2 : tie.Need-returns-2
-returns-2 c = cc
+returns-2 c = rw (c .lower .ensures, c .before .steep-refusal .ensures, c .before .before .angle-refusal .ensures)
 
 pub point-refusal-spec : {M : Type 1} → statement M
 point-refusal-spec = tie.close (tie.spec asks-nothing asks-nothing returns asks-nothing asks-nothing asks-nothing returns-2)
