@@ -375,6 +375,13 @@ uint8_t brundelak_find(const uint8_t *bytes, size_t len, uint32_t number, size_t
 uint8_t brundelak_batch(const uint8_t *bytes, size_t len, double day1, double day2, uint8_t *status, size_t status_len,
                         double *asc, size_t asc_len, double *dec, size_t dec_len, uint32_t *tally);
 
+/* One status counted in a tally.
+ * Given:     status   0, or a refusal number up to 10
+ *            tally    20 counts
+ * Returned:  tally    the count of that status raised by one
+ * Refusals:  9 for a status that is not known, then 8 for a count that is full, 60000; the counts stay unchanged */
+uint8_t brundelak_tally_raise(uint8_t status, uint32_t *tally);
+
 #ifdef __cplusplus
 }
 #endif

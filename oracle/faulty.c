@@ -1,10 +1,12 @@
-/* Three functions, each put in the place of the archive's by the linker, with one slip of the boundary: fuzz must report each. */
+/* Four functions, each put in the place of the archive's by the linker, with one slip of the boundary: fuzz must report each. */
 #include "brundelak.h"
 
 uint8_t __real_brundelak_root(double x, double *out);
 uint8_t __real_brundelak_find(const uint8_t *bytes, size_t len, uint32_t number, size_t *index, uint32_t *asc, int32_t *dec);
 uint8_t __real_brundelak_batch(const uint8_t *bytes, size_t len, double day1, double day2, uint8_t *status, size_t status_len,
                                double *asc, size_t asc_len, double *dec, size_t dec_len, uint32_t *tally);
+uint8_t __real_brundelak_tally_raise(uint8_t status, uint32_t *tally);
+uint8_t __wrap_brundelak_tally_raise(uint8_t status, uint32_t *tally);
 uint8_t __wrap_brundelak_root(double x, double *out);
 uint8_t __wrap_brundelak_find(const uint8_t *bytes, size_t len, uint32_t number, size_t *index, uint32_t *asc, int32_t *dec);
 uint8_t __wrap_brundelak_batch(const uint8_t *bytes, size_t len, double day1, double day2, uint8_t *status, size_t status_len,
@@ -58,6 +60,19 @@ uint8_t __wrap_brundelak_batch(const uint8_t *bytes, size_t len, double day1, do
 #elif SLIP == 10 /* a record mended in the list */
     if (answer == 0 && len > 0)
         ((uint8_t *)bytes)[len - 1] &= 0x7F;
+#endif
+    return answer;
+}
+
+uint8_t __wrap_brundelak_tally_raise(uint8_t status, uint32_t *tally)
+{
+    uint8_t answer = __real_brundelak_tally_raise(status, tally);
+#if SLIP == 11 /* a full count raised */
+    if (answer == 8)
+        tally[status]++;
+#elif SLIP == 12 /* a count past the last */
+    if (answer == 0)
+        tally[20] = 0;
 #endif
     return answer;
 }

@@ -162,8 +162,8 @@ static void fault(int signal)
 
 /* ---- calls ---- */
 
-/* star, find and batch stand behind the functions of numbers. */
-enum { KINDS = FUNCTION_COUNT + 3 };
+/* star, find, batch and tally_raise stand behind the functions of numbers. */
+enum { KINDS = FUNCTION_COUNT + 4 };
 static uint64_t answered[KINDS], refused[KINDS], unsound;
 static size_t which;
 
@@ -308,6 +308,21 @@ static void batch(void)
     judge(status, sound && sum == stars);
 }
 
+static void tally_raise(void)
+{
+    name = "tally_raise";
+    uint8_t of = (uint8_t)(below(2) ? below(12) : bits());
+    uint32_t *counts = lend(&tally, 80), before[20];
+    for (size_t i = 0; i < 20; i++)
+        counts[i] = below(2) ? (uint32_t)below(60002) : (uint32_t)bits();
+    given(&tally);
+    memcpy(before, counts, sizeof before);
+    uint8_t status = brundelak_tally_raise(of, counts), want = of > 10 ? 9 : before[of % 20] >= 60000 ? 8 : 0;
+    if (want == 0)
+        before[of]++;
+    judge(status, status == want && memcmp(before, counts, sizeof before) == 0 && (status == 0 ? kept_beyond(&tally, 80) : kept(&tally)));
+}
+
 /* ---- the guard is tried first ---- */
 
 enum { SEEN = 3 };
@@ -379,8 +394,10 @@ int main(int argc, char **argv)
             star();
         else if (which == FUNCTION_COUNT + 1)
             find();
-        else
+        else if (which == FUNCTION_COUNT + 2)
             batch();
+        else
+            tally_raise();
     }
     uint64_t all = 0, least = UINT64_MAX;
     for (which = 0; which < KINDS; which++) {

@@ -95,7 +95,7 @@ static unsigned batch(void)
     size_t stars = list_len / 12;
     uint8_t statuses[ROOM], want_statuses[ROOM];
     double asc[ROOM], dec[ROOM], want_asc[ROOM], want_dec[ROOM];
-    uint32_t tally[20], want_tally[20];
+    uint32_t tally[20], want_tally[20], raised[20] = {0};
     double day1 = number(strtok(NULL, " \n")), day2 = number(strtok(NULL, " \n"));
     unsigned status = (unsigned)whole();
     memset(statuses, 0xA5, sizeof statuses);
@@ -115,7 +115,13 @@ static unsigned batch(void)
             want_dec[i] = want_statuses[i] == 0 ? number(strtok(NULL, " \n")) : 0.0;
         }
     }
-    int agrees = brundelak_batch(list, list_len, day1, day2, statuses, stars, asc, stars, dec, stars, tally) == status
+    /* The tally is what the statuses raise one by one. */
+    int all_raised = 1;
+    for (size_t i = 0; status == 0 && i < stars; i++)
+        all_raised &= brundelak_tally_raise(want_statuses[i], raised) == 0;
+    if (status == 0)
+        all_raised &= memcmp(want_tally, raised, sizeof raised) == 0;
+    int agrees = all_raised && brundelak_batch(list, list_len, day1, day2, statuses, stars, asc, stars, dec, stars, tally) == status
         && memcmp(want_statuses, statuses, sizeof statuses) == 0 && memcmp(want_asc, asc, sizeof asc) == 0
         && memcmp(want_dec, dec, sizeof dec) == 0 && memcmp(want_tally, tally, sizeof tally) == 0;
     return agrees ? status : 999;

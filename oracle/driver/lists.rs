@@ -1,4 +1,4 @@
-//! The stored list: document 01's section 7 written a second time, and the port's star, find and batch compared with it.
+//! The stored list: document 01's section 7 written a second time, and the port's star, find, batch and tally compared with it.
 //! A star's reduction is the chain of the routed Rust.
 use aimed;
 use functions::Outcome;
@@ -23,6 +23,7 @@ extern "C" {
         dec_len: usize,
         tally: *mut u32,
     ) -> u8;
+    fn brundelak_tally_raise(status: u8, tally: *mut u32) -> u8;
 }
 
 // ---- section 7
@@ -258,10 +259,26 @@ fn compare_batch(bytes: &[u8], lens: [usize; 3], (day1, day2): (f64, f64), count
     }
 }
 
+/// A status counted in counts of which some are full or nearly so.
+fn compare_raise(r: &mut Random, count: &mut Count) {
+    let status = if r.below(4) == 0 { r.bits() as u8 } else { r.below(12) as u8 };
+    let mut want = [0xA5A5A5A5u32; 22];
+    want[1..21].iter_mut().for_each(|c| *c = [0, 59999, 60000, r.below(60000) as u32][r.below(4)]);
+    let mut got = want;
+    let place = 1 + status as usize;
+    let expected = if status > 10 { 9 } else if want[place] >= 60000 { 8 } else { 0 };
+    if expected == 0 {
+        want[place] += 1;
+    }
+    let answer = unsafe { brundelak_tally_raise(status, got.as_mut_ptr().offset(1)) };
+    count.tell(answer, answer == expected && got == want, || format!("tally_raise: status {}, {:?} for {:?}", status, got, want));
+}
+
 /// n lists, a star of each shown, one sought, and each in a batch. Answers the number of calls and of those that differ.
 pub fn compare(n: u64) -> (u64, u64) {
     let mut r = Random(::SEED);
     let (mut stars, mut finds, mut batches, mut statuses) = (Count::new(), Count::new(), Count::new(), Count::new());
+    let mut raises = Count::new();
     let mut both = (2451545.0, 2462088.69);
     for i in 0..n {
         both = days(&mut r, both);
@@ -269,6 +286,7 @@ pub fn compare(n: u64) -> (u64, u64) {
         for _ in 0..4 {
             compare_star(&mut r, &bytes, &mut stars);
             compare_find(&mut r, &bytes, &mut finds);
+            compare_raise(&mut r, &mut raises);
         }
         // A star costs some hundred thousand instructions on either side.
         if i % 4 == 0 {
@@ -288,16 +306,18 @@ pub fn compare(n: u64) -> (u64, u64) {
     println!("{}", finds.line("find"));
     println!("{}", batches.line("batch"));
     println!("{}", statuses.line("stars of the batches"));
+    println!("{}", raises.line("tally_raise"));
     let met = |c: &Count, numbers: &[usize]| numbers.iter().all(|&k| c.by[k] > 0);
     let all = met(&stars, &[0, 8, 255])
         && met(&finds, &[0, 8, 9, 10])
         && met(&batches, &[0, 1, 2, 8])
-        && met(&statuses, &[0, 4, 7, 9]);
+        && met(&statuses, &[0, 4, 7, 9])
+        && met(&raises, &[0, 8, 9]);
     if !all {
         println!("lists: a refusal that was never met");
     }
-    let calls = stars.calls + finds.calls + batches.calls;
-    (calls, stars.differing + finds.differing + batches.differing + !all as u64)
+    let calls = stars.calls + finds.calls + batches.calls + raises.calls;
+    (calls, stars.differing + finds.differing + batches.differing + raises.differing + !all as u64)
 }
 
 /// The sample's lists: of each some stars shown, some sought, and all in a batch.

@@ -97,6 +97,7 @@ mod stored {
             dec_len: usize,
             tally: *mut u32,
         ) -> u8;
+        pub fn brundelak_tally_raise(status: u8, tally: *mut u32) -> u8;
     }
 }
 
@@ -146,6 +147,13 @@ pub fn batch(
             tally.as_mut_ptr(),
         )
     };
+    Refusal::from_status(answer)?;
+    Ok(tally)
+}
+
+/// The tally with the count of a status raised.
+pub fn tally_raise(mut tally: [u32; 20], status: u8) -> Result<[u32; 20], Refusal> {
+    let answer = unsafe { stored::brundelak_tally_raise(status, tally.as_mut_ptr()) };
     Refusal::from_status(answer)?;
     Ok(tally)
 }

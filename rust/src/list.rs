@@ -36,3 +36,8 @@ pub fn batch(
 ) -> Result<[u32; 20], Refusal> {
     ffi::batch(bytes, day1, day2, status, asc, dec)
 }
+
+/// A tally with the count of one status raised. Refusals: 9 for a status that is not known, then 8 for a count that is full.
+pub fn tally_raise(tally: [u32; 20], status: u8) -> Result<[u32; 20], Refusal> {
+    ffi::tally_raise(tally, status)
+}

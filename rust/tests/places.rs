@@ -182,3 +182,11 @@ fn a_batch_is_the_chain_at_each_star() {
     assert_eq!(number(list::batch(&LIST, day1, f64::NAN, &mut status, &mut asc, &mut dec)), 1);
     assert_eq!(number(list::batch(&LIST, day1, day2, &mut status[..2], &mut asc, &mut dec)), 8);
 }
+
+#[test]
+fn a_tally_counts_known_statuses() {
+    let once = list::tally_raise([0; 20], 9).unwrap();
+    assert_eq!((once[9], once.iter().sum::<u32>()), (1, 1));
+    assert_eq!(list::tally_raise(once, 11), Err(Refusal::Record));
+    assert_eq!(list::tally_raise([60000; 20], 0), Err(Refusal::List));
+}

@@ -1,9 +1,10 @@
 // The stored list: a star shown, find and the batch.
 ghost use Rattle.list.specs.rules.Find.{findRule};
 ghost use Rattle.list.specs.rules.Reader.{readRule};
-ghost use Rattle.brundelak.specs.rules.Stored.{ToldFound, ToldStar, ToldBatch};
+ghost use Rattle.brundelak.specs.rules.Stored.{ToldFound, ToldStar, ToldBatch, ToldRaise};
 use list::Found;
 use list::Shown;
+use tally::Tally;
 
 // The first star with a number: its index and the record's other fields. Refusals: 8; 10; 9.
 #[no_mangle]
@@ -75,4 +76,18 @@ pub extern "C" fn brundelak_batch(
     let all = tally.counts;
     *counts = all;
     0
+}
+
+// One status counted in the 20 counts of a tally. Refusals, which leave them unchanged: 9 for a status that is not known, then 8 for
+// a count that is full.
+#[no_mangle]
+pub extern "C" fn brundelak_tally_raise(status: u8, counts: &mut [u32; 20]) -> u8
+    ensures { λ n. ⌜ ToldRaise status (now (counts .entry)) n (now (counts .exit)) ⌝ }
+{
+    let tally = Tally { counts: *counts };
+    let raised = tally.raise(status);
+    let after = raised.tally;
+    let all = after.counts;
+    *counts = all;
+    raised.refusal
 }

@@ -1,4 +1,4 @@
--- What a C caller sees of the stored list: a star found, a star shown, and the batch.
+-- What a C caller sees of the stored list: a star found, a star shown, the batch, and a status counted.
 use Prim.Native.Nat.{ℕ}
 use mathlib.Core.Path.{_≡_}
 use mathlib.Core.List.{List}
@@ -10,6 +10,8 @@ use Rattle.quantity.specs.rules.Answer.{Answer, answered, refused}
 use Rattle.list.specs.declared.Star.{Star}
 use Rattle.list.specs.rules.Find.{Entry}
 use Rattle.list.specs.rules.Reader.{Sight, sight, none}
+use Rattle.tally.specs.declared.Tally.{Tally}
+use Rattle.tally.specs.rules.Tally.{raiseRule}
 use Rattle.batch.specs.declared.Batched.{Batched}
 use Rattle.batch.specs.rules.Batch.{Batch}
 use Rattle.brundelak.specs.rules.Boundary.{status, kept}
@@ -47,3 +49,8 @@ pub record ToldBatch (s : List ℕ) (day1 day2 : Float) (status : List ℕ) (asc
   pub batch : Batch s day1 day2 status asc dec batched status′ asc′ dec′
   pub answers : n ≡ batched .refusal
   pub leaves-counts : counts′ ≡ cond (eqb (batched .refusal) 0) (batched .tally .counts) counts
+
+-- a status counted: the refusal, and the 20 counts, which stay where it is refused
+pub record ToldRaise (status : ℕ) (counts : List ℕ) (n : ℕ) (counts′ : List ℕ) : Type 0 where
+  pub answers : n ≡ raiseRule (record { counts = counts }) status .refusal
+  pub leaves-counts : counts′ ≡ raiseRule (record { counts = counts }) status .tally .counts
