@@ -24,6 +24,7 @@ mod refusal;
 
 pub mod aberr;
 pub mod angle;
+pub mod batch;
 pub mod chain;
 pub mod coords;
 pub mod earth;

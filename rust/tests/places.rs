@@ -174,19 +174,19 @@ fn a_list_is_walked_and_sought() {
 fn a_batch_is_the_chain_at_each_star() {
     let (day1, day2) = (2415020.5, 2462088.69);
     let (mut status, mut asc, mut dec) = ([77; 4], [-1.0; 4], [-2.0; 4]);
-    let tally = list::batch(&LIST, day1, day2, &mut status, &mut asc, &mut dec).unwrap();
+    let tally = batch::batch(&LIST, day1, day2, &mut status, &mut asc, &mut dec).unwrap();
     assert_eq!(status, [0, 9, 0, 77]);
     assert_eq!((tally[0], tally[9], tally.iter().sum::<u32>()), (2, 1, 3));
     let third = chain::chain(deg(1.0), deg(-1.0), day1, day2).unwrap();
     assert_eq!((asc[1], dec[1], asc[2], dec[2], asc[3], dec[3]), (0.0, 0.0, third.asc, third.dec, -1.0, -2.0));
-    assert_eq!(number(list::batch(&LIST, day1, f64::NAN, &mut status, &mut asc, &mut dec)), 1);
-    assert_eq!(number(list::batch(&LIST, day1, day2, &mut status[..2], &mut asc, &mut dec)), 8);
+    assert_eq!(number(batch::batch(&LIST, day1, f64::NAN, &mut status, &mut asc, &mut dec)), 1);
+    assert_eq!(number(batch::batch(&LIST, day1, day2, &mut status[..2], &mut asc, &mut dec)), 8);
 }
 
 #[test]
 fn a_tally_counts_known_statuses() {
-    let once = list::tally_raise([0; 20], 9).unwrap();
+    let once = batch::tally_raise([0; 20], 9).unwrap();
     assert_eq!((once[9], once.iter().sum::<u32>()), (1, 1));
-    assert_eq!(list::tally_raise(once, 11), Err(Refusal::Record));
-    assert_eq!(list::tally_raise([60000; 20], 0), Err(Refusal::List));
+    assert_eq!(batch::tally_raise(once, 11), Err(Refusal::Record));
+    assert_eq!(batch::tally_raise([60000; 20], 0), Err(Refusal::List));
 }
