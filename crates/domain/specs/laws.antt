@@ -21,3 +21,4 @@ pub mod Observer
 pub mod TopocentEq
 pub mod TopopcentEcl
 pub mod Chain
+pub mod Star

@@ -18,8 +18,8 @@ use Rattle.batch.specs.laws.Known.{known-under}
 
 module _ (star : Star) (day1 day2 : Float) (days : daysRefusal day1 day2 ≡ 0) where
   -- of a star in range nothing is refused at first
-  none : inRange star ≡ true → placeRefusal (ascOf star) (decOf star) day1 day2 ≡ 0
-  none r = ap (λ (n : ℕ). lower n (daysRefusal day1 day2)) (angles-taken star r) ∙ days
+  pub place-taken : inRange star ≡ true → placeRefusal (ascOf star) (decOf star) day1 day2 ≡ 0
+  place-taken r = ap (λ (n : ℕ). lower n (daysRefusal day1 day2)) (angles-taken star r) ∙ days
 
   pub star-under-a-night : reduceStar star (nightOf day1 day2) ≡ starRule star day1 day2
   unfolding reduceStar starRule
@@ -28,7 +28,7 @@ module _ (star : Star) (day1 day2 : Float) (days : daysRefusal day1 day2 ≡ 0) 
       by-range : (b : Bool) → (b ≡ true → inRange star ≡ true)
           → cond b (reducedIn (ascOf star) (decOf star) (nightOf day1 day2)) (refused 9) ≡ cond b (chainRule (ascOf star) (decOf star) day1 day2) (refused 9)
       by-range true r =
-          ap (λ (n : ℕ). unless n (reducedIn (ascOf star) (decOf star) (nightOf day1 day2))) (sym (none (r refl)))
+          ap (λ (n : ℕ). unless n (reducedIn (ascOf star) (decOf star) (nightOf day1 day2))) (sym (place-taken (r refl)))
           ∙ sym (chain-under-a-night (ascOf star) (decOf star) day1 day2)
       by-range false r = refl
 
