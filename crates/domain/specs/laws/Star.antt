@@ -25,7 +25,7 @@ OfAStar n = (n ≡ 0) ⊎ (n ≡ 4) ⊎ (n ≡ 7) ⊎ (n ≡ 9)
 
 of-an-answer : (a : Answer Pair) → ((n : ℕ) → a ≡ refused n → FourOrSeven n) → OfAStar (statusOf a)
 of-an-answer (answered v) h = inl refl
-of-an-answer (refused n) h = elim (h n refl) [ | inl e ↦ inr (inl e) | inr e ↦ inr (inr (inl e)) ]
+of-an-answer (refused n) h = elim (h n refl) [ inl e ↦ inr (inl e) | inr e ↦ inr (inr (inl e)) ]
 
 finite-zero : Finite zero
 unfolding isFinite ofBits
