@@ -77,21 +77,27 @@ const ROWS: [Row; 63] = [
 
 // ---- the sums
 
-// The sums over the table, in degrees.
-fn table_sum(a: Moon) -> Nutations
-    ensures { λ r. ⌜ r ≡ summed rows a none ⌝ }
+// The sums over a table of rows, in degrees.
+fn sum_over(table: [Row; 63], a: Moon) -> Nutations
+    ensures { λ r. ⌜ r ≡ summed table a none ⌝ }
 {
     let mut s = Nutations {
         long: 0.0,
         oblq: 0.0,
     };
-    let table = ROWS;
     let mut i: usize = 0;
     while i < 63 {
         s = nutation_rows::with_row(table[i], a, s);
         i += 1;
     }
     s
+}
+
+// The sums over the table, in degrees.
+fn table_sum(a: Moon) -> Nutations
+    ensures { λ r. ⌜ r ≡ summed rows a none ⌝ }
+{
+    sum_over(ROWS, a)
 }
 
 // Nutation on a day that is not refused.

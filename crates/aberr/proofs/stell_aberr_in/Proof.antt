@@ -6,7 +6,7 @@ use Rattle.aberr.proofs.stell_aberr_in.Tie as tie
 
 returns : tie.Need-returns
 unfolding stellAberrInEqCoordsIn
-returns c = cc
+returns c = rw (c .before .velocity-on .ensures, c .before .before .toward .ensures) at (c .aberr-at .ensures)
 
 pub stell-aberr-in-spec : {M : Type 1} → statement M
 stell-aberr-in-spec = tie.close (tie.spec asks-nothing asks-nothing asks-nothing returns)

@@ -6,7 +6,7 @@ use Rattle.aberr_rows.proofs.velocity_on.Tie as tie
 
 returns : tie.Need-returns
 unfolding velocityOf
-returns c = cc
+returns c = rw (c .before .arguments-at .ensures, c .before .before .century .ensures) at (c .rows-sum .ensures)
 
 pub velocity-on-spec : {M : Type 1} → statement M
 velocity-on-spec = tie.close (tie.spec asks-nothing asks-nothing asks-nothing returns)

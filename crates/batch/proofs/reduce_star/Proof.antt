@@ -7,7 +7,12 @@ use Rattle.batch.proofs.reduce_star.Tie as tie
 
 returns : tie.Need-returns
 unfolding reduceStar
-returns c = rw (sym (c .before .before .before .before .in-range .ensures) ∙ c .before .before .before .if1 .taken) (rw (c .before .before .asc-of .ensures, c .before .dec-of .ensures) at (c .reduced-in .ensures))
+returns c =
+    let c1 = c .before in
+    let c2 = c1 .before in
+    let c3 = c2 .before in
+    let c4 = c3 .before in
+    rw (sym (c4 .in-range .ensures) ∙ c3 .if1 .taken) (rw (c2 .asc-of .ensures, c1 .dec-of .ensures) at (c .reduced-in .ensures))
 
 returns-2 : tie.Need-returns-2
 unfolding reduceStar

@@ -7,7 +7,12 @@ use Rattle.chain.proofs.night_of.Tie as tie
 
 returns : tie.Need-returns
 unfolding nightOf
-returns c = rw (c .before .before .before .before .eq-turns .ensures, c .before .before .before .nutation-on .ensures, c .before .before .obliquity-on .ensures, c .before .velocity-on .ensures) at (c .gathered .ensures)
+returns c =
+    let c1 = c .before in
+    let c2 = c1 .before in
+    let c3 = c2 .before in
+    let c4 = c3 .before in
+    rw (c4 .eq-turns .ensures, c3 .nutation-on .ensures, c2 .obliquity-on .ensures, c1 .velocity-on .ensures) at (c .gathered .ensures)
 
 pub night-of-spec : {M : Type 1} → statement M
 night-of-spec = tie.close (tie.spec asks-nothing asks-nothing asks-nothing asks-nothing asks-nothing returns)

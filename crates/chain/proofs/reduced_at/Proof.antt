@@ -12,8 +12,12 @@ returns c = refuses _ (rw (c .before .before .point-refusal .ensures) at (c .bef
 returns-2 : tie.Need-returns-2
 unfolding reducedAt
 returns-2 c =
-    let start = c .before .before .before .before .before .before in
-    goes-on (rw (start .before .before .point-refusal .ensures) at (start .before .lower .ensures)) (start .if1 .left) (cc)
+    let c1 = c .before in
+    let c2 = c1 .before in
+    let c5 = c2 .before .before .before in
+    let c6 = c5 .before in
+    let c7 = c6 .before in
+    goes-on (rw (c7 .before .point-refusal .ensures) at (c7 .lower .ensures)) (c6 .if1 .left) (rw (c1 .aberr-at .ensures, c2 .nutation-at .ensures, c5 .toward .ensures) at (c .moved .ensures))
 
 pub reduced-at-spec : {M : Type 1} → statement M
 reduced-at-spec = tie.close (tie.spec asks-nothing asks-nothing returns asks-nothing asks-nothing asks-nothing asks-nothing returns-2)

@@ -14,11 +14,11 @@ enum-known-n c = search needs
 
 returns : tie.Need-returns
 unfolding reducedIn
-returns c = then-two-answered _ (cc) (c .before .before .a .given .1) (cc)
+returns c = then-two-answered _ (c .before .before .before .before .turned-in .ensures) (c .before .before .a .given .1) (c .reduced-at .ensures)
 
 returns-2 : tie.Need-returns-2
 unfolding reducedIn
-returns-2 c = then-two-refused _ (cc) (c .before .n .given .1)
+returns-2 c = then-two-refused _ (c .before .before .before .turned-in .ensures) (c .before .n .given .1)
 
 pub reduced-in-spec : {M : Type 1} → statement M
 reduced-in-spec = tie.close (tie.spec asks-nothing enum-known-a asks-nothing enum-known-n returns returns-2)

@@ -8,8 +8,11 @@ use Rattle.coords.proofs.hr_angl_frm_hz_in.Tie as tie
 returns : tie.Need-returns
 unfolding hrAnglFrmHzIn turnOf
 returns c =
-    rw (c .before .before .before .before .before .before .before .turn-of .ensures, c .before .before .before .before .before .turn-of2 .ensures, c .before .before .tangent .ensures, c .before .before .before .before .before .before .fold .ensures)
-    at (c .arctangent-in .ensures)
+    let c2 = c .before .before in
+    let c5 = c2 .before .before .before in
+    let c6 = c5 .before in
+    let c7 = c6 .before in
+    rw (c7 .turn-of .ensures, c5 .turn-of2 .ensures, c2 .tangent .ensures, c6 .fold .ensures) at (c .arctangent-in .ensures)
 
 pub hr-angl-frm-hz-in-spec : {M : Type 1} → statement M
 hr-angl-frm-hz-in-spec = tie.close (tie.spec asks-nothing asks-nothing asks-nothing asks-nothing asks-nothing returns)

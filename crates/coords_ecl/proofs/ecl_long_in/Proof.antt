@@ -8,8 +8,11 @@ use Rattle.coords_ecl.proofs.ecl_long_in.Tie as tie
 returns : tie.Need-returns
 unfolding eclLongIn turnOf
 returns c =
-    rw (c .before .before .before .before .before .before .before .turn-of .ensures, c .before .before .before .before .before .before .turn-of2 .ensures, c .before .before .tangent .ensures, c .before .before .before .before .before .fold .ensures)
-    at (c .arctangent-in .ensures)
+    let c2 = c .before .before in
+    let c5 = c2 .before .before .before in
+    let c6 = c5 .before in
+    let c7 = c6 .before in
+    rw (c7 .turn-of .ensures, c6 .turn-of2 .ensures, c2 .tangent .ensures, c5 .fold .ensures) at (c .arctangent-in .ensures)
 
 pub ecl-long-in-spec : {M : Type 1} → statement M
 ecl-long-in-spec = tie.close (tie.spec asks-nothing asks-nothing asks-nothing asks-nothing asks-nothing returns)

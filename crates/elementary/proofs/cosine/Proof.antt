@@ -11,7 +11,7 @@ returns c = refuses _ (c .before .alone-refusal .ensures) (c .if1 .taken)
 
 returns-2 : tie.Need-returns-2
 unfolding cosineRule
-returns-2 c = goes-on (c .before .before .before .alone-refusal .ensures) (c .before .before .if1 .left) (cc)
+returns-2 c = goes-on (c .before .before .before .alone-refusal .ensures) (c .before .before .if1 .left) (rw (c .cosine .ensures, c .before .fold .ensures))
 
 pub cosine-spec : {M : Type 1} → statement M
 cosine-spec = tie.close (tie.spec asks-nothing returns asks-nothing asks-nothing returns-2)

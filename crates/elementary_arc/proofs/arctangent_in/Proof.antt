@@ -6,7 +6,7 @@ use Rattle.elementary_arc.proofs.arctangent_in.Tie as tie
 
 returns : tie.Need-returns
 unfolding arctangentIn
-returns c = cc
+returns c = rw (c .arctangent-of .ensures)
 
 pub arctangent-in-spec : {M : Type 1} → statement M
 arctangent-in-spec = tie.close (tie.spec asks-nothing returns)

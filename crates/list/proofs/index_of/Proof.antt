@@ -72,7 +72,10 @@ loop-again c =
     )
 
 returns-2 : tie.Need-returns-2 Inv-loop μ-loop
-returns-2 c = omega (arith, c .before .loop .inv, none (c .before .before .before .before .args .bytes .now) (c .before .before .before .before .args .number) (c .before .loop .i) (omega arith))
+returns-2 c =
+    let c1 = c .before in
+    let c4 = c1 .before .before .before in
+    omega (arith, c1 .loop .inv, none (c4 .args .bytes .now) (c4 .args .number) (c1 .loop .i) (omega arith))
 
 pub index-of-spec : {M : Type 1} → statement M
 index-of-spec = tie.close (tie.spec Inv-loop μ-loop asks-nothing loop-holds asks-nothing returns add-i loop-less loop-again returns-2)

@@ -8,7 +8,11 @@ use Rattle.nutation_rows.proofs.with_row.Tie as tie
 returns : tie.Need-returns
 unfolding withRow turnOf
 returns c =
-    rw (c .before .before .oblq-share .ensures, c .before .before .before .long-share .ensures, c .before .before .before .before .turn-of .ensures, c .before .before .before .before .before .argument .ensures)
+    let c2 = c .before .before in
+    let c3 = c2 .before in
+    let c4 = c3 .before in
+    let c5 = c4 .before in
+    rw (c2 .oblq-share .ensures, c3 .long-share .ensures, c4 .turn-of .ensures, c5 .argument .ensures)
 
 pub with-row-spec : {M : Type 1} → statement M
 with-row-spec = tie.close (tie.spec asks-nothing asks-nothing asks-nothing asks-nothing returns)

@@ -11,7 +11,11 @@ use Rattle.nutation_table.proofs.nutation_on.Tie as tie
 
 returns : tie.Need-returns
 unfolding nutationOf
-returns c = c .converted .ensures ∙ ap converted (c .before .table-sum .ensures ∙ ap (λ (a : Moon). summed rows a none) (c .before .before .moon-at .ensures ∙ ap moonOf (c .before .before .before .century .ensures)))
+returns c =
+    let c1 = c .before in
+    let c2 = c1 .before in
+    let c3 = c2 .before in
+    c .converted .ensures ∙ ap converted (c1 .table-sum .ensures ∙ ap (λ (a : Moon). summed rows a none) (c2 .moon-at .ensures ∙ ap moonOf (c3 .century .ensures)))
 
 pub nutation-on-spec : {M : Type 1} → statement M
 nutation-on-spec = tie.close (tie.spec asks-nothing asks-nothing asks-nothing asks-nothing returns)

@@ -6,7 +6,7 @@ use Rattle.parallax.proofs.ahead.Tie as tie
 
 returns : tie.Need-returns
 unfolding ahead
-returns c = cc
+returns c = rw (c .cosine2 .ensures, c .before .before .cosine .ensures)
 
 pub ahead-spec : {M : Type 1} → statement M
 ahead-spec = tie.close (tie.spec asks-nothing asks-nothing returns)

@@ -6,7 +6,7 @@ use Rattle.parallax.proofs.centre_of.Tie as tie
 
 returns : tie.Need-returns
 unfolding centreOf
-returns c = cc
+returns c = rw (c .sine .ensures, c .before .fold .ensures)
 
 pub centre-of-spec : {M : Type 1} → statement M
 centre-of-spec = tie.close (tie.spec asks-nothing asks-nothing returns)

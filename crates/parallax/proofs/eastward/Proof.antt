@@ -6,7 +6,7 @@ use Rattle.parallax.proofs.eastward.Tie as tie
 
 returns : tie.Need-returns
 unfolding eastward
-returns c = cc
+returns c = rw (c .sine .ensures)
 
 pub eastward-spec : {M : Type 1} → statement M
 eastward-spec = tie.close (tie.spec asks-nothing returns)

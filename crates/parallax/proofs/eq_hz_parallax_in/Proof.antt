@@ -6,7 +6,7 @@ use Rattle.parallax.proofs.eq_hz_parallax_in.Tie as tie
 
 returns : tie.Need-returns
 unfolding eqHzParallaxIn
-returns c = cc
+returns c = rw (c .before .sun-parallax .ensures) at (c .arcsine-in .ensures)
 
 pub eq-hz-parallax-in-spec : {M : Type 1} → statement M
 eq-hz-parallax-in-spec = tie.close (tie.spec asks-nothing asks-nothing returns)

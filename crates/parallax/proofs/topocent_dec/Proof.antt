@@ -6,7 +6,7 @@ use Rattle.parallax.proofs.topocent_dec.Tie as tie
 
 returns : tie.Need-returns
 unfolding topocentDec
-returns c = cc
+returns c = rw (c .before .cosine .ensures, c .before .before .fold .ensures, c .before .before .before .before .sine .ensures) at (c .arctangent-in .ensures)
 
 pub topocent-dec-spec : {M : Type 1} → statement M
 topocent-dec-spec = tie.close (tie.spec asks-nothing asks-nothing asks-nothing asks-nothing returns)

@@ -14,7 +14,14 @@ enum-known-n c = search needs
 
 returns : tie.Need-returns
 unfolding topocentIn
-returns c = then-two-answered _ (c .before .before .before .before .before .before .before .before .rho-in .ensures) (c .before .before .before .before .before .before .s .given .1) (cc)
+returns c =
+    let c1 = c .before in
+    let c2 = c1 .before in
+    let c3 = c2 .before in
+    let c4 = c3 .before in
+    let c6 = c4 .before .before in
+    let c8 = c6 .before .before in
+    then-two-answered _ (c8 .rho-in .ensures) (c6 .s .given .1) (rw (c1 .fold2 .ensures, c2 .fold .ensures, c3 .hour-angle .ensures, c4 .centre-of .ensures) at (c .topocent-at .ensures))
 
 returns-2 : tie.Need-returns-2
 unfolding topocentIn

@@ -14,11 +14,21 @@ enum-known-k c = search needs
 
 returns : tie.Need-returns
 unfolding eclipticAlong
-returns c = then-answered _ (cc) (c .before .before .lat .given .1) (cc)
+returns c =
+    let c2 = c .before .before in
+    let c4 = c2 .before .before in
+    let c5 = c4 .before in
+    let c6 = c5 .before in
+    then-answered _ (rw (c5 .cosine .ensures, c6 .fold .ensures) at (c4 .lat-top .ensures)) (c2 .lat .given .1) (rw (c5 .cosine .ensures, c6 .fold .ensures) at (c .ecliptic-from .ensures))
 
 returns-2 : tie.Need-returns-2
 unfolding eclipticAlong
-returns-2 c = then-refused _ (cc) (c .before .k .given .1)
+returns-2 c =
+    let c1 = c .before in
+    let c3 = c1 .before .before in
+    let c4 = c3 .before in
+    let c5 = c4 .before in
+    then-refused _ (rw (c4 .cosine .ensures, c5 .fold .ensures) at (c3 .lat-top .ensures)) (c1 .k .given .1)
 
 pub ecliptic-along-spec : {M : Type 1} → statement M
 ecliptic-along-spec = tie.close (tie.spec asks-nothing asks-nothing asks-nothing enum-known-lat asks-nothing enum-known-k returns returns-2)

@@ -14,7 +14,15 @@ enum-known-k c = search needs
 
 returns : tie.Need-returns
 unfolding eclipticIn
-returns c = then-two-answered _ (c .before .before .before .before .before .before .before .before .before .rho-in .ensures) (c .before .before .before .before .before .before .before .s .given .1) (cc)
+returns c =
+    let c1 = c .before in
+    let c2 = c1 .before in
+    let c3 = c2 .before in
+    let c4 = c3 .before in
+    let c5 = c4 .before in
+    let c7 = c5 .before .before in
+    let c9 = c7 .before .before in
+    then-two-answered _ (c9 .rho-in .ensures) (c7 .s .given .1) (rw (c1 .fold4 .ensures, c2 .fold3 .ensures, c3 .fold2 .ensures, c4 .fold .ensures, c5 .centre-of .ensures) at (c .ecliptic-at .ensures))
 
 returns-2 : tie.Need-returns-2
 unfolding eclipticIn

@@ -6,7 +6,7 @@ use Rattle.parallax_ecl.proofs.nearby.Tie as tie
 
 returns : tie.Need-returns
 unfolding nearby
-returns c = cc
+returns c = rw (c .cosine3 .ensures, c .before .before .cosine2 .ensures, c .before .before .before .cosine .ensures)
 
 pub nearby-spec : {M : Type 1} → statement M
 nearby-spec = tie.close (tie.spec asks-nothing asks-nothing asks-nothing returns)

@@ -6,7 +6,7 @@ use Rattle.precess.proofs.annual_at.Tie as tie
 
 returns : tie.Need-returns
 unfolding annualAt
-returns c = cc
+returns c = rw (c .before .cosine .ensures, c .before .before .before .tangent .ensures, c .before .before .before .before .before .sine .ensures)
 
 pub annual-at-spec : {M : Type 1} → statement M
 annual-at-spec = tie.close (tie.spec asks-nothing asks-nothing asks-nothing returns)

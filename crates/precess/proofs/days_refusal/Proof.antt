@@ -6,7 +6,7 @@ use Rattle.precess.proofs.days_refusal.Tie as tie
 
 returns : tie.Need-returns
 unfolding daysRefusal
-returns c = cc
+returns c = rw (c .before .day-refusal2 .ensures, c .before .before .day-refusal .ensures) at (c .lower .ensures)
 
 pub days-refusal-spec : {M : Type 1} → statement M
 days-refusal-spec = tie.close (tie.spec asks-nothing asks-nothing asks-nothing returns)

@@ -6,7 +6,11 @@ use Rattle.precess.proofs.placed.Tie as tie
 
 returns : tie.Need-returns
 unfolding placed
-returns c = cc
+returns c =
+    let c1 = c .before in
+    let c4 = c1 .before .before .before in
+    let c5 = c4 .before in
+    rw (c1 .arcsine-in .ensures, c4 .plus .ensures, c5 .arctangent-in .ensures) at (c .both .ensures)
 
 pub placed-spec : {M : Type 1} → statement M
 placed-spec = tie.close (tie.spec asks-nothing asks-nothing asks-nothing asks-nothing returns)

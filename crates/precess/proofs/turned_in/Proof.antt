@@ -6,7 +6,7 @@ use Rattle.precess.proofs.turned_in.Tie as tie
 
 returns : tie.Need-returns
 unfolding turnedIn
-returns c = cc
+returns c = rw (c .before .toward .ensures) at (c .placed .ensures)
 
 pub turned-in-spec : {M : Type 1} → statement M
 turned-in-spec = tie.close (tie.spec asks-nothing asks-nothing returns)

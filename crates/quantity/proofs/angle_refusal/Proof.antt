@@ -6,7 +6,7 @@ use Rattle.quantity.proofs.angle_refusal.Tie as tie
 
 returns : tie.Need-returns
 unfolding angleRefusal
-returns c = cc
+returns c = c .past .ensures
 
 pub angle-refusal-spec : {M : Type 1} → statement M
 angle-refusal-spec = tie.close (tie.spec asks-nothing returns)

@@ -6,7 +6,7 @@ use Rattle.quantity.proofs.distance_refusal.Tie as tie
 
 returns : tie.Need-returns
 unfolding distanceRefusal
-returns c = cc
+returns c = c .outside .ensures
 
 pub distance-refusal-spec : {M : Type 1} → statement M
 distance-refusal-spec = tie.close (tie.spec asks-nothing returns)

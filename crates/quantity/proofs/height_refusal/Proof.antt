@@ -6,7 +6,7 @@ use Rattle.quantity.proofs.height_refusal.Tie as tie
 
 returns : tie.Need-returns
 unfolding heightRefusal
-returns c = cc
+returns c = c .outside .ensures
 
 pub height-refusal-spec : {M : Type 1} → statement M
 height-refusal-spec = tie.close (tie.spec asks-nothing returns)

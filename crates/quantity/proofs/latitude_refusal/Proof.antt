@@ -6,7 +6,7 @@ use Rattle.quantity.proofs.latitude_refusal.Tie as tie
 
 returns : tie.Need-returns
 unfolding latitudeRefusal
-returns c = cc
+returns c = c .past .ensures
 
 pub latitude-refusal-spec : {M : Type 1} → statement M
 latitude-refusal-spec = tie.close (tie.spec asks-nothing returns)

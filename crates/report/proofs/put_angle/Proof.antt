@@ -11,7 +11,13 @@ same-length c = search needs
 
 returns : tie.Need-returns
 unfolding angleText
-returns c = same (simp (c .before .before .before .has-minus .ensures, c .before .before .before .before .before .nearest .ensures, c .before .before .before .before .before .before .size .ensures, c .before .before .before .before .before .before .before .milliarcseconds .ensures)) (c .before .before .put-signed .ensures)
+returns c =
+    let c2 = c .before .before in
+    let c3 = c2 .before in
+    let c5 = c3 .before .before in
+    let c6 = c5 .before in
+    let c7 = c6 .before in
+    same (simp (c3 .has-minus .ensures, c5 .nearest .ensures, c6 .size .ensures, c7 .milliarcseconds .ensures)) (c2 .put-signed .ensures)
 
 pub put-angle-spec : {M : Type 1} → statement M
 put-angle-spec = tie.close (tie.spec asks-nothing asks-nothing asks-nothing asks-nothing asks-nothing same-length returns)

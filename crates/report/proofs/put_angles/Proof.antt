@@ -13,8 +13,11 @@ same-length c = search needs
 returns : tie.Need-returns
 unfolding anglesText
 returns c =
-    same (simp append-assoc)
-    (after (after (after (c .before .before .before .before .before .before .before .before .before .before .before .before .before .before .put-angle-then .ensures) (c .before .before .before .before .before .before .before .before .before .before .put-angle-then2 .ensures)) (c .before .before .before .before .before .before .put-bits-then .ensures)) (c .before .before .put-bits-then2 .ensures))
+    let c2 = c .before .before in
+    let c6 = c2 .before .before .before .before in
+    let c10 = c6 .before .before .before .before in
+    let c14 = c10 .before .before .before .before in
+    same (simp append-assoc) (after (after (after (c14 .put-angle-then .ensures) (c10 .put-angle-then2 .ensures)) (c6 .put-bits-then .ensures)) (c2 .put-bits-then2 .ensures))
 
 pub put-angles-spec : {M : Type 1} → statement M
 put-angles-spec = tie.close (tie.spec asks-nothing asks-nothing asks-nothing asks-nothing same-length returns)

@@ -11,7 +11,11 @@ same-length c = search needs
 
 returns : tie.Need-returns
 unfolding bitsThen
-returns c = same (simp (c .before .before .before .before .before .before .before .pattern-of .ensures)) (after (c .before .before .before .before .before .before .put-hex16 .ensures) (c .before .before .put-byte .ensures))
+returns c =
+    let c2 = c .before .before in
+    let c6 = c2 .before .before .before .before in
+    let c7 = c6 .before in
+    same (simp (c7 .pattern-of .ensures)) (after (c6 .put-hex16 .ensures) (c2 .put-byte .ensures))
 
 pub put-bits-then-spec : {M : Type 1} → statement M
 put-bits-then-spec = tie.close (tie.spec asks-nothing asks-nothing asks-nothing same-length returns)

@@ -19,7 +19,11 @@ same-length-2 c = search needs
 
 returns-2 : tie.Need-returns-2
 unfolding doneText
-returns-2 c = same (simp (eq-eqb _ _ (c .before .before .before .before .before .before .before .before .before .if1 .left))) (after (c .before .before .before .before .before .before .put-lines .ensures) (c .before .before .put-tally .ensures))
+returns-2 c =
+    let c2 = c .before .before in
+    let c6 = c2 .before .before .before .before in
+    let c9 = c6 .before .before .before in
+    same (simp (eq-eqb _ _ (c9 .if1 .left))) (after (c6 .put-lines .ensures) (c2 .put-tally .ensures))
 
 pub put-done-spec : {M : Type 1} → statement M
 put-done-spec = tie.close (tie.spec asks-nothing same-length returns asks-nothing asks-nothing same-length-2 returns-2)

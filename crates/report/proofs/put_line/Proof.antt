@@ -13,14 +13,24 @@ same-length c = search needs
 
 returns : tie.Need-returns
 unfolding lineOf
-returns c = same (simp (append-assoc, eq-eqb _ _ (c .before .before .before .before .if1 .taken))) (after (after (c .before .before .before .before .before .before .before .before .before .before .before .put-decimal .ensures) (c .before .before .before .before .before .before .before .put-byte .ensures)) (c .before .before .put-angles .ensures))
+returns c =
+    let c2 = c .before .before in
+    let c4 = c2 .before .before in
+    let c7 = c4 .before .before .before in
+    let c11 = c7 .before .before .before .before in
+    same (simp (append-assoc, eq-eqb _ _ (c4 .if1 .taken))) (after (after (c11 .put-decimal .ensures) (c7 .put-byte .ensures)) (c2 .put-angles .ensures))
 
 same-length-2 : tie.Need-same-length-2
 same-length-2 c = search needs
 
 returns-2 : tie.Need-returns-2
 unfolding lineOf
-returns-2 c = same (simp (append-assoc, ne-eqb _ _ (c .before .before .before .before .if1 .left))) (after (after (c .before .before .before .before .before .before .before .before .before .before .before .put-decimal .ensures) (c .before .before .before .before .before .before .before .put-byte .ensures)) (c .before .before .put-refused .ensures))
+returns-2 c =
+    let c2 = c .before .before in
+    let c4 = c2 .before .before in
+    let c7 = c4 .before .before .before in
+    let c11 = c7 .before .before .before .before in
+    same (simp (append-assoc, ne-eqb _ _ (c4 .if1 .left))) (after (after (c11 .put-decimal .ensures) (c7 .put-byte .ensures)) (c2 .put-refused .ensures))
 
 pub put-line-spec : {M : Type 1} → statement M
 put-line-spec = tie.close (tie.spec asks-nothing asks-nothing asks-nothing same-length returns asks-nothing same-length-2 returns-2)

@@ -9,7 +9,11 @@ same-length : tie.Need-same-length
 same-length c = search needs
 
 returns : tie.Need-returns
-returns c = same (simp (c .before .before .before .before .before .before .before .before .if1 .taken)) (after (c .before .before .before .before .before .before .put-byte .ensures) (c .before .before .put-decimal .ensures))
+returns c =
+    let c2 = c .before .before in
+    let c6 = c2 .before .before .before .before in
+    let c8 = c6 .before .before in
+    same (simp (c8 .if1 .taken)) (after (c6 .put-byte .ensures) (c2 .put-decimal .ensures))
 
 same-length-2 : tie.Need-same-length-2
 same-length-2 c = search needs

@@ -9,7 +9,13 @@ same-length : tie.Need-same-length
 same-length c = search needs
 
 returns : tie.Need-returns
-returns c = same (simp (c .before .before .before .before .before .before .before .nth .ensures, c .before .before .before .before .before .byte-at .ensures, c .before .before .before .before .number-at .ensures, c .before .before .before .number-at2 .ensures)) (c .before .before .put-line .ensures)
+returns c =
+    let c2 = c .before .before in
+    let c3 = c2 .before in
+    let c4 = c3 .before in
+    let c5 = c4 .before in
+    let c7 = c5 .before .before in
+    same (simp (c7 .nth .ensures, c5 .byte-at .ensures, c4 .number-at .ensures, c3 .number-at2 .ensures)) (c2 .put-line .ensures)
 
 pub put-star-spec : {M : Type 1} → statement M
 put-star-spec = tie.close (tie.spec asks-nothing asks-nothing asks-nothing asks-nothing asks-nothing same-length returns)

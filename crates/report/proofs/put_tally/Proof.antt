@@ -18,8 +18,11 @@ same-length c = search needs
 returns : tie.Need-returns
 unfolding tallyText
 returns c =
-    same (append-assoc tallyWord (texts (highest + 1) (countAt (c .before .before .before .before .before .before .before .before .before .before .before .before .before .before .before .before .args .tally .counts))) lineEnd)
-    (after (after (c .before .before .before .before .before .before .before .before .before .before .before .put .ensures) (c .before .before .before .before .before .before .put-counts .ensures)) (c .before .before .put-byte .ensures))
+    let c2 = c .before .before in
+    let c6 = c2 .before .before .before .before in
+    let c11 = c6 .before .before .before .before .before in
+    let c16 = c11 .before .before .before .before .before in
+    same (append-assoc tallyWord (texts (highest + 1) (countAt (c16 .args .tally .counts))) lineEnd) (after (after (c11 .put .ensures) (c6 .put-counts .ensures)) (c2 .put-byte .ensures))
 
 pub put-tally-spec : {M : Type 1} → statement M
 put-tally-spec = tie.close (tie.spec slice-aggregate-put asks-nothing asks-nothing asks-nothing same-length returns)

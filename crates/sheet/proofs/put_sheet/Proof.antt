@@ -31,7 +31,12 @@ same-length : tie.Need-same-length
 same-length c = search needs
 
 returns : tie.Need-returns
-returns c = same (no-list (c .before .before .before .before .before .before .before .before .before .args .bytes .now) (sym (c .before .before .before .before .before .before .is-list .ensures) ∙ not-true _ (c .before .before .before .before .before .if1 .taken))) (c .before .before .put .ensures)
+returns c =
+    let c2 = c .before .before in
+    let c5 = c2 .before .before .before in
+    let c6 = c5 .before in
+    let c9 = c6 .before .before .before in
+    same (no-list (c9 .args .bytes .now) (sym (c6 .is-list .ensures) ∙ not-true _ (c5 .if1 .taken))) (c2 .put .ensures)
 
 sub-put-footing : tie.Need-sub-put-footing
 sub-put-footing c =

@@ -15,7 +15,9 @@ same-length-3 : tie.Need-same-length-3
 same-length-3 c = search needs
 
 returns : tie.Need-returns
-returns c = batch-refused (c .before .before .before .before .before .before .before .before .batch .result) (c .before .before .before .before .before .before .before .before .batch .ensures) (c .if1 .taken)
+returns c =
+    let c8 = c .before .before .before .before .before .before .before .before in
+    batch-refused (c8 .batch .result) (c8 .batch .ensures) (c .if1 .taken)
 
 same-length-4 : tie.Need-same-length-4
 same-length-4 c = search needs
@@ -27,7 +29,10 @@ same-length-6 : tie.Need-same-length-6
 same-length-6 c = search needs
 
 returns-2 : tie.Need-returns-2
-returns-2 c = batch-done (c .before .before .before .before .before .before .before .before .before .before .batch .result) (c .before .before .before .before .before .before .before .before .before .before .batch .ensures) (c .before .before .if1 .left)
+returns-2 c =
+    let c2 = c .before .before in
+    let c10 = c2 .before .before .before .before .before .before .before .before in
+    batch-done (c10 .batch .result) (c10 .batch .ensures) (c2 .if1 .left)
 
 pub brundelak-batch-spec : {M : Type 1} → statement M
 brundelak-batch-spec =

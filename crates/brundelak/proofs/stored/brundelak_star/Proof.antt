@@ -16,7 +16,10 @@ enum-known-n : tie.Need-enum-known-n
 enum-known-n c = search needs
 
 returns : tie.Need-returns
-returns c = star-told (c .before .before .before .before .star-at .ensures) (c .before .before .star .given .1) (signed-word (c .before .before .star .given .0 .0 .dec) (c .struct-told .given .1 .1 .0 .1))
+returns c =
+    let c2 = c .before .before in
+    let c4 = c2 .before .before in
+    star-told (c4 .star-at .ensures) (c2 .star .given .1) (signed-word (c2 .star .given .0 .0 .dec) (c .struct-told .given .1 .1 .0 .1))
 
 returns-2 : tie.Need-returns-2
 returns-2 c = end-told (c .before .before .star-at .ensures) (c .enum-told .given .1)

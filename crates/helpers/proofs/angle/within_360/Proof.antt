@@ -4,7 +4,7 @@ use Rattle.helpers.proofs.angle.within_360.Statement.{statement}
 use Rattle.helpers.proofs.angle.within_360.Tie as tie
 
 returns : tie.Need-returns
-returns c = cc
+returns c = rw (c .limited .ensures)
 
 pub within-360-spec : {M : Type 1} → statement M
 within-360-spec = tie.close (tie.spec asks-nothing returns)

@@ -14,11 +14,22 @@ enum-known-n c = search needs
 
 returns : tie.Need-returns
 unfolding rhoIn
-returns c = then-answered _ (cc) (c .before .before .before .u .given .1) (cc)
+returns c =
+    let c1 = c .before in
+    let c3 = c1 .before .before in
+    let c5 = c3 .before .before in
+    let c6 = c5 .before in
+    let c7 = c6 .before in
+    then-answered _ (rw (c6 .tangent .ensures, c7 .fold .ensures) at (c5 .arctangent-in .ensures)) (c3 .u .given .1) (rw (c7 .fold .ensures, c1 .fold2 .ensures) at (c .rho-at .ensures))
 
 returns-2 : tie.Need-returns-2
 unfolding rhoIn
-returns-2 c = then-refused _ (cc) (c .before .n .given .1)
+returns-2 c =
+    let c1 = c .before in
+    let c3 = c1 .before .before in
+    let c4 = c3 .before in
+    let c5 = c4 .before in
+    then-refused _ (rw (c4 .tangent .ensures, c5 .fold .ensures) at (c3 .arctangent-in .ensures)) (c1 .n .given .1)
 
 pub rho-in-spec : {M : Type 1} → statement M
 rho-in-spec = tie.close (tie.spec asks-nothing asks-nothing asks-nothing enum-known-u asks-nothing asks-nothing enum-known-n returns returns-2)

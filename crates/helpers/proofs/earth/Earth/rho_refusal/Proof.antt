@@ -4,7 +4,7 @@ use Rattle.helpers.proofs.earth.Earth.rho_refusal.Statement.{statement}
 use Rattle.helpers.proofs.earth.Earth.rho_refusal.Tie as tie
 
 returns : tie.Need-returns
-returns c = cc
+returns c = rw (c .before .before .steep-refusal .ensures, c .before .height-refusal .ensures) at (c .lower .ensures)
 
 pub rho-refusal-spec : {M : Type 1} → statement M
 rho-refusal-spec = tie.close (tie.spec asks-nothing asks-nothing asks-nothing returns)

@@ -1,4 +1,4 @@
--- `nutation_table::table_sum` meets its contract. The invariant: the sums over the rows that are left, from the sums so far, are those over
+-- `nutation_table::sum_over` meets its contract. The invariant: the sums over the rows that are left, from the sums so far, are those over
 -- all rows. Assumes nothing.
 use borrow.Author.Needs.{needs}
 use mathlib.Core.Path.{_≡_, refl, _∙_}
@@ -7,14 +7,13 @@ use Prim.Native.Nat.{ℕ, _+_, _-_, _≤_, _<_}
 use native.Mathlib.Omega.{arith}
 use native.Mathlib.Numerals.{add-one}
 use lib.ListN.{length, getD, drop}
-use lib.Seq.{drop-cons}
+use lib.Seq.{drop-cons, drop-length}
 use Rattle.nutation_rows.specs.declared.Row.{Row}
 use Rattle.nutation_rows.specs.declared.Moon.{Moon}
 use Rattle.nutation_rows.specs.declared.Nutations.{Nutations}
-use Rattle.nutation_table.specs.rules.Rows.{rows}
 use Rattle.nutation_rows.specs.rules.Sum.{summed, withRow}
-use Rattle.nutation_table.proofs.table_sum.Statement.{statement}
-use Rattle.nutation_table.proofs.table_sum.Tie as tie
+use Rattle.nutation_table.proofs.sum_over.Statement.{statement}
+use Rattle.nutation_table.proofs.sum_over.Tie as tie
 
 -- one row more
 next : (xs : List Row) (i : ℕ) (d : Row) (a : Moon) (s : Nutations) → i < length xs → summed (drop (i + 1) xs) a (withRow (getD xs i d) a s) ≡ summed (drop i xs) a s
@@ -22,13 +21,13 @@ unfolding summed
 next xs i d a s h = rw (drop-cons xs i d, add-one)
 
 abbrev Inv-loop : tie.InvT-loop
-Inv-loop a s₀ table i₀ s i = (i ≤ 63) × (summed (drop i rows) a s ≡ summed rows a s₀) × (table ≡ rows)
+Inv-loop a table s₀ i₀ s i = (i ≤ length table) × (summed (drop i table) a s ≡ summed table a s₀) × (length table ≡ 63)
 
 abbrev μ-loop : tie.MeasureT-loop
-μ-loop a s₀ table i₀ s i = 63 - i
+μ-loop a table s₀ i₀ s i = 63 - i
 
 loop-holds : tie.Need-loop-holds Inv-loop μ-loop
-loop-holds c = (omega arith, refl, refl)
+loop-holds c = (omega arith, refl, c .good .0 .1 .0 .1)
 
 mul-with-row : tie.Need-mul-with-row Inv-loop μ-loop
 mul-with-row c = search needs
@@ -48,14 +47,20 @@ loop-less c = omega arith
 loop-again : tie.Need-loop-again Inv-loop μ-loop
 loop-again c =
     let inv = c .before .before .before .loop .inv in
-    (omega arith, rw (c .with-row .ensures, inv .2) (next rows _ _ _ _ (c .before .before .loop-test .taken) ∙ inv .1), inv .2)
+    let table = c .before .before .before .before .args .t1 in
+    let inside : c .before .before .before .loop .i < length table = omega (arith, inv .2) in
+    (omega (arith, inv .2), rw (c .with-row .ensures) (next _ _ _ _ _ inside ∙ inv .1), inv .2)
 
 returns : tie.Need-returns Inv-loop μ-loop
 unfolding summed
-returns c = let e : c .before .loop .i ≡ 63 = omega arith in rw e at (c .before .loop .inv .1)
+returns c =
+    let loop = c .before .loop in
+    let table = c .before .before .args .t1 in
+    let e : loop .i ≡ length table = omega (arith, loop .inv .0, loop .inv .2) in
+    rw (e, drop-length) at (loop .inv .1)
 
-pub table-sum-spec : {M : Type 1} → statement M
-table-sum-spec =
+pub sum-over-spec : {M : Type 1} → statement M
+sum-over-spec =
     tie.close
     (tie.spec
     Inv-loop
