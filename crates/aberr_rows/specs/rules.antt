@@ -2,4 +2,3 @@
 pub mod Numbers
 pub mod Arguments
 pub mod Rows
-pub mod Velocity

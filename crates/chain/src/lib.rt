@@ -85,7 +85,7 @@ pub fn night_of(day1: f64, day2: f64) -> Night
         precess::eq_turns(day1, day2),
         nutation_table::nutation_on(day2),
         obliquity_on(day2),
-        aberr_rows::velocity_on(day2),
+        aberr_velocity::velocity_on(day2),
     )
 }
 

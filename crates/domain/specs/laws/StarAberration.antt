@@ -16,7 +16,7 @@ use Rattle.elementary.specs.laws.Accepted.{lower-none, steep-accepted}
 use Rattle.elementary.specs.laws.Sine.{sine-between, cosine-steep}
 use Rattle.helpers.specs.rules.Time.{centuryOf}
 use Rattle.aberr_rows.specs.rules.Arguments.{argumentsOf}
-use Rattle.aberr_rows.specs.rules.Velocity.{rows, summed, none, velocityOf}
+use Rattle.aberr_velocity.specs.rules.Velocity.{rows, summed, none, velocityOf}
 use Rattle.aberr.specs.rules.Star.{light, aberrAt, stellAberrRefusal, stellAberrInEqCoordsIn, stellAberrInEqCoordsRule}
 use Rattle.conditions.specs.laws.Accepted.{angle-sine, angle-cosine, steep-far}
 use Rattle.conditions.specs.notions.Outcome.{Outcome, Never}

@@ -1,8 +1,8 @@
--- `aberr_rows::rows_22_to_24` meets its contract. Assumes nothing.
+-- `aberr_velocity::rows_22_to_24` meets its contract. Assumes nothing.
 use Rattle.double.specs.laws.Calls.{asks-nothing}
 use Rattle.aberr_rows.specs.rules.Rows.{row22, row23, row24}
-use Rattle.aberr_rows.proofs.rows_22_to_24.Statement.{statement}
-use Rattle.aberr_rows.proofs.rows_22_to_24.Tie as tie
+use Rattle.aberr_velocity.proofs.rows_22_to_24.Statement.{statement}
+use Rattle.aberr_velocity.proofs.rows_22_to_24.Tie as tie
 
 returns : tie.Need-returns
 unfolding row22 row23 row24

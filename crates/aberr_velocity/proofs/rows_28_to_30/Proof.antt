@@ -1,8 +1,8 @@
--- `aberr_rows::rows_28_to_30` meets its contract. Assumes nothing.
+-- `aberr_velocity::rows_28_to_30` meets its contract. Assumes nothing.
 use Rattle.double.specs.laws.Calls.{asks-nothing}
 use Rattle.aberr_rows.specs.rules.Rows.{row28, row29, row30}
-use Rattle.aberr_rows.proofs.rows_28_to_30.Statement.{statement}
-use Rattle.aberr_rows.proofs.rows_28_to_30.Tie as tie
+use Rattle.aberr_velocity.proofs.rows_28_to_30.Statement.{statement}
+use Rattle.aberr_velocity.proofs.rows_28_to_30.Tie as tie
 
 returns : tie.Need-returns
 unfolding row28 row29 row30

@@ -1,8 +1,8 @@
--- `aberr_rows::rows_31_to_33` meets its contract. Assumes nothing.
+-- `aberr_velocity::rows_31_to_33` meets its contract. Assumes nothing.
 use Rattle.double.specs.laws.Calls.{asks-nothing}
 use Rattle.aberr_rows.specs.rules.Rows.{row31, row32, row33}
-use Rattle.aberr_rows.proofs.rows_31_to_33.Statement.{statement}
-use Rattle.aberr_rows.proofs.rows_31_to_33.Tie as tie
+use Rattle.aberr_velocity.proofs.rows_31_to_33.Statement.{statement}
+use Rattle.aberr_velocity.proofs.rows_31_to_33.Tie as tie
 
 returns : tie.Need-returns
 unfolding row31 row32 row33

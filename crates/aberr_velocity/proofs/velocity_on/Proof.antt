@@ -1,8 +1,8 @@
--- `aberr_rows::velocity_on` meets its contract. Assumes nothing.
+-- `aberr_velocity::velocity_on` meets its contract. Assumes nothing.
 use Rattle.double.specs.laws.Calls.{asks-nothing}
-use Rattle.aberr_rows.specs.rules.Velocity.{velocityOf}
-use Rattle.aberr_rows.proofs.velocity_on.Statement.{statement}
-use Rattle.aberr_rows.proofs.velocity_on.Tie as tie
+use Rattle.aberr_velocity.specs.rules.Velocity.{velocityOf}
+use Rattle.aberr_velocity.proofs.velocity_on.Statement.{statement}
+use Rattle.aberr_velocity.proofs.velocity_on.Tie as tie
 
 returns : tie.Need-returns
 unfolding velocityOf

@@ -1,8 +1,8 @@
--- `aberr_rows::rows_19_to_21` meets its contract. Assumes nothing.
+-- `aberr_velocity::rows_19_to_21` meets its contract. Assumes nothing.
 use Rattle.double.specs.laws.Calls.{asks-nothing}
 use Rattle.aberr_rows.specs.rules.Rows.{row19, row20, row21}
-use Rattle.aberr_rows.proofs.rows_19_to_21.Statement.{statement}
-use Rattle.aberr_rows.proofs.rows_19_to_21.Tie as tie
+use Rattle.aberr_velocity.proofs.rows_19_to_21.Statement.{statement}
+use Rattle.aberr_velocity.proofs.rows_19_to_21.Tie as tie
 
 returns : tie.Need-returns
 unfolding row19 row20 row21

@@ -1,8 +1,8 @@
--- `aberr_rows::rows_34_to_36` meets its contract. Assumes nothing.
+-- `aberr_velocity::rows_34_to_36` meets its contract. Assumes nothing.
 use Rattle.double.specs.laws.Calls.{asks-nothing}
 use Rattle.aberr_rows.specs.rules.Rows.{row34, row35, row36}
-use Rattle.aberr_rows.proofs.rows_34_to_36.Statement.{statement}
-use Rattle.aberr_rows.proofs.rows_34_to_36.Tie as tie
+use Rattle.aberr_velocity.proofs.rows_34_to_36.Statement.{statement}
+use Rattle.aberr_velocity.proofs.rows_34_to_36.Tie as tie
 
 returns : tie.Need-returns
 unfolding row34 row35 row36

@@ -1,8 +1,8 @@
--- `aberr_rows::rows_25_to_27` meets its contract. Assumes nothing.
+-- `aberr_velocity::rows_25_to_27` meets its contract. Assumes nothing.
 use Rattle.double.specs.laws.Calls.{asks-nothing}
 use Rattle.aberr_rows.specs.rules.Rows.{row25, row26, row27}
-use Rattle.aberr_rows.proofs.rows_25_to_27.Statement.{statement}
-use Rattle.aberr_rows.proofs.rows_25_to_27.Tie as tie
+use Rattle.aberr_velocity.proofs.rows_25_to_27.Statement.{statement}
+use Rattle.aberr_velocity.proofs.rows_25_to_27.Tie as tie
 
 returns : tie.Need-returns
 unfolding row25 row26 row27
