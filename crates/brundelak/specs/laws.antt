@@ -1,3 +1,2 @@
 -- What is proved of the boundary. Theorems only.
-pub mod Boundary
 pub mod Stored

@@ -1,12 +1,12 @@
 // The helpers of section 3.
-ghost use Rattle.brundelak.specs.rules.Boundary.{Told, ToldTwo, numberOfDegrees, numberOfRadians};
+ghost use Rattle.handed.specs.rules.Boundary.{Told, ToldTwo, numberOfDegrees, numberOfRadians};
 ghost use Rattle.helpers.specs.rules.Angle.{degFrmDmsRule, degFrmHmsRule, toRadiansRule, limitTo360Rule, limitToTwoPIRule};
 ghost use Rattle.helpers.specs.rules.Time.{julianCentRule};
 ghost use Rattle.helpers.specs.rules.Earth.{rhoSinCosPhiRule};
-use crate::give::degrees_number;
-use crate::give::give;
-use crate::give::give_two;
-use crate::give::radians_number;
+use handed::degrees_number;
+use handed::give;
+use handed::give_two;
+use handed::radians_number;
 use quantity::Deg;
 use quantity::Rad;
 

@@ -1,10 +1,10 @@
 // Changes of frame.
-ghost use Rattle.brundelak.specs.rules.Boundary.{Told};
+ghost use Rattle.handed.specs.rules.Boundary.{Told};
 ghost use Rattle.coords.specs.rules.HourAngle.{hrAnglFrmObserverLongRule, hrAnglFrmLocSidrRule};
 ghost use Rattle.coords_ecl.specs.rules.Ecliptic.{eclLongFrmEqRule, eclLatFrmEqRule, ascFrmEclRule, decFrmEclRule};
 ghost use Rattle.coords.specs.rules.Horizon.{azFrmEqRule, altFrmEqRule, hrAnglFrmHzRule, decFrmHzRule};
 ghost use Rattle.coords_gal.specs.rules.Galactic.{galLongFrmEqRule, galLatFrmEqRule, ascFrmGalRule};
-use crate::give::give;
+use handed::give;
 use quantity::Rad;
 
 // The hour angle from the sidereal time at Greenwich. Refusals: 1; 3.

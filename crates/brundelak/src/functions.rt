@@ -1,10 +1,10 @@
 // The elementary functions, and the root.
-ghost use Rattle.brundelak.specs.rules.Boundary.{Told};
+ghost use Rattle.handed.specs.rules.Boundary.{Told};
 ghost use Rattle.elementary.specs.rules.Sine.{sineRule, cosineRule, tangentRule};
 ghost use Rattle.elementary_arc.specs.rules.Arctangent.{arctangentRule};
 ghost use Rattle.elementary_arc.specs.rules.Arcsine.{arcsineRule};
 ghost use Rattle.root.specs.rules.Root.{rootRule};
-use crate::give::give;
+use handed::give;
 use quantity::Rad;
 
 // The sine of an angle. Refusals: 1; 3 past 400000.0.

@@ -1,12 +1,12 @@
 // What depends on the observer: parallax.
-ghost use Rattle.brundelak.specs.rules.Boundary.{Told, ToldThree, ToldTwo, numbersOfPoint};
+ghost use Rattle.handed.specs.rules.Boundary.{Told, ToldThree, ToldTwo, numbersOfPoint};
 ghost use Rattle.parallax.specs.rules.Horizontal.{eqHzParallaxRule};
 ghost use Rattle.parallax.specs.rules.Equatorial.{topocentEqCoordsRule};
 ghost use Rattle.parallax_ecl.specs.rules.Ecliptic.{topopcentEclCoordsRule};
-use crate::give::give;
-use crate::give::give_three;
-use crate::give::give_two;
-use crate::give::point_numbers;
+use handed::give;
+use handed::give_three;
+use handed::give_two;
+use handed::point_numbers;
 use quantity::EclPoint;
 use quantity::EqPoint;
 use quantity::GeographPoint;

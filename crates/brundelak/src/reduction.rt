@@ -1,5 +1,5 @@
 // What leads from a catalogue place to a place on a day: precession, nutation, aberration and the chain.
-ghost use Rattle.brundelak.specs.rules.Boundary.{Told, ToldThree, ToldTwo};
+ghost use Rattle.handed.specs.rules.Boundary.{Told, ToldThree, ToldTwo};
 ghost use Rattle.precess.specs.rules.Annual.{annualPrecessRule};
 ghost use Rattle.precess.specs.rules.Equatorial.{precessEqCoordsRule};
 ghost use Rattle.precess.specs.rules.Fk4.{precessEqCoordsFK5Rule};
@@ -10,9 +10,9 @@ ghost use Rattle.nutation.specs.rules.Point.{nutationInEqCoordsRule};
 ghost use Rattle.aberr.specs.rules.Sun.{solAberrRule};
 ghost use Rattle.aberr.specs.rules.Star.{stellAberrInEqCoordsRule};
 ghost use Rattle.chain.specs.rules.Chain.{chainRule};
-use crate::give::give;
-use crate::give::give_three;
-use crate::give::give_two;
+use handed::give;
+use handed::give_three;
+use handed::give_two;
 use quantity::EqPoint;
 use quantity::Rad;
 

@@ -1,4 +1,3 @@
 -- What is proved of the text that `reduce` prints, for callers to cite. Theorems only.
-pub mod Constants
 pub mod Report
 pub mod Room

@@ -1,3 +1,2 @@
 -- What a reader must believe of the text that `reduce` prints, in reading order. Definitions only.
-pub mod Angle
 pub mod Report

@@ -14,7 +14,7 @@ use Rattle.tally.specs.declared.Tally.{Tally}
 use Rattle.tally.specs.rules.Tally.{raiseRule}
 use Rattle.batch.specs.declared.Batched.{Batched}
 use Rattle.batch.specs.rules.Batch.{Batch}
-use Rattle.brundelak.specs.rules.Boundary.{status, kept}
+use Rattle.handed.specs.rules.Boundary.{status, kept}
 
 -- a star found: its index, right ascension and declination
 pub record ToldFound (a : Answer Entry) (n : ℕ) (index asc : ℕ) (dec : ℤ) (index′ asc′ : ℕ) (dec′ : ℤ) : Type 0 where

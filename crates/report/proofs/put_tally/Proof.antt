@@ -5,7 +5,8 @@ use mathlib.Core.List.{append-assoc}
 use Rattle.double.specs.laws.Calls.{asks-nothing}
 use Rattle.lent.specs.laws.Writing.{after, same}
 use Rattle.tally.specs.rules.Tally.{highest}
-use Rattle.report.specs.rules.Report.{lineEnd, tallyWord, texts, countAt, tallyText}
+use Rattle.line.specs.rules.Line.{lineEnd}
+use Rattle.report.specs.rules.Report.{tallyWord, texts, countAt, tallyText}
 use Rattle.report.proofs.put_tally.Statement.{statement}
 use Rattle.report.proofs.put_tally.Tie as tie
 

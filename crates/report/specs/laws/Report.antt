@@ -14,7 +14,8 @@ use Rattle.tally.specs.rules.Tally.{tallyOf}
 use Rattle.batch.specs.declared.Batched.{Batched}
 use Rattle.batch.specs.rules.Batch.{batchRefusal, statusesOf, Batch}
 use Rattle.batch.specs.laws.Batch.{tally-is, status-at, asc-at, dec-at}
-use Rattle.report.specs.rules.Report.{texts, refusedText, lentLine, tallyText, doneText, starText, reportOf}
+use Rattle.line.specs.rules.Line.{refusedText}
+use Rattle.report.specs.rules.Report.{texts, lentLine, tallyText, doneText, starText, reportOf}
 
 -- texts that agree below their number
 texts-same : (n : ℕ) (f g : ℕ → List ℕ) → ((i : ℕ) → i < n → f i ≡ g i) → texts n f ≡ texts n g

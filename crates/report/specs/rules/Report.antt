@@ -9,22 +9,13 @@ use Rattle.double.specs.rules.Operations.{zero as none}
 use Rattle.list.specs.rules.Stars.{mostStars, countOf, nth}
 use Rattle.tally.specs.declared.Tally.{Tally}
 use Rattle.tally.specs.rules.Tally.{highest, tallyOf}
-use Rattle.text.specs.rules.Number.{decimal, hex16}
+use Rattle.text.specs.rules.Number.{decimal}
 use Rattle.batch.specs.declared.Batched.{Batched}
 use Rattle.batch.specs.rules.Star.{starRule, statusOf, firstOf, secondOf}
 use Rattle.batch.specs.rules.Batch.{batchRefusal, statusesOf}
-use Rattle.report.specs.rules.Angle.{angleText, patternOf}
+use Rattle.line.specs.rules.Line.{lineEnd, refusedText, lineOf}
 
--- a space, a line's end, "refused " and "tally"
-abbrev pub space : List ℕ
-space = 32 ∷ []
-
-abbrev pub lineEnd : List ℕ
-lineEnd = 10 ∷ []
-
-abbrev pub refusedWord : List ℕ
-refusedWord = 114 ∷ 101 ∷ 102 ∷ 117 ∷ 115 ∷ 101 ∷ 100 ∷ 32 ∷ []
-
+-- "tally"
 abbrev pub tallyWord : List ℕ
 tallyWord = 116 ∷ 97 ∷ 108 ∷ 108 ∷ 121 ∷ []
 
@@ -32,24 +23,6 @@ tallyWord = 116 ∷ 97 ∷ 108 ∷ 108 ∷ 121 ∷ []
 abbrev pub texts : ℕ → (ℕ → List ℕ) → List ℕ
 texts zero f = []
 texts (suc n) f = texts n f ++ f n
-
-unfoldable pub refusedText : ℕ → List ℕ
-refusedText n = refusedWord ++ (decimal n ++ lineEnd)
-
--- an angle in milliarcseconds, and its bits in hexadecimal, each with a byte after it
-unfoldable pub angleThen : Float → ℕ → List ℕ
-angleThen x end = angleText x ++ (end ∷ [])
-
-unfoldable pub bitsThen : Float → ℕ → List ℕ
-bitsThen x end = hex16 (patternOf x) ++ (end ∷ [])
-
--- both angles in milliarcseconds, then the bits of both
-unfoldable pub anglesText : Float → Float → List ℕ
-anglesText asc dec = angleThen asc 32 ++ (angleThen dec 32 ++ (bitsThen asc 32 ++ bitsThen dec 10))
-
--- a star's number, then its angles or its refusal
-unfoldable pub lineOf : ℕ → ℕ → Float → Float → List ℕ
-lineOf number status asc dec = decimal number ++ (space ++ cond (eqb status 0) (anglesText asc dec) (refusedText status))
 
 -- star i, whose status and angles stand in three slices
 abbrev pub lentLine : List ℕ → List ℕ → List Float → List Float → ℕ → List ℕ

@@ -1,6 +1,6 @@
 -- `brundelak::observer::brundelak_eq_hz_parallax` meets its contract. Assumes nothing.
 use Rattle.double.specs.laws.Calls.{asks-nothing}
-use Rattle.brundelak.specs.laws.Boundary.{told}
+use Rattle.handed.specs.laws.Boundary.{told}
 use Rattle.brundelak.proofs.observer.brundelak_eq_hz_parallax.Statement.{statement}
 use Rattle.brundelak.proofs.observer.brundelak_eq_hz_parallax.Tie as tie
 

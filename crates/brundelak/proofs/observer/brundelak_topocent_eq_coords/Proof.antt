@@ -1,8 +1,8 @@
 -- `brundelak::observer::brundelak_topocent_eq_coords` meets its contract. Assumes nothing.
 use Rattle.double.specs.laws.Calls.{asks-nothing}
 use mathlib.Core.Path.{ap, _∙_}
-use Rattle.brundelak.specs.rules.Boundary.{numbersOfPoint}
-use Rattle.brundelak.specs.laws.Boundary.{told-two}
+use Rattle.handed.specs.rules.Boundary.{numbersOfPoint}
+use Rattle.handed.specs.laws.Boundary.{told-two}
 use Rattle.brundelak.proofs.observer.brundelak_topocent_eq_coords.Statement.{statement}
 use Rattle.brundelak.proofs.observer.brundelak_topocent_eq_coords.Tie as tie
 

@@ -1,6 +1,6 @@
 -- `brundelak::reduction::brundelak_sol_aberr` meets its contract. Assumes nothing.
 use Rattle.double.specs.laws.Calls.{asks-nothing}
-use Rattle.brundelak.specs.laws.Boundary.{told}
+use Rattle.handed.specs.laws.Boundary.{told}
 use Rattle.brundelak.proofs.reduction.brundelak_sol_aberr.Statement.{statement}
 use Rattle.brundelak.proofs.reduction.brundelak_sol_aberr.Tie as tie
 

@@ -1,0 +1,2 @@
+-- What is proved of it, for the boundary to cite. Theorems only.
+pub mod Boundary

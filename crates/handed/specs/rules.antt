@@ -1,0 +1,2 @@
+-- What a reader must believe of an answer handed to a C caller. Definitions only.
+pub mod Boundary

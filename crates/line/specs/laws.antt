@@ -1,0 +1,3 @@
+-- What is proved of a star's line, for callers to cite. Theorems only.
+pub mod Constants
+pub mod Room
