@@ -68,6 +68,19 @@ fn sixtieths(seconds: f64, whole: &[u8], minute: &[u8], second: &[u8]) {
     word(second);
 }
 
+// A right ascension in hours and a declination in degrees.
+fn place(asc: f64, dec: f64) {
+    word(b" ");
+    sixtieths(asc * SECONDS / 15.0, b"h", b"m", b"s");
+    arc(dec);
+}
+
+// An angle in degrees, minutes and seconds.
+fn arc(x: f64) {
+    word(b" ");
+    sixtieths(x * SECONDS, b"d", b"'", b"\"");
+}
+
 fn refusal(n: u8) {
     word(b" refused ");
     io::print_decimal(1, n as u64);
@@ -122,15 +135,24 @@ fn three(name: &[u8], a: Three, unit: f64, figure: &[u8]) {
     beside(figure);
 }
 
-fn point(name: &[u8], a: Point, unit: f64, figure: &[u8]) {
+// Three angles in degrees, minutes and seconds.
+fn arcs(name: &[u8], a: Three, figure: &[u8]) {
     word(name);
     match a {
-        Point::Is(p) => {
-            word(b" ");
-            fixed(p.asc * unit);
-            word(b" ");
-            fixed(p.dec * unit);
+        Three::Are(x, y, z) => {
+            arc(x);
+            arc(y);
+            arc(z);
         }
+        Three::Refused(n) => refusal(n),
+    }
+    beside(figure);
+}
+
+fn point(name: &[u8], a: Point, figure: &[u8]) {
+    word(name);
+    match a {
+        Point::Is(p) => place(p.asc, p.dec),
         Point::Refused(n) => refusal(n),
     }
     beside(figure);
@@ -268,12 +290,7 @@ fn polaris(name: &[u8], day: f64, figure: &[u8]) {
     let dec = deg((321350.72 - 0.0152 * years) / 3600.0);
     word(name);
     match precess::precess_eq_coords(asc, dec, J2000, day) {
-        Two::Are(x, y) => {
-            word(b" ");
-            sixtieths(x * SECONDS / 15.0, b"h", b"m", b"s");
-            word(b" ");
-            sixtieths(y * SECONDS, b"d", b"'", b"\"");
-        }
+        Two::Are(x, y) => place(x, y),
         Two::Refused(n) => refusal(n),
     }
     beside(figure);
@@ -282,8 +299,7 @@ fn polaris(name: &[u8], day: f64, figure: &[u8]) {
 // The mean obliquity on a day, in degrees.
 fn obliquity(name: &[u8], day: f64, figure: &[u8]) {
     word(name);
-    word(b" ");
-    sixtieths(chain::obliquity_on(day).0 * SECONDS, b"d", b"'", b"\"");
+    arc(chain::obliquity_on(day).0);
     beside(figure);
 }
 
@@ -385,10 +401,9 @@ fn parallaxes() {
             1706.0,
             deg(25.1875),
         ),
-        DEGREES,
-        b"published: 339.535583 -15.775000",
+        b"published: 22h38m08.54s -15d46'30.0\"",
     );
-    three(
+    arcs(
         b"40 exercise:",
         parallax_ecl::topopcent_ecl_coords(
             EclPoint {
@@ -405,8 +420,7 @@ fn parallaxes() {
             deg(23.466888888888889),
             deg(0.2709722222222222),
         ),
-        DEGREES,
-        b"published: 181.801389 1.485306 0.273750 (the crate departs: N is below zero)",
+        b"published: 181d48'05.0\" 1d29'07.1\" 0d16'25.5\" (the crate departs: N is below zero)",
     );
 }
 
