@@ -10,7 +10,7 @@ use lib.IntN.{ℤ, pos, negsuc, natAbs}
 use lib.Ieee.{binary64, neg, le, mul, div, ofInt, ofBits, round}
 use lib.Ieee.Fits.{and-l, and-r}
 use Rattle.double.specs.rules.Sign.{size, isFinite}
-use Rattle.double.specs.rules.Order.{_≼_, Finite, Between}
+use Rattle.double.specs.rules.Order.{_≼_, Between}
 use Rattle.double.specs.rules.Whole.{fromWhole}
 use Rattle.double.specs.notions.Range.{known, con, _⊠_, _⧄_}
 use Rattle.double.specs.laws.Tests.{holds}
@@ -21,25 +21,10 @@ use Rattle.double.specs.laws.WholePart.{from-whole-between}
 use Rattle.quantity.specs.rules.Angle.{HALF}
 use Rattle.quantity.specs.rules.Refusal.{lower, farthest, angleRefusal, latitudeRefusal}
 use Rattle.helpers.specs.rules.Angle.{degree}
-use Rattle.chain.specs.laws.Point.{past-none}
+use Rattle.chain.specs.laws.Point.{past-none, finite-farthest, finite-half}
 use Rattle.list.specs.declared.Star.{Star}
-use Rattle.list.specs.rules.Record.{inRange}
+use Rattle.list.specs.rules.Record.{turn, quarter, inRange}
 use Rattle.batch.specs.rules.Star.{milliarcsecondsOfDegree, ascOf, decOf}
-
--- a whole turn, and a quarter of one
-abbrev turn : ℕ
-turn = 1296000000
-
-abbrev quarter : ℕ
-quarter = 324000000
-
-finite-farthest : Finite farthest
-unfolding isFinite ofBits
-finite-farthest = tt
-
-finite-half : Finite HALF
-unfolding isFinite ofBits
-finite-half = tt
 
 asc-near : (star : Star) → star .asc ≤ turn → size (ascOf star .0) ≼ farthest
 unfolding isFinite le neg mul div ofInt ofBits round

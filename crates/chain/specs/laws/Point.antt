@@ -19,7 +19,7 @@ past-none x limit n F h =
     let held : Finite (size x) = rw (finite-size x) finite in
     rw (is-true (isFinite x) finite, is-false (lt limit (size x)) (not-lt-of-le (size x) limit held F h))
 
-finite-farthest : Finite farthest
+pub finite-farthest : Finite farthest
 unfolding isFinite ofBits
 finite-farthest = tt
 
@@ -27,7 +27,7 @@ finite-steepest : Finite steepest
 unfolding isFinite ofBits
 finite-steepest = tt
 
-finite-half : Finite HALF
+pub finite-half : Finite HALF
 unfolding isFinite ofBits
 finite-half = tt
 

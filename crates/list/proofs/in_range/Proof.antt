@@ -6,7 +6,7 @@ use lib.IntN.{natAbs}
 use borrow.Author.Tests.{lt-ltb, le-ltb}
 use Rattle.double.specs.laws.Calls.{asks-nothing}
 use Rattle.signed.specs.laws.Signed.{signed-word}
-use Rattle.list.specs.rules.Record.{inRange}
+use Rattle.list.specs.rules.Record.{quarter, inRange}
 use Rattle.list.proofs.in_range.Statement.{statement}
 use Rattle.list.proofs.in_range.Tie as tie
 
@@ -15,7 +15,7 @@ unfolding inRange
 returns c =
     let start = c .before .before .before .before in
     simp (lt-ltb _ _ (c .before .before .if1 .taken))
-    (ap (λ (n : ℕ). leb n 324000000) (c .size .ensures ∙ ap natAbs (signed-word (start .args .star .dec) (c .before .struct-told .given .1 .1 .0 .1))))
+    (ap (λ (n : ℕ). leb n quarter) (c .size .ensures ∙ ap natAbs (signed-word (start .args .star .dec) (c .before .struct-told .given .1 .1 .0 .1))))
 
 returns-2 : tie.Need-returns-2
 unfolding inRange

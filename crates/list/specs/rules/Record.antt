@@ -20,9 +20,16 @@ wordAt s at = getD s at 0 + 256 * getD s (at + 1) 0 + 65536 * getD s (at + 2) 0 
 unfoldable pub starAt : List ℕ → ℕ → Star
 starAt s at = record { number = wordAt s at; asc = wordAt s (at + 4); dec = signedOf (wordAt s (at + 8)) }
 
--- in milliarcseconds: right ascension below a turn, declination at most a quarter turn in size
+-- a turn and a quarter of one, in milliarcseconds
+abbrev pub turn : ℕ
+turn = 1296000000
+
+abbrev pub quarter : ℕ
+quarter = 324000000
+
+-- right ascension below a turn, declination at most a quarter turn in size
 unfoldable pub inRange : Star → Bool
-inRange r = ltb (r .asc) 1296000000 && leb (natAbs (r .dec)) 324000000
+inRange r = ltb (r .asc) turn && leb (natAbs (r .dec)) quarter
 
 -- a record written: its words, and their bytes
 abbrev pub wordsOf : Star → List ℕ
