@@ -1,2 +1,3 @@
 -- What is proved of aberration, for callers to cite. Theorems only.
 pub mod Constants
+pub mod Wrong

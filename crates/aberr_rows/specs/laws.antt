@@ -1,2 +1,3 @@
 -- What is proved of the rows of aberration, for callers to cite. Theorems only.
 pub mod Constants
+pub mod Wrong

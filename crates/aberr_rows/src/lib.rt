@@ -54,6 +54,55 @@ pub struct Velocity {
     pub z: f64,
 }
 
+// The coefficients below zero: M11 is −11.0. A constant is cheaper to check than a literal with its sign.
+const M1: f64 = -1.0;
+
+const M3: f64 = -3.0;
+
+const M5: f64 = -5.0;
+
+const M6: f64 = -6.0;
+
+const M7: f64 = -7.0;
+
+const M8: f64 = -8.0;
+
+const M9: f64 = -9.0;
+
+const M11: f64 = -11.0;
+
+const M12: f64 = -12.0;
+
+const M15: f64 = -15.0;
+
+const M16: f64 = -16.0;
+
+const M19: f64 = -19.0;
+
+const M25: f64 = -25.0;
+
+const M36: f64 = -36.0;
+
+const M59: f64 = -59.0;
+
+const M94: f64 = -94.0;
+
+const M216: f64 = -216.0;
+
+const M236: f64 = -236.0;
+
+const M285: f64 = -285.0;
+
+const M446: f64 = -446.0;
+
+const M656: f64 = -656.0;
+
+const M2559: f64 = -2559.0;
+
+const M5904: f64 = -5904.0;
+
+const M1719914: f64 = -1719914.0;
+
 // Rows 1 to 3.
 fn rows_1_to_3(g: Arguments, v: Velocity) -> Velocity
     ensures { λ r. ⌜ r ≡ row3 g (row2 g (row1 g v)) ⌝ }
@@ -68,7 +117,7 @@ fn rows_1_to_3(g: Arguments, v: Velocity) -> Velocity
     let a = elementary::turn_of(Rad(l3));
     let sin_a = a.sine;
     let cos_a = a.cosine;
-    x += (-1719914.0 - 2.0 * t) * sin_a - 25.0 * cos_a;
+    x += (M1719914 - 2.0 * t) * sin_a - 25.0 * cos_a;
     y += (25.0 - 13.0 * t) * sin_a + (1578089.0 + 156.0 * t) * cos_a;
     z += (10.0 + 32.0 * t) * sin_a + (684185.0 - 358.0 * t) * cos_a;
     // row 2
@@ -76,15 +125,15 @@ fn rows_1_to_3(g: Arguments, v: Velocity) -> Velocity
     let sin_a = a.sine;
     let cos_a = a.cosine;
     x += (6434.0 + 141.0 * t) * sin_a + (28007.0 - 107.0 * t) * cos_a;
-    y += (25697.0 - 95.0 * t) * sin_a + (-5904.0 - 130.0 * t) * cos_a;
-    z += (11141.0 - 48.0 * t) * sin_a + (-2559.0 - 55.0 * t) * cos_a;
+    y += (25697.0 - 95.0 * t) * sin_a + (M5904 - 130.0 * t) * cos_a;
+    z += (11141.0 - 48.0 * t) * sin_a + (M2559 - 55.0 * t) * cos_a;
     // row 3
     let a = elementary::turn_of(Rad(l5));
     let sin_a = a.sine;
     let cos_a = a.cosine;
     x += 715.0 * sin_a;
     y += 6.0 * sin_a - 657.0 * cos_a;
-    z += -15.0 * sin_a - 282.0 * cos_a;
+    z += M15 * sin_a - 282.0 * cos_a;
     Velocity { x: x, y: y, z: z }
 }
 
@@ -104,22 +153,22 @@ fn rows_4_to_6(g: Arguments, v: Velocity) -> Velocity
     let sin_a = a.sine;
     let cos_a = a.cosine;
     x += 715.0 * sin_a;
-    y += -656.0 * cos_a;
-    z += -285.0 * cos_a;
+    y += M656 * cos_a;
+    z += M285 * cos_a;
     // row 5
     let a = elementary::turn_of(Rad(3.0 * l3));
     let sin_a = a.sine;
     let cos_a = a.cosine;
-    x += (486.0 - 5.0 * t) * sin_a + (-236.0 - 4.0 * t) * cos_a;
-    y += (-216.0 - 4.0 * t) * sin_a + (-446.0 + 5.0 * t) * cos_a;
-    z += -94.0 * sin_a - 193.0 * cos_a;
+    x += (486.0 - 5.0 * t) * sin_a + (M236 - 4.0 * t) * cos_a;
+    y += (M216 - 4.0 * t) * sin_a + (M446 + 5.0 * t) * cos_a;
+    z += M94 * sin_a - 193.0 * cos_a;
     // row 6
     let a = elementary::turn_of(Rad(l6));
     let sin_a = a.sine;
     let cos_a = a.cosine;
     x += 159.0 * sin_a;
     y += 2.0 * sin_a - 147.0 * cos_a;
-    z += -6.0 * sin_a - 61.0 * cos_a;
+    z += M6 * sin_a - 61.0 * cos_a;
     Velocity { x: x, y: y, z: z }
 }
 
@@ -138,21 +187,21 @@ fn rows_7_to_9(g: Arguments, v: Velocity) -> Velocity
     let a = elementary::turn_of(Rad(f));
     let cos_a = a.cosine;
     y += 26.0 * cos_a;
-    z += -59.0 * cos_a;
+    z += M59 * cos_a;
     // row 8
     let a = elementary::turn_of(Rad(l1 + m1));
     let sin_a = a.sine;
     let cos_a = a.cosine;
     x += 39.0 * sin_a;
-    y += -36.0 * cos_a;
-    z += -16.0 * cos_a;
+    y += M36 * cos_a;
+    z += M16 * cos_a;
     // row 9
     let a = elementary::turn_of(Rad(2.0 * l5));
     let sin_a = a.sine;
     let cos_a = a.cosine;
     x += 33.0 * sin_a - 10.0 * cos_a;
-    y += -9.0 * sin_a - 30.0 * cos_a;
-    z += -5.0 * sin_a - 13.0 * cos_a;
+    y += M9 * sin_a - 30.0 * cos_a;
+    z += M5 * sin_a - 13.0 * cos_a;
     Velocity { x: x, y: y, z: z }
 }
 
@@ -172,7 +221,7 @@ fn rows_10_to_12(g: Arguments, v: Velocity) -> Velocity
     let cos_a = a.cosine;
     x += 31.0 * sin_a + cos_a;
     y += sin_a - 28.0 * cos_a;
-    z += -12.0 * cos_a;
+    z += M12 * cos_a;
     // row 11
     let a = elementary::turn_of(Rad(3.0 * l3 - 8.0 * l4 + 3.0 * l5));
     let sin_a = a.sine;
@@ -185,8 +234,8 @@ fn rows_10_to_12(g: Arguments, v: Velocity) -> Velocity
     let sin_a = a.sine;
     let cos_a = a.cosine;
     x += 8.0 * sin_a - 28.0 * cos_a;
-    y += -25.0 * sin_a - 8.0 * cos_a;
-    z += -11.0 * sin_a - 3.0 * cos_a;
+    y += M25 * sin_a - 8.0 * cos_a;
+    z += M11 * sin_a - 3.0 * cos_a;
     Velocity { x: x, y: y, z: z }
 }
 
@@ -205,13 +254,13 @@ fn rows_13_to_15(g: Arguments, v: Velocity) -> Velocity
     let sin_a = a.sine;
     let cos_a = a.cosine;
     x += 21.0 * sin_a;
-    y += -19.0 * cos_a;
-    z += -8.0 * cos_a;
+    y += M19 * cos_a;
+    z += M8 * cos_a;
     // row 14
     let a = elementary::turn_of(Rad(l2));
     let sin_a = a.sine;
     let cos_a = a.cosine;
-    x += -19.0 * sin_a;
+    x += M19 * sin_a;
     y += 17.0 * cos_a;
     z += 8.0 * cos_a;
     // row 15
@@ -219,8 +268,8 @@ fn rows_13_to_15(g: Arguments, v: Velocity) -> Velocity
     let sin_a = a.sine;
     let cos_a = a.cosine;
     x += 17.0 * sin_a;
-    y += -16.0 * cos_a;
-    z += -7.0 * cos_a;
+    y += M16 * cos_a;
+    z += M7 * cos_a;
     Velocity { x: x, y: y, z: z }
 }
 
@@ -247,14 +296,14 @@ fn rows_16_to_18(g: Arguments, v: Velocity) -> Velocity
     let cos_a = a.cosine;
     x += 16.0 * sin_a;
     y += sin_a - 15.0 * cos_a;
-    z += -3.0 * sin_a - 6.0 * cos_a;
+    z += M3 * sin_a - 6.0 * cos_a;
     // row 18
     let a = elementary::turn_of(Rad(l3 + l5));
     let sin_a = a.sine;
     let cos_a = a.cosine;
     x += 11.0 * sin_a - cos_a;
-    y += -1.0 * sin_a - 10.0 * cos_a;
-    z += -1.0 * sin_a - 5.0 * cos_a;
+    y += M1 * sin_a - 10.0 * cos_a;
+    z += M1 * sin_a - 5.0 * cos_a;
     Velocity { x: x, y: y, z: z }
 }
 

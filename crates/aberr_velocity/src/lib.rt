@@ -10,6 +10,29 @@ use quantity::Rad;
 
 // ---- the rows: each adds its terms to the sums so far, from the sine and cosine of its argument A
 
+// The coefficients below zero: M11 is −11.0. A constant is cheaper to check than a literal with its sign.
+const M1: f64 = -1.0;
+
+const M2: f64 = -2.0;
+
+const M3: f64 = -3.0;
+
+const M4: f64 = -4.0;
+
+const M5: f64 = -5.0;
+
+const M6: f64 = -6.0;
+
+const M7: f64 = -7.0;
+
+const M8: f64 = -8.0;
+
+const M9: f64 = -9.0;
+
+const M10: f64 = -10.0;
+
+const M11: f64 = -11.0;
+
 // Rows 19 to 21.
 fn rows_19_to_21(g: Arguments, v: Velocity) -> Velocity
     ensures { λ r. ⌜ r ≡ row21 g (row20 g (row19 g v)) ⌝ }
@@ -24,22 +47,22 @@ fn rows_19_to_21(g: Arguments, v: Velocity) -> Velocity
     let a = elementary::turn_of(Rad(2.0 * (l2 - l3)));
     let sin_a = a.sine;
     let cos_a = a.cosine;
-    x += -11.0 * cos_a;
-    y += -10.0 * sin_a;
-    z += -4.0 * sin_a;
+    x += M11 * cos_a;
+    y += M10 * sin_a;
+    z += M4 * sin_a;
     // row 20
     let a = elementary::turn_of(Rad(l3 - l5));
     let sin_a = a.sine;
     let cos_a = a.cosine;
-    x += -11.0 * sin_a - 2.0 * cos_a;
-    y += -2.0 * sin_a + 9.0 * cos_a;
-    z += -1.0 * sin_a + 4.0 * cos_a;
+    x += M11 * sin_a - 2.0 * cos_a;
+    y += M2 * sin_a + 9.0 * cos_a;
+    z += M1 * sin_a + 4.0 * cos_a;
     // row 21
     let a = elementary::turn_of(Rad(4.0 * l3));
     let sin_a = a.sine;
     let cos_a = a.cosine;
-    x += -7.0 * sin_a - 8.0 * cos_a;
-    y += -8.0 * sin_a + 6.0 * cos_a;
+    x += M7 * sin_a - 8.0 * cos_a;
+    y += M8 * sin_a + 6.0 * cos_a;
     z += 3.0 * (cos_a - sin_a);
     Velocity { x: x, y: y, z: z }
 }
@@ -58,23 +81,23 @@ fn rows_22_to_24(g: Arguments, v: Velocity) -> Velocity
     let a = elementary::turn_of(Rad(3.0 * l3 - 2.0 * l5));
     let sin_a = a.sine;
     let cos_a = a.cosine;
-    x += -10.0 * sin_a;
+    x += M10 * sin_a;
     y += 9.0 * cos_a;
     z += 4.0 * cos_a;
     // row 23
     let a = elementary::turn_of(Rad(l2 - 2.0 * l3));
     let sin_a = a.sine;
     let cos_a = a.cosine;
-    x += -9.0 * sin_a;
-    y += -9.0 * cos_a;
-    z += -4.0 * cos_a;
+    x += M9 * sin_a;
+    y += M9 * cos_a;
+    z += M4 * cos_a;
     // row 24
     let a = elementary::turn_of(Rad(2.0 * l2 - 3.0 * l3));
     let sin_a = a.sine;
     let cos_a = a.cosine;
-    x += -9.0 * sin_a;
-    y += -8.0 * cos_a;
-    z += -4.0 * cos_a;
+    x += M9 * sin_a;
+    y += M8 * cos_a;
+    z += M4 * cos_a;
     Velocity { x: x, y: y, z: z }
 }
 
@@ -93,14 +116,14 @@ fn rows_25_to_27(g: Arguments, v: Velocity) -> Velocity
     let a = elementary::turn_of(Rad(2.0 * l6));
     let sin_a = a.sine;
     let cos_a = a.cosine;
-    x += -9.0 * cos_a;
-    y += -8.0 * sin_a;
-    z += -3.0 * sin_a;
+    x += M9 * cos_a;
+    y += M8 * sin_a;
+    z += M3 * sin_a;
     // row 26
     let a = elementary::turn_of(Rad(2.0 * l2 - 4.0 * l3));
     let sin_a = a.sine;
     let cos_a = a.cosine;
-    x += -9.0 * cos_a;
+    x += M9 * cos_a;
     y += 8.0 * sin_a;
     z += 3.0 * sin_a;
     // row 27
@@ -108,8 +131,8 @@ fn rows_25_to_27(g: Arguments, v: Velocity) -> Velocity
     let sin_a = a.sine;
     let cos_a = a.cosine;
     x += 8.0 * sin_a;
-    y += -8.0 * cos_a;
-    z += -3.0 * cos_a;
+    y += M8 * cos_a;
+    z += M3 * cos_a;
     Velocity { x: x, y: y, z: z }
 }
 
@@ -130,20 +153,20 @@ fn rows_28_to_30(g: Arguments, v: Velocity) -> Velocity
     let sin_a = a.sine;
     let cos_a = a.cosine;
     x += 8.0 * sin_a;
-    y += -7.0 * cos_a;
-    z += -3.0 * cos_a;
+    y += M7 * cos_a;
+    z += M3 * cos_a;
     // row 29
     let a = elementary::turn_of(Rad(8.0 * l2 - 12.0 * l3));
     let sin_a = a.sine;
     let cos_a = a.cosine;
-    x += -4.0 * sin_a - 7.0 * cos_a;
-    y += -6.0 * sin_a + 4.0 * cos_a;
-    z += -3.0 * sin_a + 2.0 * cos_a;
+    x += M4 * sin_a - 7.0 * cos_a;
+    y += M6 * sin_a + 4.0 * cos_a;
+    z += M3 * sin_a + 2.0 * cos_a;
     // row 30
     let a = elementary::turn_of(Rad(8.0 * l2 - 14.0 * l3));
     let sin_a = a.sine;
     let cos_a = a.cosine;
-    x += -4.0 * sin_a - 7.0 * cos_a;
+    x += M4 * sin_a - 7.0 * cos_a;
     y += 6.0 * sin_a - 4.0 * cos_a;
     z += 3.0 * sin_a - 2.0 * cos_a;
     Velocity { x: x, y: y, z: z }
@@ -164,23 +187,23 @@ fn rows_31_to_33(g: Arguments, v: Velocity) -> Velocity
     let a = elementary::turn_of(Rad(2.0 * l4));
     let sin_a = a.sine;
     let cos_a = a.cosine;
-    x += -6.0 * sin_a - 5.0 * cos_a;
-    y += -4.0 * sin_a + 5.0 * cos_a;
+    x += M6 * sin_a - 5.0 * cos_a;
+    y += M4 * sin_a + 5.0 * cos_a;
     z += 2.0 * (cos_a - sin_a);
     // row 32
     let a = elementary::turn_of(Rad(3.0 * l2 - 4.0 * l3));
     let sin_a = a.sine;
     let cos_a = a.cosine;
-    x += -1.0 * (sin_a + cos_a);
-    y += -2.0 * sin_a - 7.0 * cos_a;
+    x += M1 * (sin_a + cos_a);
+    y += M2 * sin_a - 7.0 * cos_a;
     z += sin_a - 4.0 * cos_a;
     // row 33
     let a = elementary::turn_of(Rad(2.0 * (l3 - l5)));
     let sin_a = a.sine;
     let cos_a = a.cosine;
     x += 4.0 * sin_a - 6.0 * cos_a;
-    y += -5.0 * sin_a - 4.0 * cos_a;
-    z += -2.0 * (sin_a + cos_a);
+    y += M5 * sin_a - 4.0 * cos_a;
+    z += M2 * (sin_a + cos_a);
     Velocity { x: x, y: y, z: z }
 }
 
@@ -200,23 +223,23 @@ fn rows_34_to_36(g: Arguments, v: Velocity) -> Velocity
     let a = elementary::turn_of(Rad(3.0 * (l2 - l3)));
     let sin_a = a.sine;
     let cos_a = a.cosine;
-    x += -7.0 * cos_a;
-    y += -6.0 * sin_a;
-    z += -3.0 * sin_a;
+    x += M7 * cos_a;
+    y += M6 * sin_a;
+    z += M3 * sin_a;
     // row 35
     let a = elementary::turn_of(Rad(2.0 * (l3 - l4)));
     let sin_a = a.sine;
     let cos_a = a.cosine;
     x += 5.0 * (sin_a - cos_a);
-    y += -4.0 * sin_a - 5.0 * cos_a;
-    z += -2.0 * (sin_a + cos_a);
+    y += M4 * sin_a - 5.0 * cos_a;
+    z += M2 * (sin_a + cos_a);
     // row 36
     let a = elementary::turn_of(Rad(l1 - 2.0 * d));
     let sin_a = a.sine;
     let cos_a = a.cosine;
     x += 5.0 * sin_a;
-    y += -5.0 * cos_a;
-    z += -2.0 * cos_a;
+    y += M5 * cos_a;
+    z += M2 * cos_a;
     Velocity { x: x, y: y, z: z }
 }
 

@@ -4,3 +4,4 @@ pub mod Known
 pub mod InRange
 pub mod Star
 pub mod Batch
+pub mod Wrong

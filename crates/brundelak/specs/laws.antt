@@ -1,2 +1,3 @@
 -- What is proved of the boundary. Theorems only.
 pub mod Stored
+pub mod Wrong

@@ -2,3 +2,4 @@
 pub mod Constants
 pub mod Night
 pub mod Point
+pub mod Wrong

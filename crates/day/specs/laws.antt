@@ -1,2 +1,3 @@
 -- What is proved of a day in decimal, for callers to cite. Theorems only.
 pub mod Day
+pub mod Wrong

@@ -22,3 +22,4 @@ pub mod TopocentEq
 pub mod TopopcentEcl
 pub mod Chain
 pub mod Star
+pub mod Wrong

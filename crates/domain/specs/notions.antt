@@ -3,3 +3,4 @@ pub mod Answers
 pub mod Turns
 pub mod Nutation
 pub mod Aberration
+pub mod Wrong

@@ -3,3 +3,7 @@ pub mod Fraction
 pub mod Range
 pub mod Grid
 pub mod Greatest
+pub mod Computed
+pub mod Code
+pub mod Stated
+pub mod Wrong

@@ -4,3 +4,4 @@ pub mod Mirror
 pub mod Arctangent
 pub mod Arcsine
 pub mod Domain
+pub mod Wrong

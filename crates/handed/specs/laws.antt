@@ -1,2 +1,3 @@
 -- What is proved of it, for the boundary to cite. Theorems only.
 pub mod Boundary
+pub mod Wrong

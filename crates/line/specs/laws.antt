@@ -1,3 +1,4 @@
 -- What is proved of a star's line, for callers to cite. Theorems only.
 pub mod Constants
 pub mod Room
+pub mod Wrong

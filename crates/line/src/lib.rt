@@ -2,7 +2,7 @@
 // Rules: specs/rules, in reading order in specs/rules.antt.
 ghost use mathlib.Core.Path.{_≡_};
 ghost use Rattle.lent.specs.rules.Writing.{Wrote};
-ghost use Rattle.line.specs.rules.Angle.{milliarcseconds, nearest, hasMinus, signedText, angleText, patternOf};
+ghost use Rattle.line.specs.rules.Angle.{milliarcseconds, nearest, hasMinus, signedText, angleText};
 ghost use Rattle.line.specs.rules.Line.{refusedText, angleThen, bitsThen, anglesText, lineOf};
 
 // ---- an angle
@@ -57,16 +57,6 @@ fn put_angle(out: &mut [u8], at: usize, x: f64) -> usize
     put_signed(out, at, has_minus(y, n), n)
 }
 
-// The bits of a double.
-fn pattern_of(x: f64) -> u64
-    ensures { λ r. ⌜ r ≡ patternOf x ⌝ }
-{
-    if x == x {
-        return f64::to_bits(x);
-    }
-    0x7ff8_0000_0000_0000
-}
-
 // ---- a star
 
 // The line of a refusal.
@@ -90,7 +80,7 @@ fn put_angle_then(out: &mut [u8], at: usize, x: f64, end: u8) -> usize
 fn put_bits_then(out: &mut [u8], at: usize, x: f64, end: u8) -> usize
     ensures { λ r. ⌜ Wrote (now (out .entry)) at (bitsThen x end) (now (out .exit)) r ⌝ }
 {
-    let a = text::put_hex16(out, at, pattern_of(x));
+    let a = text::put_hex16(out, at, double::pattern(x));
     lent::put_byte(out, a, end)
 }
 

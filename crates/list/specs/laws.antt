@@ -4,3 +4,4 @@ pub mod Stars
 pub mod RoundTrips
 pub mod Reader
 pub mod Answer
+pub mod Wrong

@@ -1,88 +1,94 @@
 // Cases of the stored list, its sheet and the tally, a line each: lengths round a record and the longest list, places up to
 // the largest usize, records in and out of range, numbers that stand twice or nowhere, and a full count of a tally.
+// What a line holds stands above the function that prints it.
 use list::Found;
 use list::Shown;
 use list::Star;
 use sheet::Written;
 use tally::Tally;
 
-fn wide(x: u32) -> u64 {
-    x as u64
-}
-
-fn number(word: &[u8], n: u64) {
-    io::write_all(1, word);
+fn next(n: u64) {
+    io::write_all(1, b" ");
     io::print_decimal(1, n);
 }
 
-fn signed_number(word: &[u8], z: i32) {
-    io::write_all(1, word);
+fn next_signed(z: i32) {
     if signed::negative(z) {
-        io::write_all(1, b"-");
+        io::write_all(1, b" -");
+    } else {
+        io::write_all(1, b" ");
     }
     io::print_decimal(1, signed::size(z) as u64);
 }
 
+fn refusal(n: u8) {
+    io::write_all(1, b" refused");
+    next(n as u64);
+}
+
+fn end() {
+    io::write_all(1, b"\n");
+}
+
+// A length, how many stars it has room for, and 1 where it is that of a list.
 fn length_case(buffer: &[u8], n: usize) {
     if n <= buffer.len() {
         let bytes = &buffer[..n];
-        number(b"length ", n as u64);
-        number(b" count ", list::count(bytes) as u64);
-        if list::is_list(bytes) {
-            io::write_all(1, b" list\n");
-        } else {
-            io::write_all(1, b" no list\n");
-        }
+        io::print_decimal(1, n as u64);
+        next(list::count(bytes) as u64);
+        next(list::is_list(bytes) as u64);
+        end();
     }
 }
 
+// A place, the star there and the next place; the place alone at the end.
 fn place_case(bytes: &[u8], place: usize) {
-    number(b"place ", place as u64);
+    io::print_decimal(1, place as u64);
     match reader::shown_at(bytes, place) {
-        Shown::Next(star, next) => {
-            number(b" star ", star.number as u64);
-            number(b" ", star.asc as u64);
-            signed_number(b" ", star.dec);
-            number(b" next ", next as u64);
+        Shown::Next(star, after) => {
+            next(star.number as u64);
+            next(star.asc as u64);
+            next_signed(star.dec);
+            next(after as u64);
         }
-        Shown::End => {
-            io::write_all(1, b" end");
-        }
-        Shown::Refused(n) => number(b" refused ", n as u64),
+        Shown::End => {}
+        Shown::Refused(n) => refusal(n),
     }
-    io::write_all(1, b"\n");
+    end();
 }
 
+// A number, the index of its first star, and that star's other fields.
 fn find_case(bytes: &[u8], sought: u32) {
-    number(b"find ", sought as u64);
+    io::print_decimal(1, sought as u64);
     match list::find(bytes, sought) {
         Found::At(i, asc, dec) => {
-            number(b" index ", i as u64);
-            number(b" ", asc as u64);
-            signed_number(b" ", dec);
+            next(i as u64);
+            next(asc as u64);
+            next_signed(dec);
         }
-        Found::Refused(n) => number(b" refused ", n as u64),
+        Found::Refused(n) => refusal(n),
     }
-    io::write_all(1, b"\n");
+    end();
 }
 
-fn sheet_case(bytes: &[u8]) {
-    let mut out = [0u8; 200060];
-    match sheet::render(bytes, &mut out) {
+// The sheet itself.
+fn sheet_case(bytes: &[u8], out: &mut [u8]) {
+    match sheet::render(bytes, out) {
         Written::Bytes(k) => {
             io::write_all(1, &out[..k]);
         }
-        Written::Refused(n) => number(b"unwritten ", n as u64),
+        Written::Refused(n) => refusal(n),
     }
 }
 
-fn size_in(bytes: &[u8], out: &mut [u8]) {
-    number(b"room ", out.len() as u64);
+// The length of the slice, and that of the sheet in it.
+fn size_case(bytes: &[u8], out: &mut [u8]) {
+    io::print_decimal(1, out.len() as u64);
     match sheet::render(bytes, out) {
-        Written::Bytes(k) => number(b" sheet ", k as u64),
-        Written::Refused(n) => number(b" refused ", n as u64),
+        Written::Bytes(k) => next(k as u64),
+        Written::Refused(n) => refusal(n),
     }
-    io::write_all(1, b"\n");
+    end();
 }
 
 fn lengths(buffer: &[u8]) {
@@ -143,14 +149,15 @@ fn records_after(bytes: &mut [u8], at: usize) {
     list::put_star(bytes, c, star(0, 3600000, -1));
 }
 
+// A status, the refusal, and the counts of 0 and of 10 after it.
 fn raise_case(tally: Tally, status: u8) -> Tally {
-    number(b"status ", status as u64);
+    io::print_decimal(1, status as u64);
     let raised = tally.raise(status);
-    number(b" refusal ", raised.refusal as u64);
+    next(raised.refusal as u64);
     let now = raised.tally;
-    number(b" counts ", wide(now.counts[0]));
-    number(b" ", wide(now.counts[10]));
-    io::write_all(1, b"\n");
+    next(now.counts[0] as u64);
+    next(now.counts[10] as u64);
+    end();
     now
 }
 
@@ -166,36 +173,46 @@ fn tallies() {
     raise_case(e, 0);
 }
 
-fn sheets(bytes: &[u8]) {
-    sheet_case(bytes);
-    sheet_case(b"");
-    sheet_case(b"damaged list");
-    sheet_case(b"damaged list.");
+fn sheets(bytes: &[u8], out: &mut [u8]) {
+    sheet_case(bytes, out);
+    sheet_case(b"", out);
+    sheet_case(b"damaged list", out);
+    sheet_case(b"damaged list.", out);
 }
 
-fn size_case(bytes: &[u8]) {
-    let mut out = [0u8; 200060];
-    size_in(bytes, &mut out);
+// So of the first n bytes, and in the first n of the slice.
+fn prefix_case(buffer: &[u8], n: usize, out: &mut [u8]) {
+    if n <= buffer.len() {
+        let bytes = &buffer[..n];
+        size_case(bytes, out);
+    }
 }
 
-fn short_case(bytes: &[u8]) {
-    let mut out = [0u8; 200059];
-    size_in(bytes, &mut out);
+fn room_case(bytes: &[u8], out: &mut [u8], n: usize) {
+    if n <= out.len() {
+        size_case(bytes, &mut out[..n]);
+    }
+}
+
+// The arrays are lent once: what each call needs to know of their lengths would be proved again.
+fn cases(bytes: &[u8], buffer: &[u8], out: &mut [u8]) {
+    lengths(buffer);
+    places(bytes);
+    place_case(b"not a list!", 0);
+    finds(bytes);
+    find_case(b"not a list!", 1);
+    find_case(b"", 0);
+    sheets(bytes, out);
+    prefix_case(buffer, 60000, out);
+    prefix_case(buffer, 60012, out);
+    room_case(bytes, out, 200059);
 }
 
 fn main() {
     let mut bytes = [0u8; 96];
     records(&mut bytes);
     let buffer = [0u8; 60012];
-    lengths(&buffer);
-    places(&bytes);
-    place_case(b"not a list!", 0);
-    finds(&bytes);
-    find_case(b"not a list!", 1);
-    find_case(b"", 0);
-    sheets(&bytes);
-    size_case(&buffer[..60000]);
-    size_case(&buffer);
-    short_case(&bytes);
+    let mut out = [0u8; sheet::ROOM];
+    cases(&bytes, &buffer, &mut out);
     tallies();
 }

@@ -1,2 +1,3 @@
 -- What is proved of precession of the ecliptic, for callers to cite. Theorems only.
 pub mod Constants
+pub mod Wrong

@@ -10,3 +10,4 @@ pub mod Midpoint
 pub mod Nearest
 pub mod Root
 pub mod Cases
+pub mod Wrong

@@ -2,3 +2,4 @@
 pub mod Sheet
 pub mod Room
 pub mod Answer
+pub mod Wrong

@@ -15,7 +15,7 @@ returns c =
     let c2 = c .before .before in
     let c6 = c2 .before .before .before .before in
     let c7 = c6 .before in
-    same (simp (c7 .pattern-of .ensures)) (after (c6 .put-hex16 .ensures) (c2 .put-byte .ensures))
+    same (simp (c7 .pattern .ensures)) (after (c6 .put-hex16 .ensures) (c2 .put-byte .ensures))
 
 pub put-bits-then-spec : {M : Type 1} → statement M
 put-bits-then-spec = tie.close (tie.spec asks-nothing asks-nothing asks-nothing same-length returns)

@@ -8,8 +8,9 @@ use lib.Dec.{eqb, ltb}
 use lib.Ieee.{Float}
 use lib.ListN.{length, length-append}
 use Rattle.double.specs.rules.Sign.{size}
+use Rattle.double.specs.rules.Pattern.{patternOf}
 use Rattle.text.specs.rules.Number.{decimalIn, decimal, hexDigit, hexIn, hex16}
-use Rattle.line.specs.rules.Angle.{milliarcseconds, nearest, hasMinus, signedText, angleText, patternOf}
+use Rattle.line.specs.rules.Angle.{milliarcseconds, nearest, hasMinus, signedText, angleText}
 use Rattle.line.specs.rules.Line.{space, lineEnd, refusedWord, refusedText, angleThen, bitsThen, anglesText, lineOf}
 
 -- ---- numbers

@@ -1,9 +1,9 @@
--- An angle as text: whole milliarcseconds, and the bits of the double. A text is a list of ASCII codes.
+-- An angle as text: whole milliarcseconds. A text is a list of ASCII codes.
 use Prim.Native.Nat.{ℕ, _+_}
 use mathlib.Core.Bool.{Bool, false, cond}
 use mathlib.Core.List.{List, _∷_}
 use lib.Dec.{ltb}
-use lib.Ieee.{Float, binary64, eq, lt, le, toBits}
+use lib.Ieee.{Float, lt, le}
 use Rattle.double.specs.rules.Operations.{bits, zero, half, _⊖_, _⊗_}
 use Rattle.double.specs.rules.Sign.{size}
 use Rattle.double.specs.rules.Whole.{wholePart, fromWhole}
@@ -37,7 +37,3 @@ unfoldable pub angleText : Float → List ℕ
 angleText x =
     let y = milliarcseconds x in
     signedText (hasMinus y (nearest (size y))) (nearest (size y))
-
--- the bits of a double; a NaN, which equals nothing, has one pattern
-unfoldable pub patternOf : Float → ℕ
-patternOf x = cond (eq x x) (toBits binary64 x) 0x7ff8000000000000

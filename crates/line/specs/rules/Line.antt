@@ -4,8 +4,9 @@ use mathlib.Core.Bool.{cond}
 use mathlib.Core.List.{List, [], _∷_, _++_}
 use lib.Dec.{eqb}
 use lib.Ieee.{Float}
+use Rattle.double.specs.rules.Pattern.{patternOf}
 use Rattle.text.specs.rules.Number.{decimal, hex16}
-use Rattle.line.specs.rules.Angle.{angleText, patternOf}
+use Rattle.line.specs.rules.Angle.{angleText}
 
 -- a space, a line's end and "refused "
 abbrev pub space : List ℕ

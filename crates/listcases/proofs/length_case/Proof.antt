@@ -9,17 +9,8 @@ use Rattle.listcases.proofs.length_case.Tie as tie
 slice-aggregate-bytes : tie.Need-slice-aggregate-bytes
 slice-aggregate-bytes c = sym (length-take-le _ _ (c .before .if1 .taken))
 
-slice-aggregate-number : tie.Need-slice-aggregate-number
-slice-aggregate-number c = search needs
-
-slice-aggregate-number-2 : tie.Need-slice-aggregate-number-2
-slice-aggregate-number-2 c = search needs
-
-slice-aggregate-write-all : tie.Need-slice-aggregate-write-all
-slice-aggregate-write-all c = search needs
-
-slice-aggregate-write-all-2 : tie.Need-slice-aggregate-write-all-2
-slice-aggregate-write-all-2 c = search needs
+cast-next : tie.Need-cast-next
+cast-next c = search needs
 
 returns : tie.Need-returns
 returns c = search needs
@@ -27,24 +18,17 @@ returns c = search needs
 returns-2 : tie.Need-returns-2
 returns-2 c = search needs
 
-returns-3 : tie.Need-returns-3
-returns-3 c = search needs
-
 pub length-case-spec : {M : Type 1} → statement M
 length-case-spec =
     tie.close
     (tie.spec
     slice-aggregate-bytes
-    slice-aggregate-number
-    asks-nothing
-    slice-aggregate-number-2
     asks-nothing
     asks-nothing
     asks-nothing
-    slice-aggregate-write-all
     asks-nothing
-    slice-aggregate-write-all-2
+    cast-next
+    asks-nothing
     asks-nothing
     returns
-    returns-2
-    returns-3)
+    returns-2)

@@ -1,9 +1,11 @@
--- Each number of the rules is the decimal that its name spells, rounded once. Assumes nothing.
+-- Each number of the rules is the decimal that its name spells, rounded once, and the unit the quotient of two. Assumes nothing.
 use mathlib.Core.Path.{refl}
 use mathlib.Core.List.{List, [], _∷_}
-use lib.Ieee.{Float, ofBits, round}
+use lib.Ieee.{Float, ofBits, round, div}
+use Rattle.double.specs.rules.Operations.{_⊘_}
 use Rattle.double.specs.rules.Table.{Row, _is_, Agrees, decimal}
 use Rattle.nutation_rows.specs.rules.Numbers.{n134·96298, n477198·867398, n0·0086972, n56250, n357·52772, n35999·05034, n0·0001603, n300000, n297·85036, n445267·11148, n0·0019142, n189474, n93·27191, n483202·017538, n0·0036825, n327270, n125·04452, n1934·136261, n0·0020708, n450000, n10, n0·0001}
+use Rattle.nutation_rows.specs.rules.Sum.{unit}
 
 abbrev rows : List (Row Float)
 rows =
@@ -29,8 +31,9 @@ rows =
     ∷ (n450000 is decimal 450000 0)
     ∷ (n10 is decimal 10 0)
     ∷ (n0·0001 is decimal 1 4)
+    ∷ (unit is decimal 1 4 ⊘ decimal 3600 0)
     ∷ []
 
 pub constants : Agrees rows
-unfolding ofBits round
+unfolding ofBits round div
 constants = refl

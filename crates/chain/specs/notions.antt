@@ -1,0 +1,4 @@
+-- What theorems on the chain speak of, and no promise mentions. Definitions only.
+pub mod Computed
+pub mod Still
+pub mod Wrong

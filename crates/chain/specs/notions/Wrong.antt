@@ -1,0 +1,45 @@
+-- Wrong variants of the chain and of its parts.
+use Prim.Native.Nat.{ℕ}
+use lib.Ieee.{Float}
+use Rattle.double.specs.rules.Operations.{_⊕_}
+use Rattle.quantity.specs.declared.Rad.{Rad}
+use Rattle.quantity.specs.declared.EqPoint.{EqPoint}
+use Rattle.quantity.specs.declared.Shift.{Shift}
+use Rattle.quantity.specs.rules.Answer.{Answer, answered, Pair, pair, unless}
+use Rattle.quantity.specs.rules.Refusal.{lower, epoch, angleRefusal, steepRefusal}
+use Rattle.elementary.specs.rules.Direction.{directionOf}
+use Rattle.precess.specs.rules.Days.{placeRefusal}
+use Rattle.precess.specs.rules.Equatorial.{eqTurnsOf}
+use Rattle.nutation_table.specs.rules.Day.{nutationOf}
+use Rattle.nutation.specs.rules.Point.{nutationAt}
+use Rattle.aberr_velocity.specs.rules.Velocity.{velocityOf}
+use Rattle.aberr.specs.rules.Star.{aberrAt}
+use Rattle.chain.specs.declared.Night.{Night}
+use Rattle.chain.specs.rules.Obliquity.{obliquityOf}
+use Rattle.chain.specs.rules.Chain.{rad, pointRefusal}
+use Rattle.chain.specs.rules.Night.{gathered, nightOf, moved, reducedIn}
+
+-- that of 2451545.0
+abbrev pub obliquityOfOneDay : Float → Rad
+obliquityOfOneDay day = obliquityOf epoch
+
+-- precession from the first day to itself
+abbrev pub nightOfOneDay : Float → Float → Night
+nightOfOneDay day1 day2 = gathered (eqTurnsOf day1 day1) (nutationOf day2) (obliquityOf day2) (velocityOf day2)
+
+-- the right ascension tested in the declination's place
+abbrev pub precessedPointNotSteep : EqPoint → ℕ
+precessedPointNotSteep p = lower (angleRefusal (rad (p .asc))) (steepRefusal (rad (p .asc)))
+
+-- in right ascension
+abbrev pub aberrationAddedFirst : EqPoint → Shift → Shift → Answer Pair
+aberrationAddedFirst p n a = answered (pair ((p .asc ⊕ a .asc) ⊕ n .asc) ((p .dec ⊕ n .dec) ⊕ a .dec))
+
+abbrev pub anglesOfTheNightNotTested : EqPoint → Night → Answer Pair
+anglesOfTheNightNotTested p night =
+    unless (pointRefusal p)
+    (moved p (nutationAt (directionOf p) (night .nutation) (night .«sin_oblq») (night .«cos_oblq»)) (aberrAt (directionOf p) (night .velocity)))
+
+-- the second day not tested
+abbrev pub placeNotRefused : Rad → Rad → Float → Float → Answer Pair
+placeNotRefused asc dec day1 day2 = unless (placeRefusal asc dec day1 day1) (reducedIn asc dec (nightOf day1 day2))

@@ -1,0 +1,2 @@
+-- What theorems on the changes of frame speak of, and no promise mentions. Definitions only.
+pub mod Wrong

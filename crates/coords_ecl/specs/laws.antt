@@ -1,0 +1,2 @@
+-- What is proved of ecliptic coordinates, for callers to cite. Theorems only.
+pub mod Wrong

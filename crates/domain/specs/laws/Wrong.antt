@@ -1,0 +1,87 @@
+-- Wrong statements are refuted: each fails at the input stated. Assumes nothing.
+use Prim.Native.Nat.{ℕ}
+use mathlib.Core.Path.{_≡_, refl}
+use mathlib.Core.Logic.{inl, inr}
+use lib.Dec.{T}
+use lib.IntN.{pos}
+use lib.Ieee.{Float, binary64, neg, fits}
+use Rattle.double.specs.rules.Operations.{bits, zero, _⊗_}
+use Rattle.double.specs.rules.Order.{Finite, Between}
+use Rattle.double.specs.notions.Greatest.{greatest}
+use Rattle.double.specs.notions.Code.{ofNumber}
+use Rattle.double.specs.laws.Apart.{apart}
+use Rattle.quantity.specs.declared.Rad.{Rad}
+use Rattle.quantity.specs.declared.EclPoint.{EclPoint}
+use Rattle.quantity.specs.declared.GeographPoint.{GeographPoint}
+use Rattle.quantity.specs.rules.Angle.{HALF}
+use Rattle.quantity.specs.rules.Answer.{refused}
+use Rattle.quantity.specs.rules.Refusal.{epoch}
+use Rattle.quantity.specs.notions.Stated.{rad}
+use Rattle.helpers.specs.rules.Angle.{degreesOfHour}
+use Rattle.helpers.specs.rules.Earth.{rhoIn}
+use Rattle.precess.specs.rules.Days.{placeRefusal}
+use Rattle.precess.specs.rules.Equatorial.{precessEqCoordsRule}
+use Rattle.nutation_rows.specs.rules.Sum.{summed, none}
+use Rattle.nutation_rows.specs.notions.Computed as nutation
+use Rattle.nutation_table.specs.rules.Rows.{rows}
+use Rattle.parallax.specs.rules.Observer.{centreOf, observerRefusal}
+use Rattle.parallax_ecl.specs.rules.Ecliptic.{nearby, eclipticAt, eclipticIn, topopcentRefusal, topopcentEclCoordsRule}
+use Rattle.chain.specs.notions.Computed.{computed}
+use Rattle.chain.specs.notions.Still.{still}
+use Rattle.list.specs.declared.Star.{Star}
+use Rattle.list.specs.rules.Record.{quarter, inRange}
+use Rattle.batch.specs.rules.Star.{reduceStar, statusOf}
+use Rattle.conditions.specs.notions.Within.{Within}
+use Rattle.domain.specs.notions.Nutation.{Moon, MoonNear}
+use Rattle.domain.specs.notions.Wrong.{StatusFiveForFour}
+
+-- 15.0 times the greatest double is infinite
+pub hours-not-divided-excluded : ¬ ((x : Float) → T (fits binary64 x) → Finite x → Finite (degreesOfHour ⊗ x))
+unfolding computed fits
+hours-not-divided-excluded wrong = wrong greatest tt tt
+
+-- from 2451545.0 to 2465241.875, at the point that comes to the pole: an arcsine of the next double above 1.0
+pub precession-never-meets-seven-excluded : ¬ ((asc dec : Rad) (day1 day2 : Float) → placeRefusal asc dec day1 day2 ≡ 0 → (n : ℕ) → precessEqCoordsRule asc dec day1 day2 ≡ refused n → n ≡ 6)
+unfolding computed
+precession-never-meets-seven-excluded wrong =
+    apart ofNumber refl (wrong (rad (bits 0xbf712cb6ca12d2de)) (rad (bits 0x3ff9130eb16ff8e6)) epoch (bits 0x4142ceecf0000000) refl 7 refl)
+
+-- seen from the equator a body at the parallax of a quarter turn: N is 1.0 − 1.0
+abbrev point : EclPoint
+point = record { long = zero; lat = zero }
+
+abbrev place : GeographPoint
+place = record { long = zero; lat = zero }
+
+pub ecliptic-never-meets-six-excluded : ¬ ((q : EclPoint) (parallax : Rad) (place : GeographPoint) (height : Float) (sidereal oblq semidiameter : Rad) → topopcentRefusal q parallax place height sidereal oblq semidiameter ≡ 0 → (k : ℕ) → topopcentEclCoordsRule q parallax place height sidereal oblq semidiameter ≡ refused k → k ≡ 7)
+unfolding computed rhoIn centreOf observerRefusal nearby eclipticAt eclipticIn
+ecliptic-never-meets-six-excluded wrong =
+    apart ofNumber refl (wrong point (rad HALF) place zero (rad zero) (rad zero) (rad zero) refl 6 refl)
+
+-- the arguments all 0.0
+abbrev moon : Moon
+moon = record { t = zero; d = zero; m = zero; m1 = zero; f = zero; node = zero }
+
+at-seven : Within 7 zero
+unfolding computed
+at-seven = record { start = tt; end = tt; finite = tt; from = tt; to = tt }
+
+at-twenty : Within 20 zero
+unfolding computed
+at-twenty = record { start = tt; end = tt; finite = tt; from = tt; to = tt }
+
+pub nutation-sums-are-zero-excluded : ¬ ((a : Moon) → MoonNear a → Between (neg zero) zero (summed rows a none .oblq))
+unfolding nutation.computed
+nutation-sums-are-zero-excluded wrong =
+    wrong moon (record { t = at-twenty; d = at-seven; m = at-seven; m1 = at-seven; f = at-seven; node = at-seven }) .to
+
+-- a star at the pole under a night in which nothing moves: 4
+abbrev pole : Star
+pole = record { number = 0; asc = 0; dec = pos quarter }
+
+pub status-five-for-four-excluded : ¬ StatusFiveForFour (statusOf (reduceStar pole (still 0)))
+unfolding computed reduceStar inRange
+status-five-for-four-excluded (inl e) = apart ofNumber refl e
+status-five-for-four-excluded (inr (inl e)) = apart ofNumber refl e
+status-five-for-four-excluded (inr (inr (inl e))) = apart ofNumber refl e
+status-five-for-four-excluded (inr (inr (inr e))) = apart ofNumber refl e

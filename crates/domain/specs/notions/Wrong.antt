@@ -1,0 +1,8 @@
+-- Wrong variants of what is stated.
+use Prim.Native.Nat.{ℕ}
+use mathlib.Core.Path.{_≡_}
+use mathlib.Core.Logic.{_⊎_}
+
+-- of the statuses of a star
+abbrev pub StatusFiveForFour : ℕ → Type 0
+StatusFiveForFour n = (n ≡ 0) ⊎ (n ≡ 5) ⊎ (n ≡ 7) ⊎ (n ≡ 9)

@@ -1,0 +1,43 @@
+-- Wrong variants of the functions on doubles.
+use Prim.Native.Nat.{ℕ, _-_, _%_, _^_}
+use mathlib.Core.Bool.{Bool, false, cond}
+use lib.Ieee.{Float, inf, neg, le, lt}
+use Rattle.double.specs.rules.Operations.{bits, zero}
+use Rattle.double.specs.rules.Sign.{bearsMinus, size}
+use Rattle.double.specs.rules.Whole.{wholePart, fromWhole}
+use Rattle.double.specs.rules.Pattern.{patternOf}
+
+-- −0 taken as +0
+abbrev pub bearsMinusBelowZero : Float → Bool
+bearsMinusBelowZero x = lt x zero
+
+abbrev pub negatedUnless : Bool → Float → Float
+negatedUnless flag x = cond flag x (neg x)
+
+-- −0 kept
+abbrev pub sizeOfBelowZero : Float → Float
+sizeOfBelowZero x = cond (lt x zero) (neg x) x
+
+-- the smaller of x and −x
+abbrev pub sizeBelowZero : Float → Float
+sizeBelowZero x = cond (bearsMinus x) x (neg x)
+
+-- the infinities too
+abbrev pub finiteToInfinity : Float → Bool
+finiteToInfinity x = le (size x) (inf false)
+
+-- one less where the number is too large
+abbrev pub wholePartCapped : Float → ℕ
+wholePartCapped x = cond (lt x (fromWhole (2 ^ 64))) (wholePart x) (2 ^ 64 - 2)
+
+-- the top bit lost
+abbrev pub fromLowBits : ℕ → Float
+fromLowBits n = fromWhole (n % 2 ^ 63)
+
+-- −0 as +0
+abbrev pub patternOfSize : Float → ℕ
+patternOfSize x = patternOf (size x)
+
+-- the double below the greatest
+abbrev pub belowGreatest : Float
+belowGreatest = bits 0x7feffffffffffffe

@@ -1,0 +1,11 @@
+-- What a theorem opens that works rules out at stated inputs: sine, cosine and tangent, over answers and doubles.
+use Prim.Native.Nat.{ℕ}
+use Rattle.quantity.specs.notions.Computed as quantity
+use Rattle.elementary.specs.rules.Fold.{fold}
+use Rattle.elementary.specs.rules.Sine.{quarterTurn, foldedSine, foldedCosine, turnOf, sineRule, cosineRule, tangentRule}
+use Rattle.elementary.specs.rules.Direction.{directionOf}
+
+-- a name for the line below it, which is what counts
+unfoldable pub computed : ℕ
+unfolding quantity.computed fold quarterTurn foldedSine foldedCosine turnOf sineRule cosineRule tangentRule directionOf
+computed = 0

@@ -1,0 +1,10 @@
+-- What a theorem opens that works rules out at stated inputs: the helpers, over the elementary functions.
+use Prim.Native.Nat.{ℕ}
+use Rattle.elementary_arc.specs.notions.Computed as elementary
+use Rattle.helpers.specs.rules.Angle.{limited}
+use Rattle.helpers.specs.rules.Earth.{rhoIn}
+
+-- a name for the line below it, which is what counts
+unfoldable pub computed : ℕ
+unfolding elementary.computed limited rhoIn
+computed = 0

@@ -1,0 +1,67 @@
+-- Wrong variants of the stored list.
+use Prim.Native.Nat.{ℕ, suc, _+_, _*_, _%_}
+use mathlib.Core.Bool.{Bool, cond, _&&_}
+use mathlib.Core.List.{List, [], _∷_}
+use lib.Dec.{eqb, leb, ltb}
+use lib.IntN.{natAbs}
+use lib.ListN.{length, getD}
+use Rattle.quantity.specs.rules.Answer.{Answer, answered, refused}
+use Rattle.signed.specs.rules.Signed.{signedOf}
+use Rattle.list.specs.declared.Star.{Star}
+use Rattle.list.specs.rules.Record.{width, starAt, turn, quarter}
+use Rattle.list.specs.rules.Stars.{mostStars, isList, stars, nth}
+use Rattle.list.specs.rules.Reader.{Sight, sight, none, isPlace}
+use Rattle.list.specs.rules.Find.{Entry, indexOf, entry, entryAt}
+
+-- ---- a star, and a list
+
+-- a whole turn itself
+abbrev pub wholeTurnInRange : Star → Bool
+wholeTurnInRange r = leb (r .asc) turn && leb (natAbs (r .dec)) quarter
+
+abbrev pub oneStarTooMany : List ℕ → Bool
+oneStarTooMany s = leb (length s) (width * suc mostStars) && eqb (length s % width) 0
+
+-- the bytes after the last whole record
+abbrev pub partRecordsCounted : List ℕ → ℕ
+partRecordsCounted s = length s % width
+
+-- ---- the reader
+
+-- with another test of the place, and another star
+abbrev reading : (List ℕ → ℕ → Bool) → (List ℕ → ℕ → Star) → List ℕ → ℕ → Answer Sight
+reading accepts star s at =
+    cond (isList s && accepts s at)
+    (answered (cond (ltb at (length s)) (sight (star s at) (at + width)) none))
+    (refused 8)
+
+abbrev pub endRefused : List ℕ → ℕ → Answer Sight
+endRefused = reading (λ (s : List ℕ) (at : ℕ). ltb at (length s) && eqb (at % width) 0) starAt
+
+-- the high byte first
+abbrev bigEndian : List ℕ → ℕ → ℕ
+bigEndian s at = getD s (at + 3) 0 + 256 * getD s (at + 2) 0 + 65536 * getD s (at + 1) 0 + 16777216 * getD s at 0
+
+abbrev pub bigEndianRead : List ℕ → ℕ → Answer Sight
+bigEndianRead =
+    reading isPlace
+    (λ (s : List ℕ) (at : ℕ).
+    record { number = bigEndian s at; asc = bigEndian s (at + 4); dec = signedOf (bigEndian s (at + 8)) })
+
+-- ---- find
+
+-- the last star with the number
+abbrev lastIndexOf : ℕ → List Star → ℕ
+lastIndexOf number [] = 0
+lastIndexOf number (r ∷ rs) =
+    cond (ltb (lastIndexOf number rs) (length rs)) (suc (lastIndexOf number rs))
+    (cond (eqb (r .number) number) 0 (suc (length rs)))
+
+abbrev pub lastNumberFound : List ℕ → ℕ → Answer Entry
+lastNumberFound s number = cond (isList s) (entryAt (stars s) (lastIndexOf number (stars s))) (refused 8)
+
+-- 9 where no star has the number
+abbrev pub nineBeforeTen : List ℕ → ℕ → Answer Entry
+nineBeforeTen s number =
+    let i = indexOf number (stars s) in
+    cond (isList s) (cond (ltb i (length (stars s))) (entry i (nth s i)) (refused 9)) (refused 8)

@@ -1,0 +1,2 @@
+-- What is proved of topocentric ecliptic coordinates, for callers to cite. Theorems only.
+pub mod Wrong

@@ -1,0 +1,37 @@
+-- Wrong variants of precession of the ecliptic.
+use mathlib.Core.Bool.{cond}
+use lib.Ieee.{Float, eq}
+use Rattle.double.specs.rules.Operations.{zero, _⊕_, _⊖_}
+use Rattle.quantity.specs.declared.Rad.{Rad}
+use Rattle.quantity.specs.rules.Answer.{Answer, answered, Pair, Triple, triple, unless, with, then}
+use Rattle.elementary.specs.rules.Fold.{fold}
+use Rattle.precess.specs.rules.Days.{placeRefusal}
+use Rattle.precess_ecl.specs.rules.Ecliptic.{eclTurnsOf, eclTurnedIn}
+use Rattle.precess_ecl.specs.rules.Orbit.{leanedOf, newInclination, newNode, orbitFrom, orbitRefusal, precessOrbElementsRule}
+
+-- ---- ecliptic coordinates
+
+-- Pi in its place
+abbrev pub eclipticLongitudeWithoutRho : Rad → Rad → Float → Float → Answer Pair
+eclipticLongitudeWithoutRho long lat day1 day2 =
+    let t = eclTurnsOf day1 day2 in
+    unless (placeRefusal long lat day1 day2)
+    (eclTurnedIn long lat (record { nu = t .nu; sine = t .sine; cosine = t .cosine; pi = t .pi; rho = t .pi }))
+
+-- ---- orbital elements
+
+-- where the old inclination is zero
+abbrev pub nodeWithoutHalfATurn : Rad → Rad → Rad → Float → Float → Answer Triple
+nodeWithoutHalfATurn inc perih node day1 day2 =
+    let turns = eclTurnsOf day1 day2 in
+    let n = fold (record { 0 = node .0 ⊖ turns .pi }) in
+    let l = leanedOf (fold inc) n turns in
+    let new = cond (eq (inc .0) zero) (answered (turns .pi ⊕ turns .rho)) (newNode inc l turns) in
+    unless (orbitRefusal inc perih node day1 day2)
+    (then (newInclination inc l turns) (λ (i : Float). orbitFrom i new perih n turns))
+
+abbrev traded : Triple → Triple
+traded (triple i w x) = triple i x w
+
+abbrev pub perihelionAndNodeTraded : Rad → Rad → Rad → Float → Float → Answer Triple
+perihelionAndNodeTraded inc perih node day1 day2 = with traded (precessOrbElementsRule inc perih node day1 day2)

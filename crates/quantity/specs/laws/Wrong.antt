@@ -1,0 +1,82 @@
+-- Wrong variants are excluded: each differs from the rule at the input stated. Assumes nothing.
+use mathlib.Core.Path.{refl}
+use mathlib.Core.Bool.{false}
+use std.Logic.{_≢_}
+use lib.Ieee.{inf}
+use Rattle.double.specs.rules.Operations.{bits, one, two}
+use Rattle.double.specs.rules.Table.{decimal}
+use Rattle.double.specs.notions.Code.{ofNumber}
+use Rattle.double.specs.laws.Apart.{apart}
+use Rattle.quantity.specs.rules.Answer.{answered, plus, addedTo, takenFrom, both}
+use Rattle.quantity.specs.rules.Refusal.{lower, past, numberRefusal, dayRefusal, angleRefusal, latitudeRefusal, steepRefusal, distanceRefusal, heightRefusal, nearest}
+use Rattle.quantity.specs.notions.Computed.{computed}
+use Rattle.quantity.specs.notions.Code.{ofFloat, ofPair, ofAnswer}
+use Rattle.quantity.specs.notions.Wrong.{plusTakesAway, addedToDropsTheNumber, takenFromTheOtherWay, bothTraded, lowerIsHigher, numberLetsInfinityIn, pastTakesTheLimitIn, dayLimitOff, angleLimitOff, steepestOff, steepLimitOff, distanceLimitOff, everyAngleRefused, latitudeLimitIsAnAngles, heightFromTheSea}
+use Rattle.quantity.specs.notions.Stated.{rad}
+
+-- ---- what is done with answers
+
+pub plus-takes-away-excluded : plusTakesAway (answered one) one ≢ plus (answered one) one
+unfolding computed
+plus-takes-away-excluded = apart (ofAnswer ofFloat) refl
+
+pub added-to-drops-the-number-excluded : addedToDropsTheNumber one (answered one) ≢ addedTo one (answered one)
+unfolding computed
+added-to-drops-the-number-excluded = apart (ofAnswer ofFloat) refl
+
+pub taken-from-the-other-way-excluded : takenFromTheOtherWay one (answered two) ≢ takenFrom one (answered two)
+unfolding computed
+taken-from-the-other-way-excluded = apart (ofAnswer ofFloat) refl
+
+pub both-traded-excluded : bothTraded (answered one) (answered two) ≢ both (answered one) (answered two)
+unfolding computed
+both-traded-excluded = apart (ofAnswer ofPair) refl
+
+-- ---- refusals
+
+pub lower-is-higher-excluded : lowerIsHigher 1 3 ≢ lower 1 3
+lower-is-higher-excluded = apart ofNumber refl
+
+pub number-lets-infinity-in-excluded : numberLetsInfinityIn (inf false) ≢ numberRefusal (inf false)
+unfolding computed
+number-lets-infinity-in-excluded = apart ofNumber refl
+
+pub past-takes-the-limit-in-excluded : pastTakesTheLimitIn one one 3 ≢ past one one 3
+unfolding computed
+past-takes-the-limit-in-excluded = apart ofNumber refl
+
+-- the next double above 3182045.0
+pub day-limit-off-excluded : dayLimitOff (bits 0x414846ee80000001) ≢ dayRefusal (bits 0x414846ee80000001)
+unfolding computed
+day-limit-off-excluded = apart ofNumber refl
+
+-- the next double above 64.0
+pub angle-limit-off-excluded : angleLimitOff (rad (bits 0x4050000000000001)) ≢ angleRefusal (rad (bits 0x4050000000000001))
+unfolding computed
+angle-limit-off-excluded = apart ofNumber refl
+
+pub steep-limit-off-excluded : steepLimitOff (rad steepestOff) ≢ steepRefusal (rad steepestOff)
+unfolding computed
+steep-limit-off-excluded = apart ofNumber refl
+
+-- nor can rule and code move together: 1.57 is the paper's decimal
+pub steepest-off-excluded : steepestOff ≢ decimal 157 2
+unfolding computed
+steepest-off-excluded = apart ofFloat refl
+
+pub distance-limit-off-excluded : distanceLimitOff nearest ≢ distanceRefusal nearest
+unfolding computed
+distance-limit-off-excluded = apart ofNumber refl
+
+pub every-angle-refused-excluded : everyAngleRefused (rad one) ≢ angleRefusal (rad one)
+unfolding computed
+every-angle-refused-excluded = apart ofNumber refl
+
+pub latitude-limit-is-an-angles-excluded : latitudeLimitIsAnAngles (rad two) ≢ latitudeRefusal (rad two)
+unfolding computed
+latitude-limit-is-an-angles-excluded = apart ofNumber refl
+
+-- one metre below the sea
+pub height-from-the-sea-excluded : heightFromTheSea (bits 0xbff0000000000000) ≢ heightRefusal (bits 0xbff0000000000000)
+unfolding computed
+height-from-the-sea-excluded = apart ofNumber refl

@@ -1,0 +1,6 @@
+-- What theorems on answers and refusals speak of, and no promise mentions. Definitions only.
+pub mod Computed
+pub mod Code
+pub mod Stated
+pub mod Varies
+pub mod Wrong

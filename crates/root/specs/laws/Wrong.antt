@@ -1,0 +1,103 @@
+-- Wrong variants are excluded: each differs from the rule at the input stated. The rule varies: a library that refuses everything, or
+-- answers a constant, does not meet it. Assumes nothing.
+use mathlib.Core.Path.{refl}
+use mathlib.Core.Bool.{false}
+use std.Logic.{_≢_}
+use lib.Dec.{ltb→lt, lt→ltb}
+use lib.Ieee.{Float, inf, neg, fits}
+use Rattle.double.specs.rules.Operations.{bits, one, two}
+use Rattle.double.specs.notions.Code.{ofNumber}
+use Rattle.double.specs.notions.Greatest.{greatest}
+use Rattle.double.specs.notions.Stated.{minusZero}
+use Rattle.double.specs.laws.Apart.{apart}
+use Rattle.quantity.specs.rules.Answer.{answered, refused}
+use Rattle.quantity.specs.notions.Code.{ofFloat, ofAnswer}
+use Rattle.quantity.specs.notions.Varies.{Varies}
+use Rattle.root.specs.rules.Whole.{mended}
+use Rattle.root.specs.rules.Root.{rootOf, rootRule}
+use Rattle.root.specs.notions.Computed.{computed}
+use Rattle.root.specs.notions.Wrong.{infinityLetIn, largestRefused, least, leastBelowZeroLetIn, wrongNumber, zeroLosesSign, cutNotRounded, oddTwoLost, subnormalExponent, oneDigitFewer, mendedByTwo, perfectSquareMended, MidpointWrong}
+
+-- 3.0, 4.0 and 5.0
+abbrev three : Float
+three = bits 0x4008000000000000
+
+abbrev four : Float
+four = bits 0x4010000000000000
+
+abbrev five : Float
+five = bits 0x4014000000000000
+
+pub root-varies : Varies (rootRule one) (rootRule four)
+unfolding computed
+root-varies = record { here = refl; there = refl; apart = apart (ofAnswer ofFloat) refl }
+
+-- ---- refusals
+
+pub infinity-let-in-excluded : infinityLetIn (inf false) ≢ rootRule (inf false)
+unfolding computed
+infinity-let-in-excluded = apart (ofAnswer ofFloat) refl
+
+pub largest-refused-excluded : largestRefused greatest ≢ rootRule greatest
+unfolding computed
+largest-refused-excluded = apart (ofAnswer ofFloat) refl
+
+pub least-below-zero-let-in-excluded : leastBelowZeroLetIn least ≢ rootRule least
+unfolding computed
+least-below-zero-let-in-excluded = apart (ofAnswer ofFloat) refl
+
+-- nor can rule and code move together: section 2 refuses what is below zero by 5
+pub least-below-zero-let-in-by-rule-excluded : leastBelowZeroLetIn least ≢ refused 5
+unfolding computed
+least-below-zero-let-in-by-rule-excluded = apart (ofAnswer ofFloat) refl
+
+pub wrong-number-excluded : wrongNumber (neg one) ≢ rootRule (neg one)
+unfolding computed
+wrong-number-excluded = apart (ofAnswer ofFloat) refl
+
+-- ---- what is not above zero
+
+pub zero-loses-sign-excluded : zeroLosesSign minusZero ≢ rootRule minusZero
+unfolding computed
+zero-loses-sign-excluded = apart (ofAnswer ofFloat) refl
+
+-- nor can rule and code move together: the root of −0 is −0
+pub zero-positive-excluded : zeroLosesSign minusZero ≢ answered minusZero
+unfolding computed
+zero-positive-excluded = apart (ofAnswer ofFloat) refl
+
+-- ---- the pattern of what is above zero
+
+pub cut-not-rounded-excluded : cutNotRounded two ≢ rootRule two
+unfolding computed
+cut-not-rounded-excluded = apart (ofAnswer ofFloat) refl
+
+pub odd-two-lost-excluded : oddTwoLost two ≢ rootRule two
+unfolding computed
+odd-two-lost-excluded = apart (ofAnswer ofFloat) refl
+
+-- at the least double above zero
+pub subnormal-exponent-excluded : subnormalExponent (bits 1) ≢ rootRule (bits 1)
+unfolding computed
+subnormal-exponent-excluded = apart (ofAnswer ofFloat) refl
+
+-- ---- the digits
+
+pub one-digit-fewer-excluded : oneDigitFewer two ≢ rootRule two
+unfolding computed
+one-digit-fewer-excluded = apart (ofAnswer ofFloat) refl
+
+pub mended-by-two-excluded : mendedByTwo five ≢ rootRule five
+unfolding computed
+mended-by-two-excluded = apart (ofAnswer ofFloat) refl
+
+-- the first digits of 1's root: of 64, after 8
+pub perfect-square-mended-excluded : perfectSquareMended 8 0 0 ≢ mended 8 0 0
+perfect-square-mended-excluded = apart ofNumber refl
+
+-- ---- the nearest double
+
+pub midpoint-wrong-excluded : ¬ (MidpointWrong four (rootOf four))
+unfolding computed fits
+midpoint-wrong-excluded wrong =
+    lt→ltb _ _ (wrong .above three (record { held = tt; finite = refl; plus = refl }) (ltb→lt _ _ tt))
