@@ -9,21 +9,23 @@
  *    0   answered
  *    1   an argument is NaN or infinite
  *    2   a day is more than 730500.0 from 2451545.0
- *    3   an angle exceeds 64.0 in size; a declination, altitude, observer or frame latitude exceeds a quarter turn
+ *    3   an angle exceeds 64.0 in size (deg_frm_dms, deg_frm_hms, to_radians and both limit_to_.. excepted, which take
+ *        every finite number); a declination, altitude, observer or frame latitude exceeds a quarter turn
  *        (1.5707963267948966) in size; for sine, cosine and tangent called alone: exceeds 400000.0
  *    4   an angle that goes into a tangent, or whose cosine divides, exceeds 1.57 in size
  *    5   a distance outside 0.0001 to 1000000.0 AU, a height outside -1000.0 to 100000.0 m, the root of a number below 0
  *    6   the sine of the new inclination, or N in topopcent_ecl_coords, is zero
  *    7   the argument of an arcsine exceeds 1 in size
- *    8   list bytes not a multiple of 12, more than 60000, a lent slice too short, or a bad place in the list
- *    9   a star record out of range
+ *    8   list bytes not a multiple of 12, or more than 60000; a lent slice shorter than the star count; a place past the
+ *        end of the list or not at a record's start (the end itself is accepted); a count to be raised already at 60000
+ *    9   a star record out of range; a status given to the tally that is neither 0 nor a number of this table (before 8)
  *   10   no star has the number sought
  * 1 to 5 are tested first, lowest number first, over all arguments; the others as the work meets them.
  * Limits themselves are accepted.
  *
  * Units: angles in radians, unless degrees are named; days are Julian (Ephemeris) days; distances in astronomical units;
- * heights in metres above sea level. Azimuth is counted from south, west positive. Geographical longitude is positive
- * west of Greenwich, latitude positive north.
+ * heights in metres above sea level. Azimuth is counted from south, west positive: the true heading, from north and
+ * clockwise, is azimuth plus half a turn. Geographical longitude is positive west of Greenwich, latitude positive north.
  * Meeus: J. Meeus, Astronomical Algorithms, 2nd edition.
  *
  * The archive is x86-64 code; link with -lbrundelak -lm.
