@@ -1,3 +1,4 @@
 -- What is proved of the boundary. Theorems only.
 pub mod Stored
+pub mod Unique
 pub mod Wrong

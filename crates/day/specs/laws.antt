@@ -1,3 +1,4 @@
 -- What is proved of a day in decimal, for callers to cite. Theorems only.
 pub mod Day
+pub mod Unique
 pub mod Wrong

@@ -1,5 +1,5 @@
 -- Texts written one after the other are their join, and a text that has room stands whole between what was there. Assumes nothing.
-use mathlib.Core.Path.{_≡_, refl, ap, _∙_, subst}
+use mathlib.Core.Path.{_≡_, refl, sym, ap, _∙_, subst}
 use mathlib.Core.List.{List, [], _∷_, _++_}
 use Prim.Native.Nat.{ℕ, zero, suc, _+_, _≤_, _<_, min}
 use native.Mathlib.Omega.{arith}
@@ -82,3 +82,7 @@ module _ {A : Type 0} where
   whole (x ∷ old) zero (b ∷ t) h =
       ap (λ (l : List A). b ∷ l) (whole old zero t (omega arith))
       ∙ ap (λ (n : ℕ). b ∷ (t ++ drop n (x ∷ old))) (let e : suc (0 + length t) ≡ 0 + suc (length t) = omega arith in e)
+
+  -- a writer's promise fixes what it leaves and the place that it answers
+  pub one-written : {old t new new′ : List A} {at next next′ : ℕ} → Wrote old at t new next → Wrote old at t new′ next′ → (new ≡ new′) × (next ≡ next′)
+  one-written w v = (w .text ∙ sym (v .text), w .place ∙ sym (v .place))

@@ -7,7 +7,7 @@ use Rattle.domain.proofs.angle.deg_frm_dms.Statement.{statement}
 use Rattle.domain.proofs.angle.deg_frm_dms.Tie as tie
 
 returns : tie.Need-returns
-returns c = deg-frm-dms-call _ (subst T (sym (c .before .good .0 .1)) tt) (c .deg-frm-dms .result) (c .deg-frm-dms .ensures)
+returns c = (c .deg-frm-dms .ensures, deg-frm-dms-call _ (subst T (sym (c .before .good .0 .1)) tt) (c .deg-frm-dms .result) (c .deg-frm-dms .ensures))
 
 pub deg-frm-dms-spec : {M : Type 1} → statement M
 deg-frm-dms-spec = tie.close (tie.spec asks-nothing returns)

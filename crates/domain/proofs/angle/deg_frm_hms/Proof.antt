@@ -7,7 +7,7 @@ use Rattle.domain.proofs.angle.deg_frm_hms.Statement.{statement}
 use Rattle.domain.proofs.angle.deg_frm_hms.Tie as tie
 
 returns : tie.Need-returns
-returns c = deg-frm-hms-call _ (subst T (sym (c .before .good .0 .1)) tt) (c .deg-frm-hms .result) (c .deg-frm-hms .ensures)
+returns c = (c .deg-frm-hms .ensures, deg-frm-hms-call _ (subst T (sym (c .before .good .0 .1)) tt) (c .deg-frm-hms .result) (c .deg-frm-hms .ensures))
 
 pub deg-frm-hms-spec : {M : Type 1} → statement M
 deg-frm-hms-spec = tie.close (tie.spec asks-nothing returns)

@@ -7,7 +7,7 @@ use Rattle.domain.proofs.angle.to_radians.Statement.{statement}
 use Rattle.domain.proofs.angle.to_radians.Tie as tie
 
 returns : tie.Need-returns
-returns c = to-radians-call _ (subst T (sym (c .before .good .0 .1 .1 .0 .1)) tt) (c .to-radians .result) (c .to-radians .ensures)
+returns c = (c .to-radians .ensures, to-radians-call _ (subst T (sym (c .before .good .0 .1 .1 .0 .1)) tt) (c .to-radians .result) (c .to-radians .ensures))
 
 pub to-radians-spec : {M : Type 1} → statement M
 to-radians-spec = tie.close (tie.spec asks-nothing returns)

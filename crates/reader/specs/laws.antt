@@ -1,0 +1,2 @@
+-- What is proved of the reader. Theorems only.
+pub mod Unique
