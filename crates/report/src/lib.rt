@@ -14,6 +14,9 @@ use tally::Tally;
 // Bytes of the longest report, at most: a hundred a star, and those of the tally.
 pub const ROOM: usize = 240 + 100 * list::MOST_STARS;
 
+// How many statuses are known.
+const KNOWN: usize = tally::HIGHEST as usize + 1;
+
 // ---- the list
 
 // Byte i of a slice; past its end 0.
@@ -94,7 +97,7 @@ fn put_counts(out: &mut [u8], at: usize, counts: &[u32; 20]) -> usize
 {
     let mut place = lent::within(at, out.len());
     let mut k: usize = 0;
-    while k < 11 {
+    while k < KNOWN {
         place = put_count(out, place, counts[k]);
         k += 1;
     }

@@ -1,5 +1,6 @@
 -- Condition 3 of the functions: what holds of the rules holds of any answers that meet the functions' contracts. Assumes nothing.
-use mathlib.Core.Path.{_≡_}
+use Prim.Native.Nat.{ℕ}
+use mathlib.Core.Path.{_≡_, sym, ap, _∙_}
 use mathlib.Core.Bool.{true, false}
 use lib.Ieee.{Float, neg}
 use Rattle.double.specs.rules.Operations.{_⊖_}
@@ -7,16 +8,17 @@ use Rattle.double.specs.rules.Sign.{bearsMinus, size}
 use Rattle.double.specs.rules.Order.{_≼_, NonZero}
 use Rattle.quantity.specs.declared.Rad.{Rad}
 use Rattle.quantity.specs.declared.One.{One}
-use Rattle.quantity.specs.declared.One.the-variants.{Is}
+use Rattle.quantity.specs.declared.One.the-variants.{Is, Refused}
 use Rattle.quantity.specs.rules.Angle.{PI, HALF, opposite}
 use Rattle.quantity.specs.rules.Answer.{shown, with}
+use Rattle.quantity.specs.laws.Answer.{shown-loses-nothing}
 use Rattle.elementary.specs.rules.Sine.{sineOf}
 use Rattle.coords.specs.rules.Horizon.{southward, azFrmEqRule, altFrmEqRule}
 use Rattle.coords_ecl.specs.rules.Ecliptic.{eclLongSum, eclLongFrmEqRule, eclLatSum, eclLatFrmEqRule}
 use Rattle.conditions.specs.laws.Answers.{answered-by, mirrored, unchanged}
 use Rattle.conditions.specs.laws.Azimuth.{azimuth-sign, azimuth-at-most-quarter-turn, azimuth-at-least-quarter-turn}
 use Rattle.conditions.specs.laws.HourAngle.{azimuth-hour, altitude-hour}
-use Rattle.conditions.specs.laws.Declination.{altitude-declination, azimuth-sign-stays, azimuth-size-there, azimuth-size-here}
+use Rattle.conditions.specs.laws.Declination.{altitude-declination, azimuth-refused-there, azimuth-refused-here, azimuth-sign-stays, azimuth-size-there, azimuth-size-here}
 use Rattle.conditions.specs.laws.RightAscension.{longitude-mirror, latitude-mirror}
 
 -- ---- azimuth answers v
@@ -42,6 +44,16 @@ module _ (h d p : Rad) (r s : One) where
 
   pub alt-frm-eq-declination : shown r ≡ altFrmEqRule h d p → shown s ≡ altFrmEqRule h (opposite d) (opposite p) → s ≡ r
   alt-frm-eq-declination = unchanged (altitude-declination h d p) r s
+
+  -- refused alike
+  module _ (meets : shown r ≡ azFrmEqRule h d p) (meets' : shown s ≡ azFrmEqRule h (opposite d) (opposite p)) (n : ℕ) where
+    pub az-frm-eq-declination-refused-there : r ≡ Refused n → s ≡ Refused n
+    az-frm-eq-declination-refused-there is =
+        shown-loses-nothing s (Refused n) (meets' ∙ azimuth-refused-there h d p n (sym meets ∙ ap shown is))
+
+    pub az-frm-eq-declination-refused-here : s ≡ Refused n → r ≡ Refused n
+    az-frm-eq-declination-refused-here is =
+        shown-loses-nothing r (Refused n) (meets ∙ azimuth-refused-here h d p n (sym meets' ∙ ap shown is))
 
   module _ (not-zero : NonZero (southward h d p)) (v w : Float) (meets : shown r ≡ azFrmEqRule h d p) (is : r ≡ Is v) (meets' : shown s ≡ azFrmEqRule h (opposite d) (opposite p)) (is' : s ≡ Is w) where
     pub az-frm-eq-declination-sign : bearsMinus w ≡ bearsMinus v

@@ -1,21 +1,22 @@
 -- `report::put_counts` meets its contract: after k turns the first k counts are written. Assumes nothing.
 use borrow.Author.Needs.{needs}
 use mathlib.Core.Path.{_≡_, ap, sym}
-use Prim.Native.Nat.{ℕ, _-_, _≤_}
+use Prim.Native.Nat.{ℕ, _+_, _-_, _≤_}
 use native.Mathlib.Numerals.{add-one}
 use native.Mathlib.Omega.{arith}
 use Rattle.double.specs.laws.Calls.{asks-nothing}
 use Rattle.lent.specs.rules.Writing.{Wrote}
 use Rattle.lent.specs.laws.Writing.{after, same, nothing, kept}
+use Rattle.tally.specs.rules.Tally.{highest}
 use Rattle.report.specs.rules.Report.{texts, countAt}
 use Rattle.report.proofs.put_counts.Statement.{statement}
 use Rattle.report.proofs.put_counts.Tie as tie
 
 abbrev Inv-loop : tie.InvT-loop
-Inv-loop out₀ at counts place₀ k₀ out place k = (k ≤ 11) × Wrote out₀ at (texts k (countAt counts)) out place
+Inv-loop out₀ at counts place₀ k₀ out place k = (k ≤ highest + 1) × Wrote out₀ at (texts k (countAt counts)) out place
 
 abbrev μ-loop : tie.MeasureT-loop
-μ-loop out₀ at counts place₀ k₀ out place k = 11 - k
+μ-loop out₀ at counts place₀ k₀ out place k = highest + 1 - k
 
 loop-holds : tie.Need-loop-holds Inv-loop μ-loop
 loop-holds c = (search needs, nothing _ _ _ (c .within .ensures))
@@ -44,7 +45,7 @@ same-length c = kept (c .before .loop .inv .1)
 returns : tie.Need-returns Inv-loop μ-loop
 returns c =
     let counts = c .before .before .before .before .args .counts .now in
-    let end : c .before .loop .k ≡ 11 = omega arith in
+    let end : c .before .loop .k ≡ highest + 1 = omega arith in
     same (ap (λ (n : ℕ). texts n (countAt counts)) end) (c .before .loop .inv .1)
 
 pub put-counts-spec : {M : Type 1} → statement M

@@ -31,7 +31,7 @@ tally-short : (t : Tally) → length (tallyText t) ≤ 240
 unfolding tallyText
 tally-short t =
     let counts = texts (highest + 1) (countAt (t .counts)) in
-    omega (arith, length-append tallyWord (counts ++ lineEnd), length-append counts lineEnd, texts-short 21 11 (countAt (t .counts)) (λ (k : ℕ). count-short _))
+    omega (arith, length-append tallyWord (counts ++ lineEnd), length-append counts lineEnd, texts-short 21 (highest + 1) (countAt (t .counts)) (λ (k : ℕ). count-short _))
 
 -- ---- the whole
 
