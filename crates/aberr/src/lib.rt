@@ -1,7 +1,7 @@
 // Aberration (section 4), of the Sun and of a star. Angles are in radians. The Earth's velocity stands in aberr_velocity.
 // Rules: specs/rules, in reading order in specs/rules.antt.
 ghost use mathlib.Core.Path.{_≡_};
-ghost use Rattle.quantity.specs.rules.Answer.{shown, shownTwo};
+ghost use Rattle.quantity.specs.rules.Answer.{shownTwo, shownRadians};
 ghost use Rattle.aberr.specs.rules.Sun.{solAberrOf, solAberrRule};
 ghost use Rattle.aberr.specs.rules.Star.{aberrAt, stellAberrRefusal, stellAberrInEqCoordsIn, stellAberrInEqCoordsRule};
 use aberr_rows::Velocity;
@@ -9,29 +9,29 @@ use elementary::Direction;
 use helpers::angle;
 use quantity::Deg;
 use quantity::EqPoint;
-use quantity::One;
 use quantity::Rad;
+use quantity::Radians;
 use quantity::Shift;
 use quantity::Two;
 
 // ---- the Sun (Meeus, chapter 25)
 
 // Solar aberration of a distance that is not refused.
-fn sol_aberr_of(dist: f64) -> f64
+fn sol_aberr_of(dist: f64) -> Rad
     ensures { λ r. ⌜ r ≡ solAberrOf dist ⌝ }
 {
-    -angle::radians(Deg(20.4898 / 3600.0)).0 / dist
+    Rad(-angle::radians(Deg(20.4898 / 3600.0)).0 / dist)
 }
 
 // Solar aberration in ecliptic longitude. Given: the Sun's distance in AU. Refusals: 1; 5.
-pub fn sol_aberr(dist: f64) -> One
-    ensures { λ r. ⌜ shown r ≡ solAberrRule dist ⌝ }
+pub fn sol_aberr(dist: f64) -> Radians
+    ensures { λ r. ⌜ shownRadians r ≡ solAberrRule dist ⌝ }
 {
     let no = quantity::distance_refusal(dist);
     if no != 0 {
-        return One::Refused(no);
+        return Radians::Refused(no);
     }
-    One::Is(sol_aberr_of(dist))
+    Radians::Are(sol_aberr_of(dist))
 }
 
 // ---- a star (Ron and Vondrák; Meeus, chapter 23)
@@ -44,8 +44,8 @@ pub fn aberr_at(d: Direction, v: Velocity) -> Shift
     ensures { λ r. ⌜ r ≡ aberrAt d v ⌝ }
 {
     Shift {
-        asc: (v.y * d.cos_asc - v.x * d.sin_asc) / (LIGHT * d.cos_dec),
-        dec: -((v.x * d.cos_asc + v.y * d.sin_asc) * d.sin_dec - v.z * d.cos_dec) / LIGHT,
+        asc: Rad((v.y * d.cos_asc - v.x * d.sin_asc) / (LIGHT * d.cos_dec)),
+        dec: Rad(-((v.x * d.cos_asc + v.y * d.sin_asc) * d.sin_dec - v.z * d.cos_dec) / LIGHT),
     }
 }
 
@@ -78,5 +78,5 @@ pub fn stell_aberr_in_eq_coords(stell_eq_point: EqPoint, day: f64) -> Two
         return Two::Refused(no);
     }
     let s = stell_aberr_in(stell_eq_point, day);
-    Two::Are(s.asc, s.dec)
+    Two::Are(s.asc.0, s.dec.0)
 }

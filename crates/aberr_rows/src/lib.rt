@@ -8,21 +8,21 @@ use quantity::Rad;
 
 // ---- the arguments
 
-// The century t, and at it the eleven arguments in radians: the longitudes of Venus to Neptune (l2 to l8) and of the Moon (l1),
+// The century t, and at it the eleven arguments: the longitudes of Venus to Neptune (l2 to l8) and of the Moon (l1),
 // and the Moon's D, M' and F.
 pub struct Arguments {
     pub t: f64,
-    pub l2: f64,
-    pub l3: f64,
-    pub l4: f64,
-    pub l5: f64,
-    pub l6: f64,
-    pub l7: f64,
-    pub l8: f64,
-    pub l1: f64,
-    pub d: f64,
-    pub m1: f64,
-    pub f: f64,
+    pub l2: Rad,
+    pub l3: Rad,
+    pub l4: Rad,
+    pub l5: Rad,
+    pub l6: Rad,
+    pub l7: Rad,
+    pub l8: Rad,
+    pub l1: Rad,
+    pub d: Rad,
+    pub m1: Rad,
+    pub f: Rad,
 }
 
 // The arguments at a century.
@@ -31,17 +31,17 @@ pub fn arguments_at(t: f64) -> Arguments
 {
     Arguments {
         t: t,
-        l2: 3.1761467 + 1021.3285546 * t,
-        l3: 1.7534703 + 628.3075849 * t,
-        l4: 6.2034809 + 334.0612431 * t,
-        l5: 0.5995465 + 52.9690965 * t,
-        l6: 0.8740168 + 21.3299095 * t,
-        l7: 5.4812939 + 7.4781599 * t,
-        l8: 5.3118863 + 3.8133036 * t,
-        l1: 3.8103444 + 8399.6847337 * t,
-        d: 5.1984667 + 7771.3771486 * t,
-        m1: 2.3555559 + 8328.6914289 * t,
-        f: 1.6279052 + 8433.4661601 * t,
+        l2: Rad(3.1761467 + 1021.3285546 * t),
+        l3: Rad(1.7534703 + 628.3075849 * t),
+        l4: Rad(6.2034809 + 334.0612431 * t),
+        l5: Rad(0.5995465 + 52.9690965 * t),
+        l6: Rad(0.8740168 + 21.3299095 * t),
+        l7: Rad(5.4812939 + 7.4781599 * t),
+        l8: Rad(5.3118863 + 3.8133036 * t),
+        l1: Rad(3.8103444 + 8399.6847337 * t),
+        d: Rad(5.1984667 + 7771.3771486 * t),
+        m1: Rad(2.3555559 + 8328.6914289 * t),
+        f: Rad(1.6279052 + 8433.4661601 * t),
     }
 }
 
@@ -108,8 +108,8 @@ fn rows_1_to_3(g: Arguments, v: Velocity) -> Velocity
     ensures { λ r. ⌜ r ≡ row3 g (row2 g (row1 g v)) ⌝ }
 {
     let t = g.t;
-    let l3 = g.l3;
-    let l5 = g.l5;
+    let l3 = g.l3.0;
+    let l5 = g.l5.0;
     let mut x = v.x;
     let mut y = v.y;
     let mut z = v.z;
@@ -142,9 +142,9 @@ fn rows_4_to_6(g: Arguments, v: Velocity) -> Velocity
     ensures { λ r. ⌜ r ≡ row6 g (row5 g (row4 g v)) ⌝ }
 {
     let t = g.t;
-    let l1 = g.l1;
-    let l3 = g.l3;
-    let l6 = g.l6;
+    let l1 = g.l1.0;
+    let l3 = g.l3.0;
+    let l6 = g.l6.0;
     let mut x = v.x;
     let mut y = v.y;
     let mut z = v.z;
@@ -176,10 +176,10 @@ fn rows_4_to_6(g: Arguments, v: Velocity) -> Velocity
 fn rows_7_to_9(g: Arguments, v: Velocity) -> Velocity
     ensures { λ r. ⌜ r ≡ row9 g (row8 g (row7 g v)) ⌝ }
 {
-    let l1 = g.l1;
-    let l5 = g.l5;
-    let m1 = g.m1;
-    let f = g.f;
+    let l1 = g.l1.0;
+    let l5 = g.l5.0;
+    let m1 = g.m1.0;
+    let f = g.f.0;
     let mut x = v.x;
     let mut y = v.y;
     let mut z = v.z;
@@ -209,9 +209,9 @@ fn rows_7_to_9(g: Arguments, v: Velocity) -> Velocity
 fn rows_10_to_12(g: Arguments, v: Velocity) -> Velocity
     ensures { λ r. ⌜ r ≡ row12 g (row11 g (row10 g v)) ⌝ }
 {
-    let l3 = g.l3;
-    let l4 = g.l4;
-    let l5 = g.l5;
+    let l3 = g.l3.0;
+    let l4 = g.l4.0;
+    let l5 = g.l5.0;
     let mut x = v.x;
     let mut y = v.y;
     let mut z = v.z;
@@ -243,9 +243,9 @@ fn rows_10_to_12(g: Arguments, v: Velocity) -> Velocity
 fn rows_13_to_15(g: Arguments, v: Velocity) -> Velocity
     ensures { λ r. ⌜ r ≡ row15 g (row14 g (row13 g v)) ⌝ }
 {
-    let l2 = g.l2;
-    let l3 = g.l3;
-    let l7 = g.l7;
+    let l2 = g.l2.0;
+    let l3 = g.l3.0;
+    let l7 = g.l7.0;
     let mut x = v.x;
     let mut y = v.y;
     let mut z = v.z;
@@ -277,9 +277,9 @@ fn rows_13_to_15(g: Arguments, v: Velocity) -> Velocity
 fn rows_16_to_18(g: Arguments, v: Velocity) -> Velocity
     ensures { λ r. ⌜ r ≡ row18 g (row17 g (row16 g v)) ⌝ }
 {
-    let l3 = g.l3;
-    let l5 = g.l5;
-    let l8 = g.l8;
+    let l3 = g.l3.0;
+    let l5 = g.l5.0;
+    let l8 = g.l8.0;
     let mut x = v.x;
     let mut y = v.y;
     let mut z = v.z;

@@ -37,9 +37,9 @@ const M11: f64 = -11.0;
 fn rows_19_to_21(g: Arguments, v: Velocity) -> Velocity
     ensures { λ r. ⌜ r ≡ row21 g (row20 g (row19 g v)) ⌝ }
 {
-    let l2 = g.l2;
-    let l3 = g.l3;
-    let l5 = g.l5;
+    let l2 = g.l2.0;
+    let l3 = g.l3.0;
+    let l5 = g.l5.0;
     let mut x = v.x;
     let mut y = v.y;
     let mut z = v.z;
@@ -71,9 +71,9 @@ fn rows_19_to_21(g: Arguments, v: Velocity) -> Velocity
 fn rows_22_to_24(g: Arguments, v: Velocity) -> Velocity
     ensures { λ r. ⌜ r ≡ row24 g (row23 g (row22 g v)) ⌝ }
 {
-    let l2 = g.l2;
-    let l3 = g.l3;
-    let l5 = g.l5;
+    let l2 = g.l2.0;
+    let l3 = g.l3.0;
+    let l5 = g.l5.0;
     let mut x = v.x;
     let mut y = v.y;
     let mut z = v.z;
@@ -105,10 +105,10 @@ fn rows_22_to_24(g: Arguments, v: Velocity) -> Velocity
 fn rows_25_to_27(g: Arguments, v: Velocity) -> Velocity
     ensures { λ r. ⌜ r ≡ row27 g (row26 g (row25 g v)) ⌝ }
 {
-    let l2 = g.l2;
-    let l3 = g.l3;
-    let l4 = g.l4;
-    let l6 = g.l6;
+    let l2 = g.l2.0;
+    let l3 = g.l3.0;
+    let l4 = g.l4.0;
+    let l6 = g.l6.0;
     let mut x = v.x;
     let mut y = v.y;
     let mut z = v.z;
@@ -140,11 +140,11 @@ fn rows_25_to_27(g: Arguments, v: Velocity) -> Velocity
 fn rows_28_to_30(g: Arguments, v: Velocity) -> Velocity
     ensures { λ r. ⌜ r ≡ row30 g (row29 g (row28 g v)) ⌝ }
 {
-    let l1 = g.l1;
-    let l2 = g.l2;
-    let l3 = g.l3;
-    let d = g.d;
-    let m1 = g.m1;
+    let l1 = g.l1.0;
+    let l2 = g.l2.0;
+    let l3 = g.l3.0;
+    let d = g.d.0;
+    let m1 = g.m1.0;
     let mut x = v.x;
     let mut y = v.y;
     let mut z = v.z;
@@ -176,10 +176,10 @@ fn rows_28_to_30(g: Arguments, v: Velocity) -> Velocity
 fn rows_31_to_33(g: Arguments, v: Velocity) -> Velocity
     ensures { λ r. ⌜ r ≡ row33 g (row32 g (row31 g v)) ⌝ }
 {
-    let l2 = g.l2;
-    let l3 = g.l3;
-    let l4 = g.l4;
-    let l5 = g.l5;
+    let l2 = g.l2.0;
+    let l3 = g.l3.0;
+    let l4 = g.l4.0;
+    let l5 = g.l5.0;
     let mut x = v.x;
     let mut y = v.y;
     let mut z = v.z;
@@ -211,11 +211,11 @@ fn rows_31_to_33(g: Arguments, v: Velocity) -> Velocity
 fn rows_34_to_36(g: Arguments, v: Velocity) -> Velocity
     ensures { λ r. ⌜ r ≡ row36 g (row35 g (row34 g v)) ⌝ }
 {
-    let l1 = g.l1;
-    let l2 = g.l2;
-    let l3 = g.l3;
-    let l4 = g.l4;
-    let d = g.d;
+    let l1 = g.l1.0;
+    let l2 = g.l2.0;
+    let l3 = g.l3.0;
+    let l4 = g.l4.0;
+    let d = g.d.0;
     let mut x = v.x;
     let mut y = v.y;
     let mut z = v.z;

@@ -2,17 +2,17 @@
 // Rules: specs/rules, in reading order in specs/rules.antt.
 ghost use mathlib.Core.Path.{_≡_};
 ghost use lib.IntN.{pos};
-ghost use Rattle.quantity.specs.rules.Answer.{shownTwo};
-ghost use Rattle.batch.specs.rules.Star.{degreesOf, ascOf, decOf, reduceStar, statusOf, firstOf, secondOf};
+ghost use Rattle.quantity.specs.rules.Answer.{shownTwo, statusOf};
+ghost use Rattle.batch.specs.rules.Star.{degreesOf, ascOf, decOf, reduceStar, firstOf, secondOf};
 ghost use Rattle.batch.specs.rules.Batch.{batchRefusal};
 ghost use Rattle.batch.specs.rules.Batch.{Batch as Batch·Batch};
 use chain::Night;
 use helpers::angle;
 use list::Star;
+use list_tally::Tally;
 use quantity::Deg;
 use quantity::Rad;
 use quantity::Two;
-use tally::Tally;
 
 // The refusal number, where 0 is none, beside the tally of every star's status.
 pub struct Batched {

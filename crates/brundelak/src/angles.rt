@@ -1,12 +1,12 @@
 // The helpers of section 3.
-ghost use Rattle.handed.specs.rules.Boundary.{Told, ToldTwo, numberOfDegrees, numberOfRadians};
+ghost use Rattle.brundelak_handed.specs.rules.Boundary.{Told, ToldTwo, numberOfDegrees, numberOfRadians};
 ghost use Rattle.helpers.specs.rules.Angle.{degFrmDmsRule, degFrmHmsRule, toRadiansRule, limitTo360Rule, limitToTwoPIRule};
 ghost use Rattle.helpers.specs.rules.Time.{julianCentRule};
 ghost use Rattle.helpers.specs.rules.Earth.{rhoSinCosPhiRule};
-use handed::degrees_number;
-use handed::give;
-use handed::give_two;
-use handed::radians_number;
+use brundelak_handed::give;
+use brundelak_handed::give_degrees;
+use brundelak_handed::give_radians;
+use brundelak_handed::give_two;
 use quantity::Deg;
 use quantity::Rad;
 
@@ -15,7 +15,7 @@ use quantity::Rad;
 pub extern "C" fn brundelak_deg_frm_dms(seconds: f64, out: &mut f64) -> u8
     ensures { λ n. ⌜ Told (numberOfDegrees (degFrmDmsRule seconds)) n (now (out .entry)) (now (out .exit)) ⌝ }
 {
-    give(degrees_number(helpers::angle::deg_frm_dms(seconds)), out)
+    give_degrees(helpers::angle::deg_frm_dms(seconds), out)
 }
 
 // Seconds of time to degrees. Refusals: 1.
@@ -23,7 +23,7 @@ pub extern "C" fn brundelak_deg_frm_dms(seconds: f64, out: &mut f64) -> u8
 pub extern "C" fn brundelak_deg_frm_hms(seconds: f64, out: &mut f64) -> u8
     ensures { λ n. ⌜ Told (numberOfDegrees (degFrmHmsRule seconds)) n (now (out .entry)) (now (out .exit)) ⌝ }
 {
-    give(degrees_number(helpers::angle::deg_frm_hms(seconds)), out)
+    give_degrees(helpers::angle::deg_frm_hms(seconds), out)
 }
 
 // Degrees to radians. Refusals: 1.
@@ -31,7 +31,7 @@ pub extern "C" fn brundelak_deg_frm_hms(seconds: f64, out: &mut f64) -> u8
 pub extern "C" fn brundelak_to_radians(x: f64, out: &mut f64) -> u8
     ensures { λ n. ⌜ Told (numberOfRadians (toRadiansRule (record { 0 = x }))) n (now (out .entry)) (now (out .exit)) ⌝ }
 {
-    give(radians_number(helpers::angle::to_radians(Deg(x))), out)
+    give_radians(helpers::angle::to_radians(Deg(x)), out)
 }
 
 // Degrees folded into one turn. Refusals: 1.
@@ -39,7 +39,7 @@ pub extern "C" fn brundelak_to_radians(x: f64, out: &mut f64) -> u8
 pub extern "C" fn brundelak_limit_to_360(x: f64, out: &mut f64) -> u8
     ensures { λ n. ⌜ Told (numberOfDegrees (limitTo360Rule (record { 0 = x }))) n (now (out .entry)) (now (out .exit)) ⌝ }
 {
-    give(degrees_number(helpers::angle::limit_to_360(Deg(x))), out)
+    give_degrees(helpers::angle::limit_to_360(Deg(x)), out)
 }
 
 // Radians folded into one turn. Refusals: 1.
@@ -47,7 +47,7 @@ pub extern "C" fn brundelak_limit_to_360(x: f64, out: &mut f64) -> u8
 pub extern "C" fn brundelak_limit_to_two_pi(x: f64, out: &mut f64) -> u8
     ensures { λ n. ⌜ Told (numberOfRadians (limitToTwoPIRule (record { 0 = x }))) n (now (out .entry)) (now (out .exit)) ⌝ }
 {
-    give(radians_number(helpers::angle::limit_to_two_PI(Rad(x))), out)
+    give_radians(helpers::angle::limit_to_two_PI(Rad(x)), out)
 }
 
 // Centuries from 2451545.0 to a day. Refusals: 1; 2.

@@ -1,10 +1,10 @@
 // Changes of frame.
-ghost use Rattle.handed.specs.rules.Boundary.{Told};
+ghost use Rattle.brundelak_handed.specs.rules.Boundary.{Told, numberOfRadians};
 ghost use Rattle.coords.specs.rules.HourAngle.{hrAnglFrmObserverLongRule, hrAnglFrmLocSidrRule};
 ghost use Rattle.coords_ecl.specs.rules.Ecliptic.{eclLongFrmEqRule, eclLatFrmEqRule, ascFrmEclRule, decFrmEclRule};
 ghost use Rattle.coords.specs.rules.Horizon.{azFrmEqRule, altFrmEqRule, hrAnglFrmHzRule, decFrmHzRule};
 ghost use Rattle.coords_gal.specs.rules.Galactic.{galLongFrmEqRule, galLatFrmEqRule, ascFrmGalRule};
-use handed::give;
+use brundelak_handed::give_radians;
 use quantity::Rad;
 
 // The hour angle from the sidereal time at Greenwich. Refusals: 1; 3.
@@ -15,9 +15,9 @@ pub extern "C" fn brundelak_hr_angl_frm_observer_long(
     asc: f64,
     out: &mut f64,
 ) -> u8
-    ensures { λ n. ⌜ Told (hrAnglFrmObserverLongRule (record { 0 = «green_sidreal» }) (record { 0 = «observer_long» }) (record { 0 = asc })) n (now (out .entry)) (now (out .exit)) ⌝ }
+    ensures { λ n. ⌜ Told (numberOfRadians (hrAnglFrmObserverLongRule (record { 0 = «green_sidreal» }) (record { 0 = «observer_long» }) (record { 0 = asc }))) n (now (out .entry)) (now (out .exit)) ⌝ }
 {
-    give(
+    give_radians(
         coords::hr_angl_frm_observer_long(Rad(green_sidreal), Rad(observer_long), Rad(asc)),
         out,
     )
@@ -26,9 +26,9 @@ pub extern "C" fn brundelak_hr_angl_frm_observer_long(
 // The hour angle from the local sidereal time. Refusals: 1; 3.
 #[no_mangle]
 pub extern "C" fn brundelak_hr_angl_frm_loc_sidr(local_sidreal: f64, asc: f64, out: &mut f64) -> u8
-    ensures { λ n. ⌜ Told (hrAnglFrmLocSidrRule (record { 0 = «local_sidreal» }) (record { 0 = asc })) n (now (out .entry)) (now (out .exit)) ⌝ }
+    ensures { λ n. ⌜ Told (numberOfRadians (hrAnglFrmLocSidrRule (record { 0 = «local_sidreal» }) (record { 0 = asc }))) n (now (out .entry)) (now (out .exit)) ⌝ }
 {
-    give(
+    give_radians(
         coords::hr_angl_frm_loc_sidr(Rad(local_sidreal), Rad(asc)),
         out,
     )
@@ -42,9 +42,9 @@ pub extern "C" fn brundelak_ecl_long_frm_eq(
     oblq_eclip: f64,
     out: &mut f64,
 ) -> u8
-    ensures { λ n. ⌜ Told (eclLongFrmEqRule (record { 0 = asc }) (record { 0 = dec }) (record { 0 = «oblq_eclip» })) n (now (out .entry)) (now (out .exit)) ⌝ }
+    ensures { λ n. ⌜ Told (numberOfRadians (eclLongFrmEqRule (record { 0 = asc }) (record { 0 = dec }) (record { 0 = «oblq_eclip» }))) n (now (out .entry)) (now (out .exit)) ⌝ }
 {
-    give(
+    give_radians(
         coords_ecl::ecl_long_frm_eq(Rad(asc), Rad(dec), Rad(oblq_eclip)),
         out,
     )
@@ -53,9 +53,9 @@ pub extern "C" fn brundelak_ecl_long_frm_eq(
 // The ecliptic latitude. Refusals: 1; 3; 7.
 #[no_mangle]
 pub extern "C" fn brundelak_ecl_lat_frm_eq(asc: f64, dec: f64, oblq_eclip: f64, out: &mut f64) -> u8
-    ensures { λ n. ⌜ Told (eclLatFrmEqRule (record { 0 = asc }) (record { 0 = dec }) (record { 0 = «oblq_eclip» })) n (now (out .entry)) (now (out .exit)) ⌝ }
+    ensures { λ n. ⌜ Told (numberOfRadians (eclLatFrmEqRule (record { 0 = asc }) (record { 0 = dec }) (record { 0 = «oblq_eclip» }))) n (now (out .entry)) (now (out .exit)) ⌝ }
 {
-    give(
+    give_radians(
         coords_ecl::ecl_lat_frm_eq(Rad(asc), Rad(dec), Rad(oblq_eclip)),
         out,
     )
@@ -69,9 +69,9 @@ pub extern "C" fn brundelak_asc_frm_ecl(
     oblq_eclip: f64,
     out: &mut f64,
 ) -> u8
-    ensures { λ n. ⌜ Told (ascFrmEclRule (record { 0 = «ecl_long» }) (record { 0 = «ecl_lat» }) (record { 0 = «oblq_eclip» })) n (now (out .entry)) (now (out .exit)) ⌝ }
+    ensures { λ n. ⌜ Told (numberOfRadians (ascFrmEclRule (record { 0 = «ecl_long» }) (record { 0 = «ecl_lat» }) (record { 0 = «oblq_eclip» }))) n (now (out .entry)) (now (out .exit)) ⌝ }
 {
-    give(
+    give_radians(
         coords_ecl::asc_frm_ecl(Rad(ecl_long), Rad(ecl_lat), Rad(oblq_eclip)),
         out,
     )
@@ -85,9 +85,9 @@ pub extern "C" fn brundelak_dec_frm_ecl(
     oblq_eclip: f64,
     out: &mut f64,
 ) -> u8
-    ensures { λ n. ⌜ Told (decFrmEclRule (record { 0 = «ecl_long» }) (record { 0 = «ecl_lat» }) (record { 0 = «oblq_eclip» })) n (now (out .entry)) (now (out .exit)) ⌝ }
+    ensures { λ n. ⌜ Told (numberOfRadians (decFrmEclRule (record { 0 = «ecl_long» }) (record { 0 = «ecl_lat» }) (record { 0 = «oblq_eclip» }))) n (now (out .entry)) (now (out .exit)) ⌝ }
 {
-    give(
+    give_radians(
         coords_ecl::dec_frm_ecl(Rad(ecl_long), Rad(ecl_lat), Rad(oblq_eclip)),
         out,
     )
@@ -101,9 +101,9 @@ pub extern "C" fn brundelak_az_frm_eq(
     observer_lat: f64,
     out: &mut f64,
 ) -> u8
-    ensures { λ n. ⌜ Told (azFrmEqRule (record { 0 = «hour_angle» }) (record { 0 = dec }) (record { 0 = «observer_lat» })) n (now (out .entry)) (now (out .exit)) ⌝ }
+    ensures { λ n. ⌜ Told (numberOfRadians (azFrmEqRule (record { 0 = «hour_angle» }) (record { 0 = dec }) (record { 0 = «observer_lat» }))) n (now (out .entry)) (now (out .exit)) ⌝ }
 {
-    give(
+    give_radians(
         coords::az_frm_eq(Rad(hour_angle), Rad(dec), Rad(observer_lat)),
         out,
     )
@@ -117,9 +117,9 @@ pub extern "C" fn brundelak_alt_frm_eq(
     observer_lat: f64,
     out: &mut f64,
 ) -> u8
-    ensures { λ n. ⌜ Told (altFrmEqRule (record { 0 = «hour_angle» }) (record { 0 = dec }) (record { 0 = «observer_lat» })) n (now (out .entry)) (now (out .exit)) ⌝ }
+    ensures { λ n. ⌜ Told (numberOfRadians (altFrmEqRule (record { 0 = «hour_angle» }) (record { 0 = dec }) (record { 0 = «observer_lat» }))) n (now (out .entry)) (now (out .exit)) ⌝ }
 {
-    give(
+    give_radians(
         coords::alt_frm_eq(Rad(hour_angle), Rad(dec), Rad(observer_lat)),
         out,
     )
@@ -133,9 +133,9 @@ pub extern "C" fn brundelak_hr_angl_frm_hz(
     observer_lat: f64,
     out: &mut f64,
 ) -> u8
-    ensures { λ n. ⌜ Told (hrAnglFrmHzRule (record { 0 = az }) (record { 0 = alt }) (record { 0 = «observer_lat» })) n (now (out .entry)) (now (out .exit)) ⌝ }
+    ensures { λ n. ⌜ Told (numberOfRadians (hrAnglFrmHzRule (record { 0 = az }) (record { 0 = alt }) (record { 0 = «observer_lat» }))) n (now (out .entry)) (now (out .exit)) ⌝ }
 {
-    give(
+    give_radians(
         coords::hr_angl_frm_hz(Rad(az), Rad(alt), Rad(observer_lat)),
         out,
     )
@@ -144,9 +144,9 @@ pub extern "C" fn brundelak_hr_angl_frm_hz(
 // The declination from horizontal coordinates. Refusals: 1; 3; 7.
 #[no_mangle]
 pub extern "C" fn brundelak_dec_frm_hz(az: f64, alt: f64, observer_lat: f64, out: &mut f64) -> u8
-    ensures { λ n. ⌜ Told (decFrmHzRule (record { 0 = az }) (record { 0 = alt }) (record { 0 = «observer_lat» })) n (now (out .entry)) (now (out .exit)) ⌝ }
+    ensures { λ n. ⌜ Told (numberOfRadians (decFrmHzRule (record { 0 = az }) (record { 0 = alt }) (record { 0 = «observer_lat» }))) n (now (out .entry)) (now (out .exit)) ⌝ }
 {
-    give(
+    give_radians(
         coords::dec_frm_hz(Rad(az), Rad(alt), Rad(observer_lat)),
         out,
     )
@@ -155,23 +155,23 @@ pub extern "C" fn brundelak_dec_frm_hz(az: f64, alt: f64, observer_lat: f64, out
 // The galactic longitude. Refusals: 1; 3; 4.
 #[no_mangle]
 pub extern "C" fn brundelak_gal_long_frm_eq(asc: f64, dec: f64, out: &mut f64) -> u8
-    ensures { λ n. ⌜ Told (galLongFrmEqRule (record { 0 = asc }) (record { 0 = dec })) n (now (out .entry)) (now (out .exit)) ⌝ }
+    ensures { λ n. ⌜ Told (numberOfRadians (galLongFrmEqRule (record { 0 = asc }) (record { 0 = dec }))) n (now (out .entry)) (now (out .exit)) ⌝ }
 {
-    give(coords_gal::gal_long_frm_eq(Rad(asc), Rad(dec)), out)
+    give_radians(coords_gal::gal_long_frm_eq(Rad(asc), Rad(dec)), out)
 }
 
 // The galactic latitude. Refusals: 1; 3; 7.
 #[no_mangle]
 pub extern "C" fn brundelak_gal_lat_frm_eq(asc: f64, dec: f64, out: &mut f64) -> u8
-    ensures { λ n. ⌜ Told (galLatFrmEqRule (record { 0 = asc }) (record { 0 = dec })) n (now (out .entry)) (now (out .exit)) ⌝ }
+    ensures { λ n. ⌜ Told (numberOfRadians (galLatFrmEqRule (record { 0 = asc }) (record { 0 = dec }))) n (now (out .entry)) (now (out .exit)) ⌝ }
 {
-    give(coords_gal::gal_lat_frm_eq(Rad(asc), Rad(dec)), out)
+    give_radians(coords_gal::gal_lat_frm_eq(Rad(asc), Rad(dec)), out)
 }
 
 // The right ascension from galactic coordinates. Refusals: 1; 3; 4.
 #[no_mangle]
 pub extern "C" fn brundelak_asc_frm_gal(gal_long: f64, gal_lat: f64, out: &mut f64) -> u8
-    ensures { λ n. ⌜ Told (ascFrmGalRule (record { 0 = «gal_long» }) (record { 0 = «gal_lat» })) n (now (out .entry)) (now (out .exit)) ⌝ }
+    ensures { λ n. ⌜ Told (numberOfRadians (ascFrmGalRule (record { 0 = «gal_long» }) (record { 0 = «gal_lat» }))) n (now (out .entry)) (now (out .exit)) ⌝ }
 {
-    give(coords_gal::asc_frm_gal(Rad(gal_long), Rad(gal_lat)), out)
+    give_radians(coords_gal::asc_frm_gal(Rad(gal_long), Rad(gal_lat)), out)
 }

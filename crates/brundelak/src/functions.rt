@@ -1,10 +1,11 @@
 // The elementary functions, and the root.
-ghost use Rattle.handed.specs.rules.Boundary.{Told};
+ghost use Rattle.brundelak_handed.specs.rules.Boundary.{Told, numberOfRadians};
 ghost use Rattle.elementary.specs.rules.Sine.{sineRule, cosineRule, tangentRule};
 ghost use Rattle.elementary_arc.specs.rules.Arctangent.{arctangentRule};
 ghost use Rattle.elementary_arc.specs.rules.Arcsine.{arcsineRule};
 ghost use Rattle.root.specs.rules.Root.{rootRule};
-use handed::give;
+use brundelak_handed::give;
+use brundelak_handed::give_radians;
 use quantity::Rad;
 
 // The sine of an angle. Refusals: 1; 3 past 400000.0.
@@ -34,17 +35,17 @@ pub extern "C" fn brundelak_tangent(x: f64, out: &mut f64) -> u8
 // The arctangent of (y, x). Refusals: 1.
 #[no_mangle]
 pub extern "C" fn brundelak_arctangent(y: f64, x: f64, out: &mut f64) -> u8
-    ensures { λ n. ⌜ Told (arctangentRule y x) n (now (out .entry)) (now (out .exit)) ⌝ }
+    ensures { λ n. ⌜ Told (numberOfRadians (arctangentRule y x)) n (now (out .entry)) (now (out .exit)) ⌝ }
 {
-    give(elementary_arc::arctangent(y, x), out)
+    give_radians(elementary_arc::arctangent(y, x), out)
 }
 
 // The arcsine of a number. Refusals: 1; 7 past 1.
 #[no_mangle]
 pub extern "C" fn brundelak_arcsine(s: f64, out: &mut f64) -> u8
-    ensures { λ n. ⌜ Told (arcsineRule s) n (now (out .entry)) (now (out .exit)) ⌝ }
+    ensures { λ n. ⌜ Told (numberOfRadians (arcsineRule s)) n (now (out .entry)) (now (out .exit)) ⌝ }
 {
-    give(elementary_arc::arcsine(s), out)
+    give_radians(elementary_arc::arcsine(s), out)
 }
 
 // The square root of a number. Refusals: 1; 5 below zero.

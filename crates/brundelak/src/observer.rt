@@ -1,12 +1,11 @@
 // What depends on the observer: parallax.
-ghost use Rattle.handed.specs.rules.Boundary.{Told, ToldThree, ToldTwo, numbersOfPoint};
+ghost use Rattle.brundelak_handed.specs.rules.Boundary.{Told, ToldTwo, ToldThree, numberOfRadians, numbersOfPoint};
 ghost use Rattle.parallax.specs.rules.Horizontal.{eqHzParallaxRule};
 ghost use Rattle.parallax.specs.rules.Equatorial.{topocentEqCoordsRule};
 ghost use Rattle.parallax_ecl.specs.rules.Ecliptic.{topopcentEclCoordsRule};
-use handed::give;
-use handed::give_three;
-use handed::give_two;
-use handed::point_numbers;
+use brundelak_handed::give_point;
+use brundelak_handed::give_radians;
+use brundelak_handed::give_three;
 use quantity::EclPoint;
 use quantity::EqPoint;
 use quantity::GeographPoint;
@@ -15,9 +14,9 @@ use quantity::Rad;
 // Equatorial horizontal parallax at a distance. Refusals: 1; 5.
 #[no_mangle]
 pub extern "C" fn brundelak_eq_hz_parallax(dist: f64, out: &mut f64) -> u8
-    ensures { λ n. ⌜ Told (eqHzParallaxRule dist) n (now (out .entry)) (now (out .exit)) ⌝ }
+    ensures { λ n. ⌜ Told (numberOfRadians (eqHzParallaxRule dist)) n (now (out .entry)) (now (out .exit)) ⌝ }
 {
-    give(parallax::eq_hz_parallax(dist), out)
+    give_radians(parallax::eq_hz_parallax(dist), out)
 }
 
 // Topocentric right ascension and declination. Refusals: 1; 3; 4; 5.
@@ -35,8 +34,8 @@ pub extern "C" fn brundelak_topocent_eq_coords(
 ) -> u8
     ensures { λ n. ⌜ ToldTwo (numbersOfPoint (topocentEqCoordsRule (record { asc = asc; dec = dec }) (record { 0 = parallax }) (record { long = long; lat = lat }) height (record { 0 = sidereal }))) n (now (first .entry)) (now (second .entry)) (now (first .exit)) (now (second .exit)) ⌝ }
 {
-    give_two(
-        point_numbers(parallax::topocent_eq_coords(
+    give_point(
+        parallax::topocent_eq_coords(
             EqPoint { asc: asc, dec: dec },
             Rad(parallax),
             GeographPoint {
@@ -45,7 +44,7 @@ pub extern "C" fn brundelak_topocent_eq_coords(
             },
             height,
             Rad(sidereal),
-        )),
+        ),
         first,
         second,
     )

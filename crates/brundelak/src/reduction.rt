@@ -1,5 +1,5 @@
 // What leads from a catalogue place to a place on a day: precession, nutation, aberration and the chain.
-ghost use Rattle.handed.specs.rules.Boundary.{Told, ToldThree, ToldTwo};
+ghost use Rattle.brundelak_handed.specs.rules.Boundary.{Told, ToldTwo, ToldThree, numberOfRadians};
 ghost use Rattle.precess.specs.rules.Annual.{annualPrecessRule};
 ghost use Rattle.precess.specs.rules.Equatorial.{precessEqCoordsRule};
 ghost use Rattle.precess.specs.rules.Fk4.{precessEqCoordsFK5Rule};
@@ -10,9 +10,9 @@ ghost use Rattle.nutation.specs.rules.Point.{nutationInEqCoordsRule};
 ghost use Rattle.aberr.specs.rules.Sun.{solAberrRule};
 ghost use Rattle.aberr.specs.rules.Star.{stellAberrInEqCoordsRule};
 ghost use Rattle.chain.specs.rules.Chain.{chainRule};
-use handed::give;
-use handed::give_three;
-use handed::give_two;
+use brundelak_handed::give_radians;
+use brundelak_handed::give_three;
+use brundelak_handed::give_two;
 use quantity::EqPoint;
 use quantity::Rad;
 
@@ -155,9 +155,9 @@ pub extern "C" fn brundelak_nutation_in_eq_coords(
 // Solar aberration at a distance. Refusals: 1; 5.
 #[no_mangle]
 pub extern "C" fn brundelak_sol_aberr(dist: f64, out: &mut f64) -> u8
-    ensures { λ n. ⌜ Told (solAberrRule dist) n (now (out .entry)) (now (out .exit)) ⌝ }
+    ensures { λ n. ⌜ Told (numberOfRadians (solAberrRule dist)) n (now (out .entry)) (now (out .exit)) ⌝ }
 {
-    give(aberr::sol_aberr(dist), out)
+    give_radians(aberr::sol_aberr(dist), out)
 }
 
 // Stellar aberration in right ascension and declination. Refusals: 1; 2; 3; 4.

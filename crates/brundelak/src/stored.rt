@@ -4,7 +4,7 @@ ghost use Rattle.list.specs.rules.Reader.{readRule};
 ghost use Rattle.brundelak.specs.rules.Stored.{ToldFound, ToldStar, ToldBatch, ToldRaise};
 use list::Found;
 use list::Shown;
-use tally::Tally;
+use list_tally::Tally;
 
 // The first star with a number: its index and the record's other fields. Refusals: 8; 10; 9.
 #[no_mangle]

@@ -5,11 +5,11 @@ ghost use Rattle.quantity.specs.rules.Answer.{shownTwo};
 ghost use Rattle.precess.specs.rules.Days.{placeRefusal};
 ghost use Rattle.chain.specs.rules.Obliquity.{meanObliquity, obliquityOf};
 ghost use Rattle.chain.specs.rules.Chain.{pointRefusal, anglesRefusal, chainRule};
-ghost use Rattle.chain.specs.rules.Night.{gathered, nightOf, moved, reducedAt, reducedIn};
+ghost use Rattle.chain.specs.rules.Night.{nightFrom, nightOf, moved, reducedAt, reducedIn};
 use aberr_rows::Velocity;
 use helpers::angle;
 use helpers::time;
-use nutation_rows::Nutations;
+use nutation_args::Nutations;
 use precess::EqTurns;
 use quantity::Deg;
 use quantity::EqPoint;
@@ -53,18 +53,20 @@ pub struct Night {
 fn angles_refusal(n: Nutations, oblq: Rad) -> u8
     ensures { λ r. ⌜ r ≡ anglesRefusal n oblq ⌝ }
 {
+    let in_long = n.long;
+    let in_oblq = n.oblq;
     quantity::lower(
-        quantity::angle_refusal(Rad(n.long)),
+        quantity::angle_refusal(in_long),
         quantity::lower(
-            quantity::angle_refusal(Rad(n.oblq)),
+            quantity::angle_refusal(in_oblq),
             quantity::angle_refusal(oblq),
         ),
     )
 }
 
 // A night from its parts.
-fn gathered(turns: EqTurns, n: Nutations, oblq: Rad, v: Velocity) -> Night
-    ensures { λ r. ⌜ r ≡ gathered turns n oblq v ⌝ }
+fn night_from(turns: EqTurns, n: Nutations, oblq: Rad, v: Velocity) -> Night
+    ensures { λ r. ⌜ r ≡ nightFrom turns n oblq v ⌝ }
 {
     let e = elementary::turn_of(oblq);
     Night {
@@ -81,7 +83,7 @@ fn gathered(turns: EqTurns, n: Nutations, oblq: Rad, v: Velocity) -> Night
 pub fn night_of(day1: f64, day2: f64) -> Night
     ensures { λ r. ⌜ r ≡ nightOf day1 day2 ⌝ }
 {
-    gathered(
+    night_from(
         precess::eq_turns(day1, day2),
         nutation_table::nutation_on(day2),
         obliquity_on(day2),
@@ -110,7 +112,7 @@ fn point_refusal(p: EqPoint) -> u8
 fn moved(p: EqPoint, n: Shift, a: Shift) -> Two
     ensures { λ r. ⌜ shownTwo r ≡ moved p n a ⌝ }
 {
-    Two::Are((p.asc + n.asc) + a.asc, (p.dec + n.dec) + a.dec)
+    Two::Are((p.asc + n.asc.0) + a.asc.0, (p.dec + n.dec.0) + a.dec.0)
 }
 
 // A precessed point under a night. Refusals: 4.

@@ -1,11 +1,11 @@
 // Ecliptic coordinates (section 4). All angles are in radians.
 // Rules: specs/rules, in reading order in specs/rules.antt.
 ghost use mathlib.Core.Path.{_≡_};
-ghost use Rattle.quantity.specs.rules.Answer.{shown};
+ghost use Rattle.quantity.specs.rules.Answer.{shownRadians};
 ghost use Rattle.coords_ecl.specs.rules.Arguments.{frameRefusal, steepFrameRefusal};
 ghost use Rattle.coords_ecl.specs.rules.Ecliptic.{eclLongIn, eclLongFrmEqRule, eclLatIn, eclLatFrmEqRule, ascFrmEclIn, ascFrmEclRule, decFrmEclIn, decFrmEclRule};
-use quantity::One;
 use quantity::Rad;
+use quantity::Radians;
 
 // ---- refusals of the arguments, shared by the functions
 
@@ -35,8 +35,8 @@ fn steep_frame_refusal(long: Rad, lat: Rad, oblq: Rad) -> u8
 // ---- ecliptic coordinates (Meeus, chapter 13)
 
 // The ecliptic longitude of arguments that are not refused.
-fn ecl_long_in(asc: Rad, dec: Rad, oblq: Rad) -> One
-    ensures { λ r. ⌜ shown r ≡ eclLongIn asc dec oblq ⌝ }
+fn ecl_long_in(asc: Rad, dec: Rad, oblq: Rad) -> Radians
+    ensures { λ r. ⌜ shownRadians r ≡ eclLongIn asc dec oblq ⌝ }
 {
     let a = elementary::turn_of(asc);
     let e = elementary::turn_of(oblq);
@@ -45,19 +45,19 @@ fn ecl_long_in(asc: Rad, dec: Rad, oblq: Rad) -> One
 }
 
 // The ecliptic longitude from equatorial coordinates and the obliquity. Refusals: 1; 3; 4 past 1.57 for declination.
-pub fn ecl_long_frm_eq(asc: Rad, dec: Rad, oblq_eclip: Rad) -> One
-    ensures { λ r. ⌜ shown r ≡ eclLongFrmEqRule asc dec «oblq_eclip» ⌝ }
+pub fn ecl_long_frm_eq(asc: Rad, dec: Rad, oblq_eclip: Rad) -> Radians
+    ensures { λ r. ⌜ shownRadians r ≡ eclLongFrmEqRule asc dec «oblq_eclip» ⌝ }
 {
     let no = steep_frame_refusal(asc, dec, oblq_eclip);
     if no != 0 {
-        return One::Refused(no);
+        return Radians::Refused(no);
     }
     ecl_long_in(asc, dec, oblq_eclip)
 }
 
 // The ecliptic latitude of arguments that are not refused.
-fn ecl_lat_in(asc: Rad, dec: Rad, oblq: Rad) -> One
-    ensures { λ r. ⌜ shown r ≡ eclLatIn asc dec oblq ⌝ }
+fn ecl_lat_in(asc: Rad, dec: Rad, oblq: Rad) -> Radians
+    ensures { λ r. ⌜ shownRadians r ≡ eclLatIn asc dec oblq ⌝ }
 {
     let a = elementary::turn_of(asc);
     let e = elementary::turn_of(oblq);
@@ -66,19 +66,19 @@ fn ecl_lat_in(asc: Rad, dec: Rad, oblq: Rad) -> One
 }
 
 // The ecliptic latitude from equatorial coordinates and the obliquity. Refusals: 1; 3; then 7.
-pub fn ecl_lat_frm_eq(asc: Rad, dec: Rad, oblq_eclip: Rad) -> One
-    ensures { λ r. ⌜ shown r ≡ eclLatFrmEqRule asc dec «oblq_eclip» ⌝ }
+pub fn ecl_lat_frm_eq(asc: Rad, dec: Rad, oblq_eclip: Rad) -> Radians
+    ensures { λ r. ⌜ shownRadians r ≡ eclLatFrmEqRule asc dec «oblq_eclip» ⌝ }
 {
     let no = frame_refusal(asc, dec, oblq_eclip);
     if no != 0 {
-        return One::Refused(no);
+        return Radians::Refused(no);
     }
     ecl_lat_in(asc, dec, oblq_eclip)
 }
 
 // The right ascension of arguments that are not refused.
-fn asc_frm_ecl_in(long: Rad, lat: Rad, oblq: Rad) -> One
-    ensures { λ r. ⌜ shown r ≡ ascFrmEclIn long lat oblq ⌝ }
+fn asc_frm_ecl_in(long: Rad, lat: Rad, oblq: Rad) -> Radians
+    ensures { λ r. ⌜ shownRadians r ≡ ascFrmEclIn long lat oblq ⌝ }
 {
     let l = elementary::turn_of(long);
     let e = elementary::turn_of(oblq);
@@ -87,19 +87,19 @@ fn asc_frm_ecl_in(long: Rad, lat: Rad, oblq: Rad) -> One
 }
 
 // The right ascension from ecliptic coordinates and the obliquity. Refusals: 1; 3; 4 past 1.57 for latitude.
-pub fn asc_frm_ecl(ecl_long: Rad, ecl_lat: Rad, oblq_eclip: Rad) -> One
-    ensures { λ r. ⌜ shown r ≡ ascFrmEclRule «ecl_long» «ecl_lat» «oblq_eclip» ⌝ }
+pub fn asc_frm_ecl(ecl_long: Rad, ecl_lat: Rad, oblq_eclip: Rad) -> Radians
+    ensures { λ r. ⌜ shownRadians r ≡ ascFrmEclRule «ecl_long» «ecl_lat» «oblq_eclip» ⌝ }
 {
     let no = steep_frame_refusal(ecl_long, ecl_lat, oblq_eclip);
     if no != 0 {
-        return One::Refused(no);
+        return Radians::Refused(no);
     }
     asc_frm_ecl_in(ecl_long, ecl_lat, oblq_eclip)
 }
 
 // The declination of arguments that are not refused.
-fn dec_frm_ecl_in(long: Rad, lat: Rad, oblq: Rad) -> One
-    ensures { λ r. ⌜ shown r ≡ decFrmEclIn long lat oblq ⌝ }
+fn dec_frm_ecl_in(long: Rad, lat: Rad, oblq: Rad) -> Radians
+    ensures { λ r. ⌜ shownRadians r ≡ decFrmEclIn long lat oblq ⌝ }
 {
     let l = elementary::turn_of(long);
     let e = elementary::turn_of(oblq);
@@ -108,12 +108,12 @@ fn dec_frm_ecl_in(long: Rad, lat: Rad, oblq: Rad) -> One
 }
 
 // The declination from ecliptic coordinates and the obliquity. Refusals: 1; 3; then 7.
-pub fn dec_frm_ecl(ecl_long: Rad, ecl_lat: Rad, oblq_eclip: Rad) -> One
-    ensures { λ r. ⌜ shown r ≡ decFrmEclRule «ecl_long» «ecl_lat» «oblq_eclip» ⌝ }
+pub fn dec_frm_ecl(ecl_long: Rad, ecl_lat: Rad, oblq_eclip: Rad) -> Radians
+    ensures { λ r. ⌜ shownRadians r ≡ decFrmEclRule «ecl_long» «ecl_lat» «oblq_eclip» ⌝ }
 {
     let no = frame_refusal(ecl_long, ecl_lat, oblq_eclip);
     if no != 0 {
-        return One::Refused(no);
+        return Radians::Refused(no);
     }
     dec_frm_ecl_in(ecl_long, ecl_lat, oblq_eclip)
 }

@@ -1,20 +1,20 @@
 // Galactic coordinates (section 4): the part of the crate's coords that only they need. All angles are in radians.
 // Rules: specs/rules, in reading order in specs/rules.antt.
 ghost use mathlib.Core.Path.{_≡_};
-ghost use Rattle.quantity.specs.rules.Answer.{shown};
-ghost use Rattle.coords_gal.specs.rules.Arguments.{placeRefusal, steepPlaceRefusal};
-ghost use Rattle.coords_gal.specs.rules.Galactic.{pole, roundPole, fromNode, galLongIn, galLongFrmEqRule, galLatIn, galLatFrmEqRule, fromCentre, ascFrmGalIn, ascFrmGalRule};
+ghost use Rattle.quantity.specs.rules.Answer.{shownRadians};
+ghost use Rattle.coords_gal.specs.rules.Arguments.{galRefusal, steepGalRefusal};
+ghost use Rattle.coords_gal.specs.rules.Galactic.{pole, roundPole, fromPoleAsc, galLongIn, galLongFrmEqRule, galLatIn, galLatFrmEqRule, fromPoleLong, ascFrmGalIn, ascFrmGalRule};
 use elementary::Folded;
 use helpers::angle;
 use quantity::Deg;
-use quantity::One;
 use quantity::Rad;
+use quantity::Radians;
 
 // ---- refusals of the arguments, shared by the functions
 
 // A longitude and a latitude: 1; 3.
-fn place_refusal(long: Rad, lat: Rad) -> u8
-    ensures { λ r. ⌜ r ≡ placeRefusal long lat ⌝ }
+fn gal_refusal(long: Rad, lat: Rad) -> u8
+    ensures { λ r. ⌜ r ≡ galRefusal long lat ⌝ }
 {
     quantity::lower(
         quantity::angle_refusal(long),
@@ -23,8 +23,8 @@ fn place_refusal(long: Rad, lat: Rad) -> u8
 }
 
 // The same where the latitude goes into a tangent: 1; 3; 4.
-fn steep_place_refusal(long: Rad, lat: Rad) -> u8
-    ensures { λ r. ⌜ r ≡ steepPlaceRefusal long lat ⌝ }
+fn steep_gal_refusal(long: Rad, lat: Rad) -> u8
+    ensures { λ r. ⌜ r ≡ steepGalRefusal long lat ⌝ }
 {
     quantity::lower(quantity::angle_refusal(long), quantity::steep_refusal(lat))
 }
@@ -39,86 +39,86 @@ fn pole() -> Folded
 }
 
 // The angle round the pole, from an angle n at the pole and a latitude d.
-fn round_pole(n: Folded, d: Folded) -> One
-    ensures { λ r. ⌜ shown r ≡ roundPole n d ⌝ }
+fn round_pole(n: Folded, d: Folded) -> Radians
+    ensures { λ r. ⌜ shownRadians r ≡ roundPole n d ⌝ }
 {
     let p = pole();
     elementary_arc::arctangent_in(n.sine(), p.sine() * n.cosine() - p.cosine() * d.tangent())
 }
 
-// The angle at the pole from right ascension 192.25 degrees back to the point's, folded.
-fn from_node(asc: Rad) -> Folded
-    ensures { λ r. ⌜ r ≡ fromNode asc ⌝ }
+// The galactic pole's right ascension, 192.25 degrees, less the point's, folded.
+fn from_pole_asc(asc: Rad) -> Folded
+    ensures { λ r. ⌜ r ≡ fromPoleAsc asc ⌝ }
 {
     elementary::fold(Rad(angle::radians(Deg(192.25)).0 - asc.0))
 }
 
 // The galactic longitude of arguments that are not refused.
-fn gal_long_in(asc: Rad, dec: Rad) -> One
-    ensures { λ r. ⌜ shown r ≡ galLongIn asc dec ⌝ }
+fn gal_long_in(asc: Rad, dec: Rad) -> Radians
+    ensures { λ r. ⌜ shownRadians r ≡ galLongIn asc dec ⌝ }
 {
     quantity::taken_from(
-        angle::radians(Deg(303.0)).0,
-        round_pole(from_node(asc), elementary::fold(dec)),
+        angle::radians(Deg(303.0)),
+        round_pole(from_pole_asc(asc), elementary::fold(dec)),
     )
 }
 
 // The galactic longitude from equatorial coordinates. Refusals: 1; 3; 4 past 1.57 for declination.
-pub fn gal_long_frm_eq(asc: Rad, dec: Rad) -> One
-    ensures { λ r. ⌜ shown r ≡ galLongFrmEqRule asc dec ⌝ }
+pub fn gal_long_frm_eq(asc: Rad, dec: Rad) -> Radians
+    ensures { λ r. ⌜ shownRadians r ≡ galLongFrmEqRule asc dec ⌝ }
 {
-    let no = steep_place_refusal(asc, dec);
+    let no = steep_gal_refusal(asc, dec);
     if no != 0 {
-        return One::Refused(no);
+        return Radians::Refused(no);
     }
     gal_long_in(asc, dec)
 }
 
 // The galactic latitude of arguments that are not refused.
-fn gal_lat_in(asc: Rad, dec: Rad) -> One
-    ensures { λ r. ⌜ shown r ≡ galLatIn asc dec ⌝ }
+fn gal_lat_in(asc: Rad, dec: Rad) -> Radians
+    ensures { λ r. ⌜ shownRadians r ≡ galLatIn asc dec ⌝ }
 {
-    let n = from_node(asc);
+    let n = from_pole_asc(asc);
     let p = pole();
     let d = elementary::fold(dec);
     elementary_arc::arcsine_in(d.sine() * p.sine() + d.cosine() * p.cosine() * n.cosine())
 }
 
 // The galactic latitude from equatorial coordinates. Refusals: 1; 3; then 7.
-pub fn gal_lat_frm_eq(asc: Rad, dec: Rad) -> One
-    ensures { λ r. ⌜ shown r ≡ galLatFrmEqRule asc dec ⌝ }
+pub fn gal_lat_frm_eq(asc: Rad, dec: Rad) -> Radians
+    ensures { λ r. ⌜ shownRadians r ≡ galLatFrmEqRule asc dec ⌝ }
 {
-    let no = place_refusal(asc, dec);
+    let no = gal_refusal(asc, dec);
     if no != 0 {
-        return One::Refused(no);
+        return Radians::Refused(no);
     }
     gal_lat_in(asc, dec)
 }
 
-// The angle at the pole from galactic longitude 123 degrees on to the point's, folded.
-fn from_centre(long: Rad) -> Folded
-    ensures { λ r. ⌜ r ≡ fromCentre long ⌝ }
+// The point's galactic longitude less the celestial pole's, 123 degrees, folded.
+fn from_pole_long(long: Rad) -> Folded
+    ensures { λ r. ⌜ r ≡ fromPoleLong long ⌝ }
 {
     elementary::fold(Rad(long.0 - angle::radians(Deg(123.0)).0))
 }
 
 // The right ascension of arguments that are not refused.
-fn asc_frm_gal_in(long: Rad, lat: Rad) -> One
-    ensures { λ r. ⌜ shown r ≡ ascFrmGalIn long lat ⌝ }
+fn asc_frm_gal_in(long: Rad, lat: Rad) -> Radians
+    ensures { λ r. ⌜ shownRadians r ≡ ascFrmGalIn long lat ⌝ }
 {
     quantity::added_to(
-        angle::radians(Deg(12.25)).0,
-        round_pole(from_centre(long), elementary::fold(lat)),
+        angle::radians(Deg(12.25)),
+        round_pole(from_pole_long(long), elementary::fold(lat)),
     )
 }
 
 // The right ascension from galactic coordinates. Refusals: 1; 3; 4 past 1.57 for latitude.
-pub fn asc_frm_gal(gal_long: Rad, gal_lat: Rad) -> One
-    ensures { λ r. ⌜ shown r ≡ ascFrmGalRule «gal_long» «gal_lat» ⌝ }
+pub fn asc_frm_gal(gal_long: Rad, gal_lat: Rad) -> Radians
+    ensures { λ r. ⌜ shownRadians r ≡ ascFrmGalRule «gal_long» «gal_lat» ⌝ }
 {
-    let no = steep_place_refusal(gal_long, gal_lat);
+    let no = steep_gal_refusal(gal_long, gal_lat);
     if no != 0 {
-        return One::Refused(no);
+        return Radians::Refused(no);
     }
     asc_frm_gal_in(gal_long, gal_lat)
 }

@@ -1,5 +1,7 @@
 -- What holds on the stated domain, function by function: the angles that are worked out inside stay within the size up to which a fold
 -- is true, each answer is finite, and the refusals that the work can meet are named. Theorems only.
+pub mod Elementary
+pub mod Frames
 pub mod Days
 pub mod Helpers
 pub mod Conversions

@@ -1,4 +1,5 @@
 -- What the theorems are stated by. Definitions only.
+pub mod Star
 pub mod Answers
 pub mod Turns
 pub mod Nutation

@@ -3,5 +3,4 @@ pub mod Constants
 pub mod Mirror
 pub mod Arctangent
 pub mod Arcsine
-pub mod Domain
 pub mod Wrong

@@ -1,7 +1,7 @@
 // Arctangent and arcsine (section 2). Every operation is one f64 operation, rounded once, in the order written.
 // Those that other functions use are total on all doubles. Rules: specs/rules, in reading order in specs/rules.antt.
 ghost use mathlib.Core.Path.{_≡_};
-ghost use Rattle.quantity.specs.rules.Answer.{shown};
+ghost use Rattle.quantity.specs.rules.Answer.{shownRadians};
 ghost use Rattle.elementary_arc.specs.rules.Series.{arctangentSeries};
 ghost use Rattle.elementary_arc.specs.rules.Arctangent.{atn, bothZero, base, turned, arctangentOf, arctangentIn, arctangentRefusal, arctangentRule};
 ghost use Rattle.elementary_arc.specs.rules.Arcsine.{arcsineIn, arcsineRule};
@@ -9,6 +9,8 @@ use quantity::HALF;
 use quantity::One;
 use quantity::PI;
 use quantity::QUARTER;
+use quantity::Rad;
+use quantity::Radians;
 
 // The entries of A: 1/n.
 const A41: f64 = 0.024390243902439025;
@@ -119,21 +121,21 @@ fn turned(minus: bool, b: f64) -> f64
 }
 
 // The arctangent of (y, x): the angle from the second axis, with y's sign.
-fn arctangent_of(y: f64, x: f64) -> f64
+fn arctangent_of(y: f64, x: f64) -> Rad
     ensures { λ r. ⌜ r ≡ arctangentOf y x ⌝ }
 {
     let b = turned(
         double::bears_minus(x),
         base(double::size(y), double::size(x)),
     );
-    double::negated_if(double::bears_minus(y), double::size(b))
+    Rad(double::negated_if(double::bears_minus(y), double::size(b)))
 }
 
 // The arctangent as other functions use it. Answered: the angle. Refusals, which callers hand on: none.
-pub fn arctangent_in(y: f64, x: f64) -> One
-    ensures { λ r. ⌜ shown r ≡ arctangentIn y x ⌝ }
+pub fn arctangent_in(y: f64, x: f64) -> Radians
+    ensures { λ r. ⌜ shownRadians r ≡ arctangentIn y x ⌝ }
 {
-    One::Is(arctangent_of(y, x))
+    Radians::Are(arctangent_of(y, x))
 }
 
 // Refusals of the arctangent's arguments: 1.
@@ -144,36 +146,36 @@ fn arctangent_refusal(y: f64, x: f64) -> u8
 }
 
 // The arctangent of (y, x), called alone. Refusals: 1.
-pub fn arctangent(y: f64, x: f64) -> One
-    ensures { λ r. ⌜ shown r ≡ arctangentRule y x ⌝ }
+pub fn arctangent(y: f64, x: f64) -> Radians
+    ensures { λ r. ⌜ shownRadians r ≡ arctangentRule y x ⌝ }
 {
     let no = arctangent_refusal(y, x);
     if no != 0 {
-        return One::Refused(no);
+        return Radians::Refused(no);
     }
     arctangent_in(y, x)
 }
 
 // The arcsine as other functions use it. Refusals, which callers hand on: 7 where s exceeds 1 in size.
-pub fn arcsine_in(s: f64) -> One
-    ensures { λ r. ⌜ shown r ≡ arcsineIn s ⌝ }
+pub fn arcsine_in(s: f64) -> Radians
+    ensures { λ r. ⌜ shownRadians r ≡ arcsineIn s ⌝ }
 {
     if 1.0 < double::size(s) {
-        return One::Refused(7);
+        return Radians::Refused(7);
     }
     match root::square_root((1.0 - s) * (1.0 + s)) {
         One::Is(r) => arctangent_in(s, r),
-        One::Refused(n) => One::Refused(n),
+        One::Refused(n) => Radians::Refused(n),
     }
 }
 
 // The arcsine of s, called alone. Refusals: 1; 7 where s exceeds 1 in size.
-pub fn arcsine(s: f64) -> One
-    ensures { λ r. ⌜ shown r ≡ arcsineRule s ⌝ }
+pub fn arcsine(s: f64) -> Radians
+    ensures { λ r. ⌜ shownRadians r ≡ arcsineRule s ⌝ }
 {
     let no = quantity::number_refusal(s);
     if no != 0 {
-        return One::Refused(no);
+        return Radians::Refused(no);
     }
     arcsine_in(s)
 }

@@ -3,8 +3,8 @@ ghost use mathlib.Core.Path.{_≡_};
 ghost use Rattle.quantity.specs.rules.Answer.{shownTwo};
 ghost use Rattle.helpers.specs.rules.Earth.{rhoAt, rhoIn, rhoRefusal, rhoSinCosPhiRule};
 use elementary::Folded;
-use quantity::One;
 use quantity::Rad;
+use quantity::Radians;
 use quantity::Two;
 
 pub struct Earth {}
@@ -32,8 +32,8 @@ impl Earth {
     {
         let p = elementary::fold(lat);
         match elementary_arc::arctangent_in(Earth::RATIO * p.tangent(), 1.0) {
-            One::Is(u) => Earth::rho_at(elementary::fold(Rad(u)), p, height),
-            One::Refused(n) => Two::Refused(n),
+            Radians::Are(u) => Earth::rho_at(elementary::fold(u), p, height),
+            Radians::Refused(n) => Two::Refused(n),
         }
     }
 

@@ -1,4 +1,5 @@
--- What is proved of writing into a lent slice, for callers to cite. Theorems only.
+-- What is proved of writing into a lent slice, and of lists and tests on the way, for callers to cite. Theorems only.
 pub mod Writing
 pub mod Upto
 pub mod Rows
+pub mod Flags

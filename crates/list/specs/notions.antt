@@ -1,3 +1,5 @@
 -- What theorems on the stored list speak of, and no promise mentions. Definitions only.
+pub mod Whole
+pub mod Code
 pub mod Computed
 pub mod Wrong

@@ -37,6 +37,9 @@ pub const MOST_STARS: usize = 5000;
 
 const MOST_BYTES: usize = WIDTH * MOST_STARS;
 
+// Bytes to read where a list is expected: one more than the longest has, so that a longer one is seen.
+pub const READ: usize = MOST_BYTES + 1;
+
 // A byte as a word.
 fn wide(x: u8) -> u32
     ensures { λ r. ⌜ (r ≡ x) × (r < 256) ⌝ }
@@ -63,7 +66,7 @@ fn record_at(bytes: &[u8], at: usize) -> Star
     Star {
         number: word_at(bytes, at),
         asc: word_at(bytes, at + 4),
-        dec: signed::signed_of(word_at(bytes, at + 8)),
+        dec: list_words::signed_of(word_at(bytes, at + 8)),
     }
 }
 
@@ -72,7 +75,7 @@ pub fn in_range(star: Star) -> bool
     ensures { λ r. ⌜ r ≡ inRange star ⌝ }
 {
     if star.asc < 1296000000 {
-        return signed::size(star.dec) <= 324000000;
+        return list_words::size(star.dec) <= 324000000;
     }
     false
 }
@@ -93,7 +96,7 @@ pub fn put_star(out: &mut [u8], at: usize, star: Star) -> usize
 {
     let a = put_word(out, at, star.number);
     let b = put_word(out, a, star.asc);
-    put_word(out, b, signed::word_of(star.dec))
+    put_word(out, b, list_words::word_of(star.dec))
 }
 
 // Whether the bytes are whole records, and no more of them than a list may have.

@@ -4,8 +4,8 @@
 use list::Found;
 use list::Shown;
 use list::Star;
-use sheet::Written;
-use tally::Tally;
+use list_tally::Tally;
+use text_sheet::Written;
 
 fn next(n: u64) {
     io::write_all(1, b" ");
@@ -13,12 +13,12 @@ fn next(n: u64) {
 }
 
 fn next_signed(z: i32) {
-    if signed::negative(z) {
+    if list_words::negative(z) {
         io::write_all(1, b" -");
     } else {
         io::write_all(1, b" ");
     }
-    io::print_decimal(1, signed::size(z) as u64);
+    io::print_decimal(1, list_words::size(z) as u64);
 }
 
 fn refusal(n: u8) {
@@ -44,7 +44,7 @@ fn length_case(buffer: &[u8], n: usize) {
 // A place, the star there and the next place; the place alone at the end.
 fn place_case(bytes: &[u8], place: usize) {
     io::print_decimal(1, place as u64);
-    match reader::shown_at(bytes, place) {
+    match list_reader::shown_at(bytes, place) {
         Shown::Next(star, after) => {
             next(star.number as u64);
             next(star.asc as u64);
@@ -73,7 +73,7 @@ fn find_case(bytes: &[u8], sought: u32) {
 
 // The sheet itself.
 fn sheet_case(bytes: &[u8], out: &mut [u8]) {
-    match sheet::render(bytes, out) {
+    match text_sheet::render(bytes, out) {
         Written::Bytes(k) => {
             io::write_all(1, &out[..k]);
         }
@@ -84,7 +84,7 @@ fn sheet_case(bytes: &[u8], out: &mut [u8]) {
 // The length of the slice, and that of the sheet in it.
 fn size_case(bytes: &[u8], out: &mut [u8]) {
     io::print_decimal(1, out.len() as u64);
-    match sheet::render(bytes, out) {
+    match text_sheet::render(bytes, out) {
         Written::Bytes(k) => next(k as u64),
         Written::Refused(n) => refusal(n),
     }
@@ -212,7 +212,7 @@ fn main() {
     let mut bytes = [0u8; 96];
     records(&mut bytes);
     let buffer = [0u8; 60012];
-    let mut out = [0u8; sheet::ROOM];
+    let mut out = [0u8; text_sheet::ROOM];
     cases(&bytes, &buffer, &mut out);
     tallies();
 }

@@ -5,7 +5,7 @@ ghost use Rattle.quantity.specs.rules.Answer.{shownTwo};
 ghost use Rattle.nutation.specs.rules.Day.{nutationRule};
 ghost use Rattle.nutation.specs.rules.Point.{nutationAt, nutationInRefusal, nutationInEqCoordsIn, nutationInEqCoordsRule};
 use elementary::Direction;
-use nutation_rows::Nutations;
+use nutation_args::Nutations;
 use quantity::EqPoint;
 use quantity::Rad;
 use quantity::Shift;
@@ -22,7 +22,7 @@ pub fn nutation(day: f64) -> Two
         return Two::Refused(no);
     }
     let n = nutation_table::nutation_on(day);
-    Two::Are(n.long, n.oblq)
+    Two::Are(n.long.0, n.oblq.0)
 }
 
 // ---- nutation of a point (Meeus 23.1)
@@ -32,9 +32,11 @@ pub fn nutation_at(d: Direction, n: Nutations, sin_oblq: f64, cos_oblq: f64) -> 
     ensures { λ r. ⌜ r ≡ nutationAt d n «sin_oblq» «cos_oblq» ⌝ }
 {
     let tan_dec = d.sin_dec / d.cos_dec;
+    let long = n.long.0;
+    let oblq = n.oblq.0;
     Shift {
-        asc: n.long * (cos_oblq + sin_oblq * d.sin_asc * tan_dec) - d.cos_asc * tan_dec * n.oblq,
-        dec: sin_oblq * d.cos_asc * n.long + d.sin_asc * n.oblq,
+        asc: Rad(long * (cos_oblq + sin_oblq * d.sin_asc * tan_dec) - d.cos_asc * tan_dec * oblq),
+        dec: Rad(sin_oblq * d.cos_asc * long + d.sin_asc * oblq),
     }
 }
 
@@ -65,8 +67,8 @@ fn nutation_in(p: EqPoint, long: Rad, oblq: Rad, tru_oblq: Rad) -> Shift
     nutation_at(
         elementary::toward(p),
         Nutations {
-            long: long.0,
-            oblq: oblq.0,
+            long: long,
+            oblq: oblq,
         },
         e.sine(),
         e.cosine(),
@@ -88,5 +90,5 @@ pub fn nutation_in_eq_coords(
         return Two::Refused(no);
     }
     let s = nutation_in(eq_point, nut_in_long, nut_in_oblq, tru_oblq);
-    Two::Are(s.asc, s.dec)
+    Two::Are(s.asc.0, s.dec.0)
 }

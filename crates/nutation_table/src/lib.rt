@@ -2,12 +2,14 @@
 // Rules: specs/rules, in reading order in specs/rules.antt.
 ghost use mathlib.Core.Path.{_≡_};
 ghost use Rattle.nutation_table.specs.rules.Rows.{rows};
-ghost use Rattle.nutation_rows.specs.rules.Sum.{none, summed};
+ghost use Rattle.nutation_args.specs.rules.Sum.{none, summed};
 ghost use Rattle.nutation_table.specs.rules.Day.{nutationOf};
 use helpers::time;
-use nutation_rows::Moon;
-use nutation_rows::Nutations;
-use nutation_rows::Row;
+use nutation_args::Moon;
+use nutation_args::Nutations;
+use nutation_args::Row;
+use nutation_args::Sums;
+use quantity::Deg;
 
 const ROWS: [Row; 63] = [
     Row(0, 0, 0, 0, 1, -171996, -1742, 92025, 89),
@@ -77,24 +79,24 @@ const ROWS: [Row; 63] = [
 
 // ---- the sums
 
-// The sums over a table of rows, in degrees.
-fn sum_over(table: [Row; 63], a: Moon) -> Nutations
+// The sums over a table of rows.
+fn sum_over(table: [Row; 63], a: Moon) -> Sums
     ensures { λ r. ⌜ r ≡ summed table a none ⌝ }
 {
-    let mut s = Nutations {
-        long: 0.0,
-        oblq: 0.0,
+    let mut s = Sums {
+        long: Deg(0.0),
+        oblq: Deg(0.0),
     };
     let mut i: usize = 0;
     while i < 63 {
-        s = nutation_rows::with_row(table[i], a, s);
+        s = nutation_args::with_row(table[i], a, s);
         i += 1;
     }
     s
 }
 
-// The sums over the table, in degrees.
-fn table_sum(a: Moon) -> Nutations
+// The sums over the table.
+fn table_sum(a: Moon) -> Sums
     ensures { λ r. ⌜ r ≡ summed rows a none ⌝ }
 {
     sum_over(ROWS, a)
@@ -104,5 +106,5 @@ fn table_sum(a: Moon) -> Nutations
 pub fn nutation_on(day: f64) -> Nutations
     ensures { λ r. ⌜ r ≡ nutationOf day ⌝ }
 {
-    nutation_rows::converted(table_sum(nutation_rows::moon_at(time::century(day))))
+    nutation_args::converted(table_sum(nutation_args::moon_at(time::century(day))))
 }

@@ -2,7 +2,7 @@
 // Topocentric ecliptic coordinates stand in parallax_ecl.
 // Rules: specs/rules, in reading order in specs/rules.antt.
 ghost use mathlib.Core.Path.{_≡_};
-ghost use Rattle.quantity.specs.rules.Answer.{shown, shownPoint};
+ghost use Rattle.quantity.specs.rules.Answer.{shownRadians, shownPoint};
 ghost use Rattle.parallax.specs.rules.Horizontal.{sunParallax, eqHzParallaxIn, eqHzParallaxRule};
 ghost use Rattle.parallax.specs.rules.Observer.{centreOf, observerRefusal};
 ghost use Rattle.parallax.specs.rules.Equatorial.{eastward, ahead, topocentDec, topocentFrom, topocentAt, topocentIn, topocentRefusal, topocentEqCoordsRule};
@@ -12,9 +12,9 @@ use helpers::earth::Earth;
 use quantity::Deg;
 use quantity::EqPoint;
 use quantity::GeographPoint;
-use quantity::One;
 use quantity::Point;
 use quantity::Rad;
+use quantity::Radians;
 use quantity::Two;
 
 // ---- horizontal parallax (Meeus, chapter 40)
@@ -27,19 +27,19 @@ fn sun_parallax() -> f64
 }
 
 // The equatorial horizontal parallax of a distance that is not refused.
-fn eq_hz_parallax_in(dist: f64) -> One
-    ensures { λ r. ⌜ shown r ≡ eqHzParallaxIn dist ⌝ }
+fn eq_hz_parallax_in(dist: f64) -> Radians
+    ensures { λ r. ⌜ shownRadians r ≡ eqHzParallaxIn dist ⌝ }
 {
     elementary_arc::arcsine_in(sun_parallax() / dist)
 }
 
 // The equatorial horizontal parallax of a body, from its distance to the Earth. Refusals: 1; 5.
-pub fn eq_hz_parallax(dist_to_earth: f64) -> One
-    ensures { λ r. ⌜ shown r ≡ eqHzParallaxRule «dist_to_earth» ⌝ }
+pub fn eq_hz_parallax(dist_to_earth: f64) -> Radians
+    ensures { λ r. ⌜ shownRadians r ≡ eqHzParallaxRule «dist_to_earth» ⌝ }
 {
     let no = quantity::distance_refusal(dist_to_earth);
     if no != 0 {
-        return One::Refused(no);
+        return Radians::Refused(no);
     }
     eq_hz_parallax_in(dist_to_earth)
 }
@@ -100,36 +100,36 @@ fn ahead(c: Centre, h: Folded, d: Folded) -> f64
 }
 
 // The topocentric declination, from the change of right ascension.
-fn topocent_dec(c: Centre, d: Folded, change: f64, x: f64) -> One
-    ensures { λ r. ⌜ shown r ≡ topocentDec c d change x ⌝ }
+fn topocent_dec(c: Centre, d: Folded, change: Rad, x: f64) -> Radians
+    ensures { λ r. ⌜ shownRadians r ≡ topocentDec c d change x ⌝ }
 {
     elementary_arc::arctangent_in(
-        (d.sine() - c.rho_sin * c.parallax) * elementary::fold(Rad(change)).cosine(),
+        (d.sine() - c.rho_sin * c.parallax) * elementary::fold(change).cosine(),
         x,
     )
 }
 
 // The topocentric point, from its change of right ascension.
-fn topocent_from(c: Centre, d: Folded, asc: f64, change: f64, x: f64) -> Point
+fn topocent_from(c: Centre, d: Folded, asc: Rad, change: Rad, x: f64) -> Point
     ensures { λ r. ⌜ shownPoint r ≡ topocentFrom c d asc change x ⌝ }
 {
     match topocent_dec(c, d, change, x) {
-        One::Is(dec) => Point::Is(EqPoint {
-            asc: asc + change,
-            dec: dec,
+        Radians::Are(dec) => Point::Is(EqPoint {
+            asc: asc.0 + change.0,
+            dec: dec.0,
         }),
-        One::Refused(n) => Point::Refused(n),
+        Radians::Refused(n) => Point::Refused(n),
     }
 }
 
 // The topocentric point, from the hour angle h and the declination d.
-fn topocent_at(c: Centre, h: Folded, d: Folded, asc: f64) -> Point
+fn topocent_at(c: Centre, h: Folded, d: Folded, asc: Rad) -> Point
     ensures { λ r. ⌜ shownPoint r ≡ topocentAt c h d asc ⌝ }
 {
     let x = ahead(c, h, d);
     match elementary_arc::arctangent_in(eastward(c, h), x) {
-        One::Is(change) => topocent_from(c, d, asc, change, x),
-        One::Refused(n) => Point::Refused(n),
+        Radians::Are(change) => topocent_from(c, d, asc, change, x),
+        Radians::Refused(n) => Point::Refused(n),
     }
 }
 
@@ -142,7 +142,7 @@ fn topocent_in(p: EqPoint, parallax: Rad, place: GeographPoint, height: f64, sid
             centre_of(s, c, parallax),
             elementary::fold(coords::hour_angle(sidereal, Rad(place.long), Rad(p.asc))),
             elementary::fold(Rad(p.dec)),
-            p.asc,
+            Rad(p.asc),
         ),
         Two::Refused(n) => Point::Refused(n),
     }

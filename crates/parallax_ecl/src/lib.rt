@@ -1,7 +1,7 @@
 // Topocentric ecliptic coordinates (section 4). Angles are in radians, heights in metres.
 // Rules: specs/rules, in reading order in specs/rules.antt.
 ghost use mathlib.Core.Path.{_≡_};
-ghost use Rattle.quantity.specs.rules.Answer.{shown, shownThree};
+ghost use Rattle.quantity.specs.rules.Answer.{shownRadians, shownThree};
 ghost use Rattle.parallax_ecl.specs.rules.Ecliptic.{nearby, longTop, latTop, semidiameterIn, eclipticFrom, eclipticAlong, eclipticAt, eclipticIn, topopcentRefusal, topopcentEclCoordsRule};
 use elementary::Folded;
 use helpers::angle;
@@ -9,8 +9,8 @@ use helpers::earth::Earth;
 use parallax::Centre;
 use quantity::EclPoint;
 use quantity::GeographPoint;
-use quantity::One;
 use quantity::Rad;
+use quantity::Radians;
 use quantity::Three;
 use quantity::Two;
 
@@ -24,8 +24,8 @@ fn nearby(c: Centre, l: Folded, b: Folded, s: Folded) -> f64
 }
 
 // The topocentric longitude.
-fn long_top(c: Centre, l: Folded, b: Folded, s: Folded, e: Folded, n: f64) -> One
-    ensures { λ r. ⌜ shown r ≡ longTop c l b s e n ⌝ }
+fn long_top(c: Centre, l: Folded, b: Folded, s: Folded, e: Folded, n: f64) -> Radians
+    ensures { λ r. ⌜ shownRadians r ≡ longTop c l b s e n ⌝ }
 {
     elementary_arc::arctangent_in(
         l.sine() * b.cosine()
@@ -35,8 +35,8 @@ fn long_top(c: Centre, l: Folded, b: Folded, s: Folded, e: Folded, n: f64) -> On
 }
 
 // The topocentric latitude, from the cosine of the longitude.
-fn lat_top(c: Centre, b: Folded, s: Folded, e: Folded, cos_long: f64, n: f64) -> One
-    ensures { λ r. ⌜ shown r ≡ latTop c b s e «cos_long» n ⌝ }
+fn lat_top(c: Centre, b: Folded, s: Folded, e: Folded, cos_long: f64, n: f64) -> Radians
+    ensures { λ r. ⌜ shownRadians r ≡ latTop c b s e «cos_long» n ⌝ }
 {
     elementary_arc::arctangent_in(
         cos_long
@@ -46,21 +46,21 @@ fn lat_top(c: Centre, b: Folded, s: Folded, e: Folded, cos_long: f64, n: f64) ->
 }
 
 // The topocentric semidiameter. Refusals: 7.
-fn semidiameter_in(cos_long: f64, lat: f64, semidiameter: Rad, n: f64) -> One
-    ensures { λ r. ⌜ shown r ≡ semidiameterIn «cos_long» lat semidiameter n ⌝ }
+fn semidiameter_in(cos_long: f64, lat: Rad, semidiameter: Rad, n: f64) -> Radians
+    ensures { λ r. ⌜ shownRadians r ≡ semidiameterIn «cos_long» lat semidiameter n ⌝ }
 {
     elementary_arc::arcsine_in(
-        cos_long * elementary::fold(Rad(lat)).cosine() * elementary::fold(semidiameter).sine() / n,
+        cos_long * elementary::fold(lat).cosine() * elementary::fold(semidiameter).sine() / n,
     )
 }
 
 // All three, from the longitude and the latitude. Refusals: 7.
-fn ecliptic_from(long: f64, cos_long: f64, lat: f64, semidiameter: Rad, n: f64) -> Three
+fn ecliptic_from(long: Rad, cos_long: f64, lat: Rad, semidiameter: Rad, n: f64) -> Three
     ensures { λ r. ⌜ shownThree r ≡ eclipticFrom long «cos_long» lat semidiameter n ⌝ }
 {
     match semidiameter_in(cos_long, lat, semidiameter, n) {
-        One::Is(s) => Three::Are(angle::within_two_PI(Rad(long)).0, lat, s),
-        One::Refused(k) => Three::Refused(k),
+        Radians::Are(s) => Three::Are(angle::within_two_PI(long).0, lat.0, s.0),
+        Radians::Refused(k) => Three::Refused(k),
     }
 }
 
@@ -70,16 +70,16 @@ fn ecliptic_along(
     b: Folded,
     s: Folded,
     e: Folded,
-    long: f64,
+    long: Rad,
     semidiameter: Rad,
     n: f64,
 ) -> Three
     ensures { λ r. ⌜ shownThree r ≡ eclipticAlong c b s e long semidiameter n ⌝ }
 {
-    let cos_long = elementary::fold(Rad(long)).cosine();
+    let cos_long = elementary::fold(long).cosine();
     match lat_top(c, b, s, e, cos_long, n) {
-        One::Is(lat) => ecliptic_from(long, cos_long, lat, semidiameter, n),
-        One::Refused(k) => Three::Refused(k),
+        Radians::Are(lat) => ecliptic_from(long, cos_long, lat, semidiameter, n),
+        Radians::Refused(k) => Three::Refused(k),
     }
 }
 
@@ -92,8 +92,8 @@ fn ecliptic_at(c: Centre, l: Folded, b: Folded, s: Folded, e: Folded, semidiamet
         return Three::Refused(6);
     }
     match long_top(c, l, b, s, e, n) {
-        One::Is(long) => ecliptic_along(c, b, s, e, long, semidiameter, n),
-        One::Refused(k) => Three::Refused(k),
+        Radians::Are(long) => ecliptic_along(c, b, s, e, long, semidiameter, n),
+        Radians::Refused(k) => Three::Refused(k),
     }
 }
 

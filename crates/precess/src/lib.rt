@@ -106,8 +106,8 @@ pub fn annual_precess(asc: Rad, dec: Rad, day: f64) -> Two
 
 // What two days fix of equatorial precession: two angles, and the sine and cosine of the third.
 pub struct EqTurns {
-    pub xi: f64,
-    pub zeta: f64,
+    pub xi: Rad,
+    pub zeta: Rad,
     pub sine: f64,
     pub cosine: f64,
 }
@@ -146,8 +146,8 @@ fn turns_of(xi: Rad, zeta: Rad, theta: Rad) -> EqTurns
 {
     let t = elementary::turn_of(theta);
     EqTurns {
-        xi: xi.0,
-        zeta: zeta.0,
+        xi: xi,
+        zeta: zeta,
         sine: t.sine,
         cosine: t.cosine,
     }
@@ -188,7 +188,7 @@ pub fn turned_in(asc: Rad, dec: Rad, turns: EqTurns) -> Two
     ensures { λ r. ⌜ shownTwo r ≡ turnedIn asc dec turns ⌝ }
 {
     let p = EqPoint {
-        asc: asc.0 + turns.xi,
+        asc: asc.0 + turns.xi.0,
         dec: dec.0,
     };
     placed(elementary::toward(p), turns)

@@ -1,7 +1,7 @@
 // Precession of the ecliptic (section 4): its places, and the elements of an orbit. Angles are in radians.
 // Rules: specs/rules, in reading order in specs/rules.antt.
 ghost use mathlib.Core.Path.{_≡_};
-ghost use Rattle.quantity.specs.rules.Answer.{shown, shownTwo, shownThree};
+ghost use Rattle.quantity.specs.rules.Answer.{shownTwo, shownThree, shownRadians};
 ghost use Rattle.precess_ecl.specs.rules.Ecliptic.{eclNu, eclPi, eclRho, eclTurned, eclTurnsOf, eclPlaced, eclTurnedIn, precessEclCoordsRule};
 ghost use Rattle.precess_ecl.specs.rules.Orbit.{leanedOf, newInclination, newNode, nodeAndPerihelion, orbitFrom, orbitIn, orbitRefusal, precessOrbElementsRule};
 use elementary::Folded;
@@ -10,6 +10,7 @@ use helpers::time;
 use quantity::Deg;
 use quantity::One;
 use quantity::Rad;
+use quantity::Radians;
 use quantity::Three;
 use quantity::Two;
 
@@ -17,11 +18,11 @@ use quantity::Two;
 
 // What two days fix of ecliptic precession: nu with its sine and cosine, Pi and rho.
 pub struct EclTurns {
-    pub nu: f64,
+    pub nu: Rad,
     pub sine: f64,
     pub cosine: f64,
-    pub pi: f64,
-    pub rho: f64,
+    pub pi: Rad,
+    pub rho: Rad,
 }
 
 const BACK: f64 = -0.03302;
@@ -67,11 +68,11 @@ fn ecl_turned(nu: Rad, pi: Rad, rho: Rad) -> EclTurns
 {
     let t = elementary::turn_of(nu);
     EclTurns {
-        nu: nu.0,
+        nu: nu,
         sine: t.sine,
         cosine: t.cosine,
-        pi: pi.0,
-        rho: rho.0,
+        pi: pi,
+        rho: rho,
     }
 }
 
@@ -98,7 +99,7 @@ fn ecl_placed(p: Folded, b: Folded, turns: EclTurns) -> Two
     let cb = b.cosine();
     quantity::both(
         quantity::taken_from(
-            turns.rho + turns.pi,
+            Rad(turns.rho.0 + turns.pi.0),
             elementary_arc::arctangent_in(turns.cosine * cb * sp - turns.sine * sb, cb * cp),
         ),
         elementary_arc::arcsine_in(turns.cosine * sb + turns.sine * cb * sp),
@@ -110,7 +111,7 @@ fn ecl_turned_in(long: Rad, lat: Rad, turns: EclTurns) -> Two
     ensures { λ r. ⌜ shownTwo r ≡ eclTurnedIn long lat turns ⌝ }
 {
     ecl_placed(
-        elementary::fold(Rad(turns.pi - long.0)),
+        elementary::fold(Rad(turns.pi.0 - long.0)),
         elementary::fold(lat),
         turns,
     )
@@ -147,52 +148,53 @@ fn lean(i: Folded, n: Folded, turns: EclTurns) -> Leaned
 }
 
 // The new inclination; nu where the old one is zero, of either sign. Refusals: 7.
-fn new_inclination(inc: Rad, l: Leaned, turns: EclTurns) -> One
-    ensures { λ r. ⌜ shown r ≡ newInclination inc l turns ⌝ }
+fn new_inclination(inc: Rad, l: Leaned, turns: EclTurns) -> Radians
+    ensures { λ r. ⌜ shownRadians r ≡ newInclination inc l turns ⌝ }
 {
     if inc.0 == 0.0 {
-        return One::Is(turns.nu);
+        let nu = turns.nu;
+        return Radians::Are(nu);
     }
     match root::square_root(l.a * l.a + l.b * l.b) {
         One::Is(s) => elementary_arc::arcsine_in(s),
-        One::Refused(n) => One::Refused(n),
+        One::Refused(n) => Radians::Refused(n),
     }
 }
 
 // The new node; half a turn on where the old inclination is zero.
-fn new_node(inc: Rad, l: Leaned, turns: EclTurns) -> One
-    ensures { λ r. ⌜ shown r ≡ newNode inc l turns ⌝ }
+fn new_node(inc: Rad, l: Leaned, turns: EclTurns) -> Radians
+    ensures { λ r. ⌜ shownRadians r ≡ newNode inc l turns ⌝ }
 {
-    let phi = turns.pi + turns.rho;
+    let phi = turns.pi.0 + turns.rho.0;
     if inc.0 == 0.0 {
-        return One::Is(phi + quantity::PI);
+        return Radians::Are(Rad(phi + quantity::PI));
     }
-    quantity::added_to(phi, elementary_arc::arctangent_in(l.a, l.b))
+    quantity::added_to(Rad(phi), elementary_arc::arctangent_in(l.a, l.b))
 }
 
 // The new node and perihelion, where the new inclination's sine s is not zero. Refusals: 7.
-fn node_and_perihelion(s: f64, node: One, perih: Rad, n: Folded, turns: EclTurns) -> Two
-    ensures { λ r. ⌜ shownTwo r ≡ nodeAndPerihelion s (shown node) perih n turns ⌝ }
+fn node_and_perihelion(s: f64, node: Radians, perih: Rad, n: Folded, turns: EclTurns) -> Two
+    ensures { λ r. ⌜ shownTwo r ≡ nodeAndPerihelion s (shownRadians node) perih n turns ⌝ }
 {
     quantity::both(
         node,
         quantity::added_to(
-            perih.0,
+            perih,
             elementary_arc::arcsine_in(-turns.sine * n.sine() / s),
         ),
     )
 }
 
 // The elements with their new inclination i. Refusals: 6 where its sine is zero; 7.
-fn orbit_from(i: f64, node: One, perih: Rad, n: Folded, turns: EclTurns) -> Three
-    ensures { λ r. ⌜ shownThree r ≡ orbitFrom i (shown node) perih n turns ⌝ }
+fn orbit_from(i: Rad, node: Radians, perih: Rad, n: Folded, turns: EclTurns) -> Three
+    ensures { λ r. ⌜ shownThree r ≡ orbitFrom i (shownRadians node) perih n turns ⌝ }
 {
-    let s = elementary::fold(Rad(i)).sine();
+    let s = elementary::fold(i).sine();
     if s == 0.0 {
         return Three::Refused(6);
     }
     match node_and_perihelion(s, node, perih, n, turns) {
-        Two::Are(x, w) => Three::Are(i, w, x),
+        Two::Are(x, w) => Three::Are(i.0, w, x),
         Two::Refused(k) => Three::Refused(k),
     }
 }
@@ -201,11 +203,11 @@ fn orbit_from(i: f64, node: One, perih: Rad, n: Folded, turns: EclTurns) -> Thre
 fn orbit_in(inc: Rad, perih: Rad, node: Rad, turns: EclTurns) -> Three
     ensures { λ r. ⌜ shownThree r ≡ orbitIn inc perih node turns ⌝ }
 {
-    let n = elementary::fold(Rad(node.0 - turns.pi));
+    let n = elementary::fold(Rad(node.0 - turns.pi.0));
     let l = lean(elementary::fold(inc), n, turns);
     match new_inclination(inc, l, turns) {
-        One::Is(i) => orbit_from(i, new_node(inc, l, turns), perih, n, turns),
-        One::Refused(k) => Three::Refused(k),
+        Radians::Are(i) => orbit_from(i, new_node(inc, l, turns), perih, n, turns),
+        Radians::Refused(k) => Three::Refused(k),
     }
 }
 

@@ -1,8 +1,5 @@
 // Prints the star list that stands on standard input, reduced from the day of the first argument to that of the second.
-// One byte more than a list may have is read, so that a longer one is seen.
-use day::Day;
-
-const READ: usize = list::WIDTH * list::MOST_STARS + 1;
+use text_day::Day;
 
 // The day that argument i says. A missing one, and one of more than 64 bytes, is none.
 fn day_of(i: usize) -> Day {
@@ -11,7 +8,7 @@ fn day_of(i: usize) -> Day {
     if os::errno() != 0 {
         return Day::Unclear;
     }
-    day::read(&text[..n])
+    text_day::read(&text[..n])
 }
 
 // Says which argument is not a day.
@@ -25,10 +22,10 @@ fn complain(which: &[u8]) {
 
 // The report of the list.
 fn print(day1: f64, day2: f64) {
-    let mut input = [0u8; READ];
+    let mut input = [0u8; list::READ];
     let n = io::read_full(0, &mut input);
-    let mut out = [0u8; report::ROOM];
-    let k = report::put_report(&mut out, &input[..n], day1, day2);
+    let mut out = [0u8; text_report::ROOM];
+    let k = text_report::put_report(&mut out, &input[..n], day1, day2);
     io::write_all(1, &out[..k]);
 }
 

@@ -11,6 +11,7 @@ use quantity::GeographPoint;
 use quantity::One;
 use quantity::Point;
 use quantity::Rad;
+use quantity::Radians;
 use quantity::Three;
 use quantity::Two;
 
@@ -40,6 +41,14 @@ fn one(a: One) {
     match a {
         One::Is(x) => number(x),
         One::Refused(n) => refusal(n),
+    }
+    end();
+}
+
+fn radians(a: Radians) {
+    match a {
+        Radians::Are(x) => number(x.0),
+        Radians::Refused(n) => refusal(n),
     }
     end();
 }
@@ -87,35 +96,35 @@ fn deg(x: f64) -> Rad {
 fn limits() {
     one(time::julian_cent(3182045.0));
     one(time::julian_cent(3182045.0000000005));
-    one(aberr::sol_aberr(0.0));
+    radians(aberr::sol_aberr(0.0));
     three(precess_ecl::precess_orb_elements(Rad(0.0), Rad(1.0), Rad(1.0), J2000, J2000));
-    one(coords::az_frm_eq(Rad(1.0), Rad(1.57), Rad(0.5)));
-    one(coords::az_frm_eq(Rad(1.0), Rad(1.5700000000000003), Rad(0.5)));
+    radians(coords::az_frm_eq(Rad(1.0), Rad(1.57), Rad(0.5)));
+    radians(coords::az_frm_eq(Rad(1.0), Rad(1.5700000000000003), Rad(0.5)));
 }
 
 fn earth_and_ecliptic() {
     two(Earth::rho_sin_cos_phi(deg(33.35611111111111), 1706.0));
-    one(coords_ecl::ecl_long_frm_eq(deg(116.328942), deg(28.026183), deg(23.4392911)));
-    one(coords_ecl::ecl_lat_frm_eq(deg(116.328942), deg(28.026183), deg(23.4392911)));
-    one(coords_ecl::asc_frm_ecl(deg(113.21563), deg(6.68417), deg(23.4392911)));
-    one(coords_ecl::dec_frm_ecl(deg(113.21563), deg(6.68417), deg(23.4392911)));
+    radians(coords_ecl::ecl_long_frm_eq(deg(116.328942), deg(28.026183), deg(23.4392911)));
+    radians(coords_ecl::ecl_lat_frm_eq(deg(116.328942), deg(28.026183), deg(23.4392911)));
+    radians(coords_ecl::asc_frm_ecl(deg(113.21563), deg(6.68417), deg(23.4392911)));
+    radians(coords_ecl::dec_frm_ecl(deg(113.21563), deg(6.68417), deg(23.4392911)));
 }
 
 fn horizon_and_galaxy() {
-    one(coords::az_frm_eq(
+    radians(coords::az_frm_eq(
         deg(64.352133),
         deg(-6.719891666666667),
         deg(38.92138888888889),
     ));
-    one(coords::alt_frm_eq(
+    radians(coords::alt_frm_eq(
         deg(64.352133),
         deg(-6.719891666666667),
         deg(38.92138888888889),
     ));
-    one(coords::hr_angl_frm_hz(deg(68.0337), deg(15.1249), deg(38.92138888888889)));
-    one(coords::dec_frm_hz(deg(68.0337), deg(15.1249), deg(38.92138888888889)));
-    one(coords_gal::gal_long_frm_eq(deg(267.2489166666667), deg(-14.718944444444444)));
-    one(coords_gal::gal_lat_frm_eq(deg(267.2489166666667), deg(-14.718944444444444)));
+    radians(coords::hr_angl_frm_hz(deg(68.0337), deg(15.1249), deg(38.92138888888889)));
+    radians(coords::dec_frm_hz(deg(68.0337), deg(15.1249), deg(38.92138888888889)));
+    radians(coords_gal::gal_long_frm_eq(deg(267.2489166666667), deg(-14.718944444444444)));
+    radians(coords_gal::gal_lat_frm_eq(deg(267.2489166666667), deg(-14.718944444444444)));
 }
 
 // Polaris on a day: its place of J2000, 2h31m48.704s and 89d15'50.72", is moved by its yearly rates first.
@@ -154,11 +163,11 @@ fn reductions() {
         2358042.5305,
         2433282.4235,
     ));
-    one(aberr::sol_aberr(0.99766));
+    radians(aberr::sol_aberr(0.99766));
 }
 
 fn parallaxes() {
-    one(parallax::eq_hz_parallax(0.37276));
+    radians(parallax::eq_hz_parallax(0.37276));
     point(parallax::topocent_eq_coords(
         EqPoint {
             asc: deg(339.530208).0,

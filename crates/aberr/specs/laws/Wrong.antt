@@ -6,12 +6,10 @@ use std.Logic.{_≢_}
 use lib.Ieee.{Float}
 use Rattle.double.specs.rules.Operations.{zero, half, one, two}
 use Rattle.double.specs.laws.Apart.{apart}
-use Rattle.quantity.specs.declared.EqPoint.{EqPoint}
 use Rattle.quantity.specs.declared.Shift.{Shift}
-use Rattle.quantity.specs.rules.Angle.{HALF}
-use Rattle.quantity.specs.rules.Answer.{Pair}
 use Rattle.quantity.specs.rules.Refusal.{epoch}
-use Rattle.quantity.specs.notions.Code.{ofFloat, ofAnswer}
+use Rattle.quantity.specs.notions.Code.{ofRad, ofAnswer, unread}
+use Rattle.quantity.specs.notions.Stated.{northPole}
 use Rattle.quantity.specs.notions.Varies.{Varies}
 use Rattle.elementary.specs.declared.Direction.{Direction}
 use Rattle.aberr_rows.specs.declared.Velocity.{Velocity}
@@ -21,13 +19,13 @@ use Rattle.aberr.specs.notions.Computed.{computed}
 use Rattle.aberr.specs.notions.Wrong.{anotherLight, cosineOfDeclinationMissing, declinationNotSteep}
 
 abbrev ofAsc : Shift → ℕ
-ofAsc s = ofFloat (s .asc)
+ofAsc s = ofRad (s .asc)
 
 -- ---- the Sun
 
 pub sol-aberr-varies : Varies (solAberrRule one) (solAberrRule two)
 unfolding computed
-sol-aberr-varies = record { here = refl; there = refl; apart = apart (ofAnswer ofFloat) refl }
+sol-aberr-varies = record { here = refl; there = refl; apart = apart (ofAnswer ofRad) refl }
 
 -- ---- a star
 
@@ -38,13 +36,6 @@ toward c = record { «sin_asc» = zero; «cos_asc» = one; «sin_dec» = zero; �
 -- along the second axis
 abbrev along : Velocity
 along = record { x = zero; y = one; z = zero }
-
-abbrev pole : EqPoint
-pole = record { asc = zero; dec = HALF }
-
--- whether there is an answer, and which refusal
-abbrev unread : Pair → ℕ
-unread p = 0
 
 pub aberr-at-varies : aberrAt (toward one) along ≢ aberrAt (toward half) along
 unfolding computed
@@ -58,6 +49,6 @@ pub cosine-of-declination-missing-excluded : cosineOfDeclinationMissing (toward 
 unfolding computed
 cosine-of-declination-missing-excluded = apart ofAsc refl
 
-pub declination-not-steep-excluded : declinationNotSteep pole epoch ≢ stellAberrInEqCoordsRule pole epoch
+pub declination-not-steep-excluded : declinationNotSteep northPole epoch ≢ stellAberrInEqCoordsRule northPole epoch
 unfolding computed
 declination-not-steep-excluded = apart (ofAnswer unread) refl

@@ -4,6 +4,7 @@ use lib.Ieee.{Float, neg}
 use Rattle.double.specs.rules.Operations.{_⊕_, _⊖_, _⊗_, _⊘_}
 use Rattle.quantity.specs.declared.EqPoint.{EqPoint}
 use Rattle.quantity.specs.declared.Shift.{Shift}
+use Rattle.quantity.specs.rules.Angle.{rad}
 use Rattle.quantity.specs.rules.Answer.{Answer, answered, Pair, pair, unless}
 use Rattle.quantity.specs.rules.Refusal.{lower, dayRefusal, angleRefusal, steepRefusal}
 use Rattle.elementary.specs.declared.Direction.{Direction}
@@ -20,13 +21,13 @@ light = n17314463350
 unfoldable pub aberrAt : Direction → Velocity → Shift
 aberrAt d v =
     record {
-      asc = (v .y ⊗ d .«cos_asc» ⊖ v .x ⊗ d .«sin_asc») ⊘ (light ⊗ d .«cos_dec»);
-      dec = neg ((v .x ⊗ d .«cos_asc» ⊕ v .y ⊗ d .«sin_asc») ⊗ d .«sin_dec» ⊖ v .z ⊗ d .«cos_dec») ⊘ light;
+      asc = rad ((v .y ⊗ d .«cos_asc» ⊖ v .x ⊗ d .«sin_asc») ⊘ (light ⊗ d .«cos_dec»));
+      dec = rad (neg ((v .x ⊗ d .«cos_asc» ⊕ v .y ⊗ d .«sin_asc») ⊗ d .«sin_dec» ⊖ v .z ⊗ d .«cos_dec») ⊘ light);
     }
 
 abbrev pub stellAberrRefusal : EqPoint → Float → ℕ
 stellAberrRefusal p day =
-    lower (lower (angleRefusal (record { 0 = p .asc })) (steepRefusal (record { 0 = p .dec }))) (dayRefusal day)
+    lower (lower (angleRefusal (rad (p .asc))) (steepRefusal (rad (p .dec)))) (dayRefusal day)
 
 unfoldable pub stellAberrInEqCoordsIn : EqPoint → Float → Shift
 stellAberrInEqCoordsIn p day = aberrAt (directionOf p) (velocityOf day)
@@ -34,4 +35,4 @@ stellAberrInEqCoordsIn p day = aberrAt (directionOf p) (velocityOf day)
 unfoldable pub stellAberrInEqCoordsRule : EqPoint → Float → Answer Pair
 stellAberrInEqCoordsRule p day =
     unless (stellAberrRefusal p day)
-    (answered (pair (stellAberrInEqCoordsIn p day .asc) (stellAberrInEqCoordsIn p day .dec)))
+    (answered (pair (stellAberrInEqCoordsIn p day .asc .0) (stellAberrInEqCoordsIn p day .dec .0)))

@@ -1,6 +1,7 @@
 -- Wrong variants of the arguments of aberration.
 use lib.Ieee.{Float}
 use Rattle.double.specs.rules.Operations.{bits, _⊕_, _⊗_}
+use Rattle.quantity.specs.rules.Angle.{rad}
 use Rattle.aberr_rows.specs.declared.Arguments.{Arguments}
 use Rattle.aberr_rows.specs.rules.Numbers.{n1·7534703}
 use Rattle.aberr_rows.specs.rules.Arguments.{argumentsOf}
@@ -12,7 +13,7 @@ anotherArgument t =
     record {
       t = t;
       l2 = g .l2;
-      l3 = n1·7534703 ⊕ bits 0x4083a275f16e6cc5 ⊗ t;
+      l3 = rad (n1·7534703 ⊕ bits 0x4083a275f16e6cc5 ⊗ t);
       l4 = g .l4;
       l5 = g .l5;
       l6 = g .l6;

@@ -2,15 +2,15 @@
 -- Rows 19, 21 and 31 to 35 keep the crate's grouping.
 use lib.Ieee.{neg}
 use Rattle.double.specs.rules.Operations.{_⊕_, _⊖_, _⊗_}
+use Rattle.quantity.specs.rules.Angle.{rad}
 use Rattle.elementary.specs.rules.Sine.{turnOf}
 use Rattle.aberr_rows.specs.declared.Arguments.{Arguments}
 use Rattle.aberr_rows.specs.declared.Velocity.{Velocity}
 use Rattle.aberr_rows.specs.rules.Numbers.{n1719914, n2, n25, n13, n1578089, n156, n10, n32, n684185, n358, n6434, n141, n28007, n107, n25697, n95, n5904, n130, n11141, n48, n2559, n55, n715, n6, n657, n15, n282, n656, n285, n486, n5, n236, n4, n216, n446, n94, n193, n3, n159, n147, n61, n26, n59, n39, n36, n16, n33, n9, n30, n31, n28, n12, n8, n11, n21, n19, n17, n7, n1, n14}
-use Rattle.aberr_rows.specs.rules.Arguments.{rad}
 
 unfoldable pub row1 : Arguments → Velocity → Velocity
 row1 g v =
-    let a = turnOf (rad (g .l3)) in
+    let a = turnOf (rad (g .l3 .0)) in
     record {
       x = v .x ⊕ ((neg n1719914 ⊖ n2 ⊗ g .t) ⊗ a .sine ⊖ n25 ⊗ a .cosine);
       y = v .y ⊕ ((n25 ⊖ n13 ⊗ g .t) ⊗ a .sine ⊕ (n1578089 ⊕ n156 ⊗ g .t) ⊗ a .cosine);
@@ -19,7 +19,7 @@ row1 g v =
 
 unfoldable pub row2 : Arguments → Velocity → Velocity
 row2 g v =
-    let a = turnOf (rad (n2 ⊗ g .l3)) in
+    let a = turnOf (rad (n2 ⊗ g .l3 .0)) in
     record {
       x = v .x ⊕ ((n6434 ⊕ n141 ⊗ g .t) ⊗ a .sine ⊕ (n28007 ⊖ n107 ⊗ g .t) ⊗ a .cosine);
       y = v .y ⊕ ((n25697 ⊖ n95 ⊗ g .t) ⊗ a .sine ⊕ (neg n5904 ⊖ n130 ⊗ g .t) ⊗ a .cosine);
@@ -28,7 +28,7 @@ row2 g v =
 
 unfoldable pub row3 : Arguments → Velocity → Velocity
 row3 g v =
-    let a = turnOf (rad (g .l5)) in
+    let a = turnOf (rad (g .l5 .0)) in
     record {
       x = v .x ⊕ n715 ⊗ a .sine;
       y = v .y ⊕ (n6 ⊗ a .sine ⊖ n657 ⊗ a .cosine);
@@ -37,7 +37,7 @@ row3 g v =
 
 unfoldable pub row4 : Arguments → Velocity → Velocity
 row4 g v =
-    let a = turnOf (rad (g .l1)) in
+    let a = turnOf (rad (g .l1 .0)) in
     record {
       x = v .x ⊕ n715 ⊗ a .sine;
       y = v .y ⊕ neg n656 ⊗ a .cosine;
@@ -46,7 +46,7 @@ row4 g v =
 
 unfoldable pub row5 : Arguments → Velocity → Velocity
 row5 g v =
-    let a = turnOf (rad (n3 ⊗ g .l3)) in
+    let a = turnOf (rad (n3 ⊗ g .l3 .0)) in
     record {
       x = v .x ⊕ ((n486 ⊖ n5 ⊗ g .t) ⊗ a .sine ⊕ (neg n236 ⊖ n4 ⊗ g .t) ⊗ a .cosine);
       y = v .y ⊕ ((neg n216 ⊖ n4 ⊗ g .t) ⊗ a .sine ⊕ (neg n446 ⊕ n5 ⊗ g .t) ⊗ a .cosine);
@@ -55,7 +55,7 @@ row5 g v =
 
 unfoldable pub row6 : Arguments → Velocity → Velocity
 row6 g v =
-    let a = turnOf (rad (g .l6)) in
+    let a = turnOf (rad (g .l6 .0)) in
     record {
       x = v .x ⊕ n159 ⊗ a .sine;
       y = v .y ⊕ (n2 ⊗ a .sine ⊖ n147 ⊗ a .cosine);
@@ -64,7 +64,7 @@ row6 g v =
 
 unfoldable pub row7 : Arguments → Velocity → Velocity
 row7 g v =
-    let a = turnOf (rad (g .f)) in
+    let a = turnOf (rad (g .f .0)) in
     record {
       x = v .x;
       y = v .y ⊕ n26 ⊗ a .cosine;
@@ -73,7 +73,7 @@ row7 g v =
 
 unfoldable pub row8 : Arguments → Velocity → Velocity
 row8 g v =
-    let a = turnOf (rad (g .l1 ⊕ g .m1)) in
+    let a = turnOf (rad (g .l1 .0 ⊕ g .m1 .0)) in
     record {
       x = v .x ⊕ n39 ⊗ a .sine;
       y = v .y ⊕ neg n36 ⊗ a .cosine;
@@ -82,7 +82,7 @@ row8 g v =
 
 unfoldable pub row9 : Arguments → Velocity → Velocity
 row9 g v =
-    let a = turnOf (rad (n2 ⊗ g .l5)) in
+    let a = turnOf (rad (n2 ⊗ g .l5 .0)) in
     record {
       x = v .x ⊕ (n33 ⊗ a .sine ⊖ n10 ⊗ a .cosine);
       y = v .y ⊕ (neg n9 ⊗ a .sine ⊖ n30 ⊗ a .cosine);
@@ -91,7 +91,7 @@ row9 g v =
 
 unfoldable pub row10 : Arguments → Velocity → Velocity
 row10 g v =
-    let a = turnOf (rad (n2 ⊗ g .l3 ⊖ g .l5)) in
+    let a = turnOf (rad (n2 ⊗ g .l3 .0 ⊖ g .l5 .0)) in
     record {
       x = v .x ⊕ (n31 ⊗ a .sine ⊕ a .cosine);
       y = v .y ⊕ (a .sine ⊖ n28 ⊗ a .cosine);
@@ -100,7 +100,7 @@ row10 g v =
 
 unfoldable pub row11 : Arguments → Velocity → Velocity
 row11 g v =
-    let a = turnOf (rad (n3 ⊗ g .l3 ⊖ n8 ⊗ g .l4 ⊕ n3 ⊗ g .l5)) in
+    let a = turnOf (rad (n3 ⊗ g .l3 .0 ⊖ n8 ⊗ g .l4 .0 ⊕ n3 ⊗ g .l5 .0)) in
     record {
       x = v .x ⊕ (n8 ⊗ a .sine ⊖ n28 ⊗ a .cosine);
       y = v .y ⊕ (n25 ⊗ a .sine ⊕ n8 ⊗ a .cosine);
@@ -109,7 +109,7 @@ row11 g v =
 
 unfoldable pub row12 : Arguments → Velocity → Velocity
 row12 g v =
-    let a = turnOf (rad (n5 ⊗ g .l3 ⊖ n8 ⊗ g .l4 ⊕ n3 ⊗ g .l5)) in
+    let a = turnOf (rad (n5 ⊗ g .l3 .0 ⊖ n8 ⊗ g .l4 .0 ⊕ n3 ⊗ g .l5 .0)) in
     record {
       x = v .x ⊕ (n8 ⊗ a .sine ⊖ n28 ⊗ a .cosine);
       y = v .y ⊕ (neg n25 ⊗ a .sine ⊖ n8 ⊗ a .cosine);
@@ -118,7 +118,7 @@ row12 g v =
 
 unfoldable pub row13 : Arguments → Velocity → Velocity
 row13 g v =
-    let a = turnOf (rad (n2 ⊗ g .l2 ⊖ g .l3)) in
+    let a = turnOf (rad (n2 ⊗ g .l2 .0 ⊖ g .l3 .0)) in
     record {
       x = v .x ⊕ n21 ⊗ a .sine;
       y = v .y ⊕ neg n19 ⊗ a .cosine;
@@ -127,7 +127,7 @@ row13 g v =
 
 unfoldable pub row14 : Arguments → Velocity → Velocity
 row14 g v =
-    let a = turnOf (rad (g .l2)) in
+    let a = turnOf (rad (g .l2 .0)) in
     record {
       x = v .x ⊕ neg n19 ⊗ a .sine;
       y = v .y ⊕ n17 ⊗ a .cosine;
@@ -136,7 +136,7 @@ row14 g v =
 
 unfoldable pub row15 : Arguments → Velocity → Velocity
 row15 g v =
-    let a = turnOf (rad (g .l7)) in
+    let a = turnOf (rad (g .l7 .0)) in
     record {
       x = v .x ⊕ n17 ⊗ a .sine;
       y = v .y ⊕ neg n16 ⊗ a .cosine;
@@ -145,7 +145,7 @@ row15 g v =
 
 unfoldable pub row16 : Arguments → Velocity → Velocity
 row16 g v =
-    let a = turnOf (rad (g .l3 ⊖ n2 ⊗ g .l5)) in
+    let a = turnOf (rad (g .l3 .0 ⊖ n2 ⊗ g .l5 .0)) in
     record {
       x = v .x ⊕ n16 ⊗ a .sine;
       y = v .y ⊕ n15 ⊗ a .cosine;
@@ -154,7 +154,7 @@ row16 g v =
 
 unfoldable pub row17 : Arguments → Velocity → Velocity
 row17 g v =
-    let a = turnOf (rad (g .l8)) in
+    let a = turnOf (rad (g .l8 .0)) in
     record {
       x = v .x ⊕ n16 ⊗ a .sine;
       y = v .y ⊕ (a .sine ⊖ n15 ⊗ a .cosine);
@@ -163,7 +163,7 @@ row17 g v =
 
 unfoldable pub row18 : Arguments → Velocity → Velocity
 row18 g v =
-    let a = turnOf (rad (g .l3 ⊕ g .l5)) in
+    let a = turnOf (rad (g .l3 .0 ⊕ g .l5 .0)) in
     record {
       x = v .x ⊕ (n11 ⊗ a .sine ⊖ a .cosine);
       y = v .y ⊕ (neg n1 ⊗ a .sine ⊖ n10 ⊗ a .cosine);
@@ -172,7 +172,7 @@ row18 g v =
 
 unfoldable pub row19 : Arguments → Velocity → Velocity
 row19 g v =
-    let a = turnOf (rad (n2 ⊗ (g .l2 ⊖ g .l3))) in
+    let a = turnOf (rad (n2 ⊗ (g .l2 .0 ⊖ g .l3 .0))) in
     record {
       x = v .x ⊕ neg n11 ⊗ a .cosine;
       y = v .y ⊕ neg n10 ⊗ a .sine;
@@ -181,7 +181,7 @@ row19 g v =
 
 unfoldable pub row20 : Arguments → Velocity → Velocity
 row20 g v =
-    let a = turnOf (rad (g .l3 ⊖ g .l5)) in
+    let a = turnOf (rad (g .l3 .0 ⊖ g .l5 .0)) in
     record {
       x = v .x ⊕ (neg n11 ⊗ a .sine ⊖ n2 ⊗ a .cosine);
       y = v .y ⊕ (neg n2 ⊗ a .sine ⊕ n9 ⊗ a .cosine);
@@ -190,7 +190,7 @@ row20 g v =
 
 unfoldable pub row21 : Arguments → Velocity → Velocity
 row21 g v =
-    let a = turnOf (rad (n4 ⊗ g .l3)) in
+    let a = turnOf (rad (n4 ⊗ g .l3 .0)) in
     record {
       x = v .x ⊕ (neg n7 ⊗ a .sine ⊖ n8 ⊗ a .cosine);
       y = v .y ⊕ (neg n8 ⊗ a .sine ⊕ n6 ⊗ a .cosine);
@@ -199,7 +199,7 @@ row21 g v =
 
 unfoldable pub row22 : Arguments → Velocity → Velocity
 row22 g v =
-    let a = turnOf (rad (n3 ⊗ g .l3 ⊖ n2 ⊗ g .l5)) in
+    let a = turnOf (rad (n3 ⊗ g .l3 .0 ⊖ n2 ⊗ g .l5 .0)) in
     record {
       x = v .x ⊕ neg n10 ⊗ a .sine;
       y = v .y ⊕ n9 ⊗ a .cosine;
@@ -208,7 +208,7 @@ row22 g v =
 
 unfoldable pub row23 : Arguments → Velocity → Velocity
 row23 g v =
-    let a = turnOf (rad (g .l2 ⊖ n2 ⊗ g .l3)) in
+    let a = turnOf (rad (g .l2 .0 ⊖ n2 ⊗ g .l3 .0)) in
     record {
       x = v .x ⊕ neg n9 ⊗ a .sine;
       y = v .y ⊕ neg n9 ⊗ a .cosine;
@@ -217,7 +217,7 @@ row23 g v =
 
 unfoldable pub row24 : Arguments → Velocity → Velocity
 row24 g v =
-    let a = turnOf (rad (n2 ⊗ g .l2 ⊖ n3 ⊗ g .l3)) in
+    let a = turnOf (rad (n2 ⊗ g .l2 .0 ⊖ n3 ⊗ g .l3 .0)) in
     record {
       x = v .x ⊕ neg n9 ⊗ a .sine;
       y = v .y ⊕ neg n8 ⊗ a .cosine;
@@ -226,7 +226,7 @@ row24 g v =
 
 unfoldable pub row25 : Arguments → Velocity → Velocity
 row25 g v =
-    let a = turnOf (rad (n2 ⊗ g .l6)) in
+    let a = turnOf (rad (n2 ⊗ g .l6 .0)) in
     record {
       x = v .x ⊕ neg n9 ⊗ a .cosine;
       y = v .y ⊕ neg n8 ⊗ a .sine;
@@ -235,7 +235,7 @@ row25 g v =
 
 unfoldable pub row26 : Arguments → Velocity → Velocity
 row26 g v =
-    let a = turnOf (rad (n2 ⊗ g .l2 ⊖ n4 ⊗ g .l3)) in
+    let a = turnOf (rad (n2 ⊗ g .l2 .0 ⊖ n4 ⊗ g .l3 .0)) in
     record {
       x = v .x ⊕ neg n9 ⊗ a .cosine;
       y = v .y ⊕ n8 ⊗ a .sine;
@@ -244,7 +244,7 @@ row26 g v =
 
 unfoldable pub row27 : Arguments → Velocity → Velocity
 row27 g v =
-    let a = turnOf (rad (n3 ⊗ g .l3 ⊖ n2 ⊗ g .l4)) in
+    let a = turnOf (rad (n3 ⊗ g .l3 .0 ⊖ n2 ⊗ g .l4 .0)) in
     record {
       x = v .x ⊕ n8 ⊗ a .sine;
       y = v .y ⊕ neg n8 ⊗ a .cosine;
@@ -253,7 +253,7 @@ row27 g v =
 
 unfoldable pub row28 : Arguments → Velocity → Velocity
 row28 g v =
-    let a = turnOf (rad (g .l1 ⊕ n2 ⊗ g .d ⊖ g .m1)) in
+    let a = turnOf (rad (g .l1 .0 ⊕ n2 ⊗ g .d .0 ⊖ g .m1 .0)) in
     record {
       x = v .x ⊕ n8 ⊗ a .sine;
       y = v .y ⊕ neg n7 ⊗ a .cosine;
@@ -262,7 +262,7 @@ row28 g v =
 
 unfoldable pub row29 : Arguments → Velocity → Velocity
 row29 g v =
-    let a = turnOf (rad (n8 ⊗ g .l2 ⊖ n12 ⊗ g .l3)) in
+    let a = turnOf (rad (n8 ⊗ g .l2 .0 ⊖ n12 ⊗ g .l3 .0)) in
     record {
       x = v .x ⊕ (neg n4 ⊗ a .sine ⊖ n7 ⊗ a .cosine);
       y = v .y ⊕ (neg n6 ⊗ a .sine ⊕ n4 ⊗ a .cosine);
@@ -271,7 +271,7 @@ row29 g v =
 
 unfoldable pub row30 : Arguments → Velocity → Velocity
 row30 g v =
-    let a = turnOf (rad (n8 ⊗ g .l2 ⊖ n14 ⊗ g .l3)) in
+    let a = turnOf (rad (n8 ⊗ g .l2 .0 ⊖ n14 ⊗ g .l3 .0)) in
     record {
       x = v .x ⊕ (neg n4 ⊗ a .sine ⊖ n7 ⊗ a .cosine);
       y = v .y ⊕ (n6 ⊗ a .sine ⊖ n4 ⊗ a .cosine);
@@ -280,7 +280,7 @@ row30 g v =
 
 unfoldable pub row31 : Arguments → Velocity → Velocity
 row31 g v =
-    let a = turnOf (rad (n2 ⊗ g .l4)) in
+    let a = turnOf (rad (n2 ⊗ g .l4 .0)) in
     record {
       x = v .x ⊕ (neg n6 ⊗ a .sine ⊖ n5 ⊗ a .cosine);
       y = v .y ⊕ (neg n4 ⊗ a .sine ⊕ n5 ⊗ a .cosine);
@@ -289,7 +289,7 @@ row31 g v =
 
 unfoldable pub row32 : Arguments → Velocity → Velocity
 row32 g v =
-    let a = turnOf (rad (n3 ⊗ g .l2 ⊖ n4 ⊗ g .l3)) in
+    let a = turnOf (rad (n3 ⊗ g .l2 .0 ⊖ n4 ⊗ g .l3 .0)) in
     record {
       x = v .x ⊕ neg n1 ⊗ (a .sine ⊕ a .cosine);
       y = v .y ⊕ (neg n2 ⊗ a .sine ⊖ n7 ⊗ a .cosine);
@@ -298,7 +298,7 @@ row32 g v =
 
 unfoldable pub row33 : Arguments → Velocity → Velocity
 row33 g v =
-    let a = turnOf (rad (n2 ⊗ (g .l3 ⊖ g .l5))) in
+    let a = turnOf (rad (n2 ⊗ (g .l3 .0 ⊖ g .l5 .0))) in
     record {
       x = v .x ⊕ (n4 ⊗ a .sine ⊖ n6 ⊗ a .cosine);
       y = v .y ⊕ (neg n5 ⊗ a .sine ⊖ n4 ⊗ a .cosine);
@@ -307,7 +307,7 @@ row33 g v =
 
 unfoldable pub row34 : Arguments → Velocity → Velocity
 row34 g v =
-    let a = turnOf (rad (n3 ⊗ (g .l2 ⊖ g .l3))) in
+    let a = turnOf (rad (n3 ⊗ (g .l2 .0 ⊖ g .l3 .0))) in
     record {
       x = v .x ⊕ neg n7 ⊗ a .cosine;
       y = v .y ⊕ neg n6 ⊗ a .sine;
@@ -316,7 +316,7 @@ row34 g v =
 
 unfoldable pub row35 : Arguments → Velocity → Velocity
 row35 g v =
-    let a = turnOf (rad (n2 ⊗ (g .l3 ⊖ g .l4))) in
+    let a = turnOf (rad (n2 ⊗ (g .l3 .0 ⊖ g .l4 .0))) in
     record {
       x = v .x ⊕ n5 ⊗ (a .sine ⊖ a .cosine);
       y = v .y ⊕ (neg n4 ⊗ a .sine ⊖ n5 ⊗ a .cosine);
@@ -325,7 +325,7 @@ row35 g v =
 
 unfoldable pub row36 : Arguments → Velocity → Velocity
 row36 g v =
-    let a = turnOf (rad (g .l1 ⊖ n2 ⊗ g .d)) in
+    let a = turnOf (rad (g .l1 .0 ⊖ n2 ⊗ g .d .0)) in
     record {
       x = v .x ⊕ n5 ⊗ a .sine;
       y = v .y ⊕ neg n5 ⊗ a .cosine;

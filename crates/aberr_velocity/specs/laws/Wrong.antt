@@ -7,6 +7,8 @@ use Rattle.double.specs.rules.Operations.{bits, zero, half, one}
 use Rattle.double.specs.notions.Greatest.{greatest}
 use Rattle.double.specs.laws.Apart.{apart}
 use Rattle.quantity.specs.notions.Code.{ofFloat}
+use Rattle.quantity.specs.rules.Angle.{rad}
+use Rattle.quantity.specs.notions.Stated.{r0}
 use Rattle.elementary.specs.notions.Computed.{computed}
 use Rattle.aberr_rows.specs.declared.Arguments.{Arguments}
 use Rattle.aberr_rows.specs.declared.Velocity.{Velocity}
@@ -25,17 +27,17 @@ abbrev at : Float → Float → Arguments
 at a b =
     record {
       t = zero;
-      l2 = a;
-      l3 = b;
-      l4 = zero;
-      l5 = zero;
-      l6 = zero;
-      l7 = zero;
-      l8 = zero;
-      l1 = zero;
-      d = zero;
-      m1 = zero;
-      f = zero;
+      l2 = rad a;
+      l3 = rad b;
+      l4 = r0;
+      l5 = r0;
+      l6 = r0;
+      l7 = r0;
+      l8 = r0;
+      l1 = r0;
+      d = r0;
+      m1 = r0;
+      f = r0;
     }
 
 -- twice either is infinite
@@ -57,6 +59,7 @@ unfolding computed row35
 row-35-spread-excluded = apart ofX refl
 
 -- 0.25, and a sum so far of 1.0
-pub rows-29-and-30-traded-excluded : rows29And30Traded (at zero (bits 0x3fd0000000000000)) (record { x = one; y = zero; z = zero }) ≢ row30 (at zero (bits 0x3fd0000000000000)) (row29 (at zero (bits 0x3fd0000000000000)) (record { x = one; y = zero; z = zero }))
+pub rows-29-and-30-traded-excluded : rows29And30Traded (at zero (bits 0x3fd0000000000000)) (record { x = one; y = zero; z = zero })
+    ≢ row30 (at zero (bits 0x3fd0000000000000)) (row29 (at zero (bits 0x3fd0000000000000)) (record { x = one; y = zero; z = zero }))
 unfolding computed row29 row30
 rows-29-and-30-traded-excluded = apart ofX refl

@@ -8,16 +8,18 @@ use Prim.Native.Nat.{_-_, _≤_, _<_}
 use native.Mathlib.Omega.{arith}
 use lib.ListN.{length, take}
 use Rattle.double.specs.laws.Calls.{asks-nothing}
-use Rattle.quantity.specs.rules.Answer.{Answer, Pair, shownTwo}
-use Rattle.lent.specs.laws.Rows.{Row, start, store, finish}
+use Rattle.quantity.specs.rules.Answer.{Answer, Pair, shownTwo, statusOf}
+use Rattle.lent.specs.notions.Rows.{Row}
+use Rattle.lent.specs.laws.Rows.{start, store, finish}
 use Rattle.list.specs.declared.Star.{Star}
 use Rattle.list.specs.rules.Stars.{mostStars, countOf, nth}
 use Rattle.list.specs.laws.Stars.{few}
-use Rattle.tally.specs.rules.Tally.{tallyOf}
-use Rattle.batch.specs.rules.Star.{starRule, reduceStar, statusOf, firstOf, secondOf}
+use Rattle.list_tally.specs.rules.Tally.{tallyOf}
+use Rattle.batch.specs.rules.Star.{starRule, reduceStar, firstOf, secondOf}
 use Rattle.batch.specs.rules.Batch.{answersOf, statusesOf}
 use Rattle.batch.specs.laws.Star.{star-under-a-night}
-use Rattle.batch.specs.laws.Batch.{Accepted, accepted, how-many, value, raised-at, raised-all}
+use Rattle.batch.specs.notions.Accepted.{Accepted}
+use Rattle.batch.specs.laws.Batch.{accepted, how-many, value, raised-at, raised-all}
 use Rattle.batch.proofs.batch.Statement.{statement}
 use Rattle.batch.proofs.batch.Tie as tie
 

@@ -1,6 +1,6 @@
 -- The angles of a star in range are never refused: its right ascension is at most a turn and its declination at most HALF in size.
 -- Assumes nothing.
-use Prim.Native.Nat.{ℕ, suc, _≤_}
+use Prim.Native.Nat.{suc, _≤_}
 use native.Mathlib.Nat.{le-of-lt}
 use native.Mathlib.Omega.{arith}
 use mathlib.Core.Path.{_≡_}
@@ -21,7 +21,7 @@ use Rattle.double.specs.laws.WholePart.{from-whole-between}
 use Rattle.quantity.specs.rules.Angle.{HALF}
 use Rattle.quantity.specs.rules.Refusal.{lower, farthest, angleRefusal, latitudeRefusal}
 use Rattle.helpers.specs.rules.Angle.{degree}
-use Rattle.chain.specs.laws.Point.{past-none, finite-farthest, finite-half}
+use Rattle.quantity.specs.laws.Refusal.{past-none, finite-farthest, finite-half}
 use Rattle.list.specs.declared.Star.{Star}
 use Rattle.list.specs.rules.Record.{turn, quarter, inRange}
 use Rattle.batch.specs.rules.Star.{milliarcsecondsOfDegree, ascOf, decOf}

@@ -8,7 +8,7 @@ use Rattle.double.specs.rules.Operations.{zero, one}
 use Rattle.double.specs.rules.Sign.{size, isFinite}
 use Rattle.quantity.specs.declared.Rad.{Rad}
 use Rattle.quantity.specs.declared.EqPoint.{EqPoint}
-use Rattle.quantity.specs.rules.Answer.{Answer, answered, refused, Pair, unless, then, plus, both}
+use Rattle.quantity.specs.rules.Answer.{Answer, answered, refused, Pair, unless, then, plus, both, statusOf}
 use Rattle.quantity.specs.rules.Refusal.{lower, past, angleRefusal, latitudeRefusal, steepRefusal}
 use Rattle.root.specs.rules.Root.{rootRule, rootRefusal}
 use Rattle.elementary_arc.specs.rules.Arctangent.{arctangentIn}
@@ -16,43 +16,45 @@ use Rattle.elementary_arc.specs.rules.Arcsine.{arcsineIn}
 use Rattle.precess.specs.declared.EqTurns.{EqTurns}
 use Rattle.precess.specs.rules.Equatorial.{placed, turnedIn}
 use Rattle.chain.specs.declared.Night.{Night}
-use Rattle.chain.specs.rules.Night.{gathered, nightOf, moved, reducedAt, reducedIn}
-use Rattle.tally.specs.rules.Tally.{highest}
+use Rattle.chain.specs.rules.Night.{nightFrom, nightOf, moved, reducedAt, reducedIn}
+use Rattle.list_tally.specs.rules.Status.{highestStatus}
 use Rattle.list.specs.declared.Star.{Star}
 use Rattle.list.specs.rules.Record.{inRange}
-use Rattle.batch.specs.rules.Star.{ascOf, decOf, reduceStar, statusOf}
+use Rattle.batch.specs.rules.Star.{ascOf, decOf, reduceStar}
 
 -- ---- numbers, and what rules do with answers
 
-known-cond : (b : Bool) (m n : ℕ) → m ≤ highest → n ≤ highest → cond b m n ≤ highest
+known-cond : (b : Bool) (m n : ℕ) → m ≤ highestStatus → n ≤ highestStatus → cond b m n ≤ highestStatus
 known-cond true m n p q = p
 known-cond false m n p q = q
 
-known-lower : (m n : ℕ) → m ≤ highest → n ≤ highest → lower m n ≤ highest
+known-lower : (m n : ℕ) → m ≤ highestStatus → n ≤ highestStatus → lower m n ≤ highestStatus
 known-lower m n p q = known-cond (eqb m 0) n _ q (known-cond (eqb n 0) m _ p (known-cond (leb m n) m n p q))
 
-known-past : (x limit : Float) (n : ℕ) → n ≤ highest → past x limit n ≤ highest
+known-past : (x limit : Float) (n : ℕ) → n ≤ highestStatus → past x limit n ≤ highestStatus
 known-past x limit n p = known-cond (isFinite x) _ 1 (known-cond (lt limit (size x)) n 0 p (omega arith)) (omega arith)
 
 module _ {A : Type 0} where
-  known-choice : (b : Bool) (p q : Answer A) → statusOf p ≤ highest → statusOf q ≤ highest → statusOf (cond b p q) ≤ highest
+  known-choice : (b : Bool) (p q : Answer A) → statusOf p ≤ highestStatus → statusOf q ≤ highestStatus
+      → statusOf (cond b p q) ≤ highestStatus
   known-choice true p q h k = h
   known-choice false p q h k = k
 
-  known-unless : (n : ℕ) (a : Answer A) → n ≤ highest → statusOf a ≤ highest → statusOf (unless n a) ≤ highest
+  known-unless : (n : ℕ) (a : Answer A) → n ≤ highestStatus → statusOf a ≤ highestStatus → statusOf (unless n a) ≤ highestStatus
   known-unless n a p q = known-choice (eqb n 0) a (refused n) q p
 
-  known-then : {B : Type 0} (a : Answer A) (f : A → Answer B) → statusOf a ≤ highest → ((x : A) → statusOf (f x) ≤ highest) → statusOf (then a f) ≤ highest
+  known-then : {B : Type 0} (a : Answer A) (f : A → Answer B) → statusOf a ≤ highestStatus → ((x : A) → statusOf (f x) ≤ highestStatus)
+      → statusOf (then a f) ≤ highestStatus
   unfolding then
   known-then (answered x) f p q = q x
   known-then (refused n) f p q = p
 
-known-plus : (a : Answer Float) (z : Float) → statusOf a ≤ highest → statusOf (plus a z) ≤ highest
+known-plus : (a : Answer Rad) (z : Rad) → statusOf a ≤ highestStatus → statusOf (plus a z) ≤ highestStatus
 unfolding plus
 known-plus (answered x) z p = p
 known-plus (refused n) z p = p
 
-known-both : (a b : Answer Float) → statusOf a ≤ highest → statusOf b ≤ highest → statusOf (both a b) ≤ highest
+known-both : (a b : Answer Rad) → statusOf a ≤ highestStatus → statusOf b ≤ highestStatus → statusOf (both a b) ≤ highestStatus
 unfolding both then
 known-both (answered x) (answered y) p q = q
 known-both (answered x) (refused n) p q = q
@@ -60,51 +62,55 @@ known-both (refused n) b p q = p
 
 -- ---- the steps of a star's reduction
 
-known-angle : (x : Rad) → angleRefusal x ≤ highest
+known-angle : (x : Rad) → angleRefusal x ≤ highestStatus
 unfolding angleRefusal
 known-angle x = known-past _ _ 3 (omega arith)
 
-known-latitude : (x : Rad) → latitudeRefusal x ≤ highest
+known-latitude : (x : Rad) → latitudeRefusal x ≤ highestStatus
 unfolding latitudeRefusal
 known-latitude x = known-past _ _ 3 (omega arith)
 
-known-steep : (x : Rad) → steepRefusal x ≤ highest
+known-steep : (x : Rad) → steepRefusal x ≤ highestStatus
 unfolding steepRefusal
 known-steep x = known-lower _ _ (known-latitude x) (known-past _ _ 4 (omega arith))
 
-known-root : (x : Float) → statusOf (rootRule x) ≤ highest
+known-root : (x : Float) → statusOf (rootRule x) ≤ highestStatus
 unfolding rootRule
-known-root x = known-unless (rootRefusal x) _ (known-cond (isFinite x) _ 1 (known-cond (lt x zero) 5 0 (omega arith) (omega arith)) (omega arith)) (omega arith)
+known-root x =
+    known-unless (rootRefusal x) _
+    (known-cond (isFinite x) _ 1 (known-cond (lt x zero) 5 0 (omega arith) (omega arith)) (omega arith)) (omega arith)
 
-known-arctangent : (y x : Float) → statusOf (arctangentIn y x) ≤ highest
+known-arctangent : (y x : Float) → statusOf (arctangentIn y x) ≤ highestStatus
 unfolding arctangentIn
 known-arctangent y x = omega arith
 
-known-arcsine : (s : Float) → statusOf (arcsineIn s) ≤ highest
+known-arcsine : (s : Float) → statusOf (arcsineIn s) ≤ highestStatus
 unfolding arcsineIn
-known-arcsine s = known-choice (lt one (size s)) (refused 7) _ (omega arith) (known-then _ _ (known-root _) (λ (r : Float). known-arctangent s r))
+known-arcsine s =
+    known-choice (lt one (size s)) (refused 7) _ (omega arith)
+    (known-then _ _ (known-root _) (λ (r : Float). known-arctangent s r))
 
-known-turned : (asc dec : Rad) (turns : EqTurns) → statusOf (turnedIn asc dec turns) ≤ highest
+known-turned : (asc dec : Rad) (turns : EqTurns) → statusOf (turnedIn asc dec turns) ≤ highestStatus
 unfolding turnedIn placed
 known-turned asc dec turns = known-both _ _ (known-plus _ _ (known-arctangent _ _)) (known-arcsine _)
 
-known-night : (day1 day2 : Float) → nightOf day1 day2 .refusal ≤ highest
-unfolding nightOf gathered
+known-night : (day1 day2 : Float) → nightOf day1 day2 .refusal ≤ highestStatus
+unfolding nightOf nightFrom
 known-night day1 day2 = known-lower _ _ (known-angle _) (known-lower _ _ (known-angle _) (known-angle _))
 
-module _ (night : Night) (h : night .refusal ≤ highest) where
-  known-at : (p : EqPoint) → statusOf (reducedAt p night) ≤ highest
+module _ (night : Night) (h : night .refusal ≤ highestStatus) where
+  known-at : (p : EqPoint) → statusOf (reducedAt p night) ≤ highestStatus
   unfolding reducedAt moved
   known-at p = known-unless _ _ (known-lower _ _ (known-lower _ _ (known-angle _) (known-steep _)) h) (omega arith)
 
-  known-in : (asc dec : Rad) → statusOf (reducedIn asc dec night) ≤ highest
+  known-in : (asc dec : Rad) → statusOf (reducedIn asc dec night) ≤ highestStatus
   unfolding reducedIn
   known-in asc dec = known-then _ _ (known-turned asc dec (night .turns)) (λ (p : Pair). known-at _)
 
-  known-star : (star : Star) → statusOf (reduceStar star night) ≤ highest
+  known-star : (star : Star) → statusOf (reduceStar star night) ≤ highestStatus
   unfolding reduceStar
   known-star star =
       known-choice (inRange star) _ (refused 9) (known-in (ascOf star) (decOf star)) (omega arith)
 
-pub known-under : (star : Star) (day1 day2 : Float) → statusOf (reduceStar star (nightOf day1 day2)) ≤ highest
+pub known-under : (star : Star) (day1 day2 : Float) → statusOf (reduceStar star (nightOf day1 day2)) ≤ highestStatus
 known-under star day1 day2 = known-star (nightOf day1 day2) (known-night day1 day2) star

@@ -3,16 +3,16 @@ use Prim.Native.Nat.{ℕ, _≤_}
 use mathlib.Core.Path.{_≡_, refl, sym, ap, _∙_}
 use mathlib.Core.Bool.{Bool, true, false, cond}
 use lib.Ieee.{Float}
-use Rattle.quantity.specs.rules.Answer.{refused, unless}
+use Rattle.quantity.specs.rules.Answer.{refused, unless, statusOf}
 use Rattle.quantity.specs.rules.Refusal.{lower}
 use Rattle.precess.specs.rules.Days.{daysRefusal, placeRefusal}
 use Rattle.chain.specs.rules.Chain.{chainRule}
 use Rattle.chain.specs.rules.Night.{nightOf, reducedIn}
 use Rattle.chain.specs.laws.Night.{chain-under-a-night}
-use Rattle.tally.specs.rules.Tally.{highest}
+use Rattle.list_tally.specs.rules.Status.{highestStatus}
 use Rattle.list.specs.declared.Star.{Star}
 use Rattle.list.specs.rules.Record.{inRange}
-use Rattle.batch.specs.rules.Star.{ascOf, decOf, starRule, reduceStar, statusOf}
+use Rattle.batch.specs.rules.Star.{ascOf, decOf, starRule, reduceStar}
 use Rattle.batch.specs.laws.InRange.{angles-taken}
 use Rattle.batch.specs.laws.Known.{known-under}
 
@@ -33,5 +33,5 @@ module _ (star : Star) (day1 day2 : Float) (days : daysRefusal day1 day2 ≡ 0) 
       by-range false r = refl
 
   -- so its status is one that the tally knows
-  pub status-known : statusOf (starRule star day1 day2) ≤ highest
+  pub status-known : statusOf (starRule star day1 day2) ≤ highestStatus
   status-known = rw star-under-a-night at (known-under star day1 day2)

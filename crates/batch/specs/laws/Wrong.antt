@@ -9,7 +9,7 @@ use lib.Ieee.{inf}
 use Rattle.double.specs.rules.Operations.{one, two}
 use Rattle.double.specs.notions.Code.{ofNumber}
 use Rattle.double.specs.laws.Apart.{apart}
-use Rattle.quantity.specs.rules.Answer.{Answer, answered, refused, Pair, pair, second}
+use Rattle.quantity.specs.rules.Answer.{Answer, answered, refused, Pair, pair, statusOf}
 use Rattle.quantity.specs.rules.Refusal.{epoch}
 use Rattle.quantity.specs.notions.Code.{ofFloat, ofAnswer, ofSecond}
 use Rattle.quantity.specs.notions.Varies.{Varies}
@@ -18,7 +18,7 @@ use Rattle.chain.specs.notions.Still.{still}
 use Rattle.list.specs.declared.Star.{Star}
 use Rattle.list.specs.rules.Record.{turn, inRange}
 use Rattle.list.specs.rules.Stars.{isList, nought}
-use Rattle.batch.specs.rules.Star.{starRule, reduceStar, statusOf, firstOf, secondOf}
+use Rattle.batch.specs.rules.Star.{starRule, reduceStar, firstOf, secondOf}
 use Rattle.batch.specs.rules.Batch.{batchRefusal}
 use Rattle.batch.specs.notions.Wrong.{secondsForMilliarcseconds, statusAlwaysGood, angleAlwaysZero, anglesTraded, refusedStarKeepsAngle, daysAfterList}
 

@@ -6,13 +6,13 @@ use mathlib.Core.List.{List, _++_, map}
 use lib.Dec.{eqb, leb}
 use lib.Ieee.{Float}
 use lib.ListN.{length, drop}
-use Rattle.quantity.specs.rules.Answer.{Answer, Pair}
+use Rattle.quantity.specs.rules.Answer.{Answer, Pair, statusOf}
 use Rattle.precess.specs.rules.Days.{daysRefusal}
 use Rattle.list.specs.declared.Star.{Star}
 use Rattle.list.specs.rules.Stars.{isList, countOf, stars}
-use Rattle.tally.specs.rules.Tally.{tallyOf, empty}
+use Rattle.list_tally.specs.rules.Tally.{tallyOf, empty}
 use Rattle.batch.specs.declared.Batched.{Batched}
-use Rattle.batch.specs.rules.Star.{starRule, statusOf, firstOf, secondOf}
+use Rattle.batch.specs.rules.Star.{starRule, firstOf, secondOf}
 
 -- each slice has a place for each star
 abbrev pub hasRoom : ℕ → ℕ → ℕ → ℕ → Bool

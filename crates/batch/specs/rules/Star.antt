@@ -1,5 +1,4 @@
 -- One star of a list: its place in radians, what the chain answers there, and what of the answer is stored.
-use Prim.Native.Nat.{ℕ}
 use mathlib.Core.Bool.{cond}
 use lib.IntN.{ℤ, pos}
 use lib.Ieee.{Float, binary64, ofInt}
@@ -36,11 +35,7 @@ starRule star day1 day2 = cond (inRange star) (chainRule (ascOf star) (decOf sta
 unfoldable pub reduceStar : Star → Night → Answer Pair
 reduceStar star night = cond (inRange star) (reducedIn (ascOf star) (decOf star) night) (refused 9)
 
--- what is stored of an answer: its status, and the two angles or 0.0 and 0.0
-abbrev pub statusOf : {A : Type 0} → Answer A → ℕ
-statusOf (answered x) = 0
-statusOf (refused n) = n
-
+-- what is stored of an answer beside its status: the two angles, or 0.0 and 0.0
 abbrev pub firstOf : Answer Pair → Float
 firstOf (answered p) = first p
 firstOf (refused n) = zero

@@ -17,21 +17,26 @@ use Rattle.batch.specs.declared.Batched.{Batched}
 use Rattle.batch.specs.rules.Batch.{Batch}
 use Rattle.brundelak.specs.rules.Stored.{ToldFound, ToldStar, ToldBatch}
 
-pub found-told : {a : Answer Entry} {r : Found} {i asc index asc₀ : ℕ} {d z dec : ℤ} → shownFound r ≡ a → r ≡ At i asc d → z ≡ d → ToldFound a 0 index asc₀ dec i asc z
+pub found-told : {a : Answer Entry} {r : Found} {i asc index asc₀ : ℕ} {d z dec : ℤ} → shownFound r ≡ a → r ≡ At i asc d
+    → z ≡ d → ToldFound a 0 index asc₀ dec i asc z
 found-told p e same = rw (← p, e) (record { answers = refl; leaves-index = refl; leaves-asc = refl; leaves-dec = same })
 
-pub not-found-told : {a : Answer Entry} {r : Found} {n index asc : ℕ} {dec : ℤ} → shownFound r ≡ a → r ≡ Refused n → ToldFound a n index asc dec index asc dec
+pub not-found-told : {a : Answer Entry} {r : Found} {n index asc : ℕ} {dec : ℤ} → shownFound r ≡ a → r ≡ Refused n
+    → ToldFound a n index asc dec index asc dec
 not-found-told p e = rw (← p, e) (record { answers = refl; leaves-index = refl; leaves-asc = refl; leaves-dec = refl })
 
-pub star-told : {a : Answer Sight} {r : Shown} {star : Star} {after number asc next : ℕ} {z dec : ℤ} → shownSight r ≡ a → r ≡ shown.Next star after → z ≡ star .dec → ToldStar a 0 number asc dec next (star .number) (star .asc) z after
+pub star-told : {a : Answer Sight} {r : Shown} {star : Star} {after number asc next : ℕ} {z dec : ℤ} → shownSight r ≡ a
+    → r ≡ shown.Next star after → z ≡ star .dec → ToldStar a 0 number asc dec next (star .number) (star .asc) z after
 star-told p e same =
     rw (← p, e) (record { answers = refl; leaves-number = refl; leaves-asc = refl; leaves-dec = same; leaves-next = refl })
 
-pub end-told : {a : Answer Sight} {r : Shown} {number asc next : ℕ} {dec : ℤ} → shownSight r ≡ a → r ≡ shown.End → ToldStar a 255 number asc dec next number asc dec next
+pub end-told : {a : Answer Sight} {r : Shown} {number asc next : ℕ} {dec : ℤ} → shownSight r ≡ a → r ≡ shown.End
+    → ToldStar a 255 number asc dec next number asc dec next
 end-told p e =
     rw (← p, e) (record { answers = refl; leaves-number = refl; leaves-asc = refl; leaves-dec = refl; leaves-next = refl })
 
-pub not-shown-told : {a : Answer Sight} {r : Shown} {n number asc next : ℕ} {dec : ℤ} → shownSight r ≡ a → r ≡ shown.Refused n → ToldStar a n number asc dec next number asc dec next
+pub not-shown-told : {a : Answer Sight} {r : Shown} {n number asc next : ℕ} {dec : ℤ} → shownSight r ≡ a
+    → r ≡ shown.Refused n → ToldStar a n number asc dec next number asc dec next
 not-shown-told p e =
     rw (← p, e) (record { answers = refl; leaves-number = refl; leaves-asc = refl; leaves-dec = refl; leaves-next = refl })
 

@@ -12,7 +12,7 @@ use Rattle.quantity.specs.rules.Answer.{answered}
 use Rattle.quantity.specs.rules.Refusal.{epoch}
 use Rattle.quantity.specs.notions.Computed.{computed}
 use Rattle.precess.specs.rules.Days.{daysRefusal}
-use Rattle.tally.specs.rules.Tally.{raiseRefusal, raiseRule, tallyOf, empty}
+use Rattle.list_tally.specs.rules.Tally.{raiseRefusal, raiseRule, tallyOf, empty}
 use Rattle.batch.specs.declared.Batched.{Batched}
 use Rattle.batch.specs.rules.Batch.{batchRefusal}
 use Rattle.brundelak.specs.rules.Stored.{ToldFound, ToldBatch, ToldRaise}

@@ -6,19 +6,18 @@ use mathlib.Core.Bool.{cond}
 use lib.Dec.{eqb}
 use lib.IntN.{ℤ}
 use lib.Ieee.{Float}
-use Rattle.quantity.specs.rules.Answer.{Answer, answered, refused}
+use Rattle.quantity.specs.rules.Answer.{Answer, answered, refused, statusOf}
 use Rattle.list.specs.declared.Star.{Star}
 use Rattle.list.specs.rules.Find.{Entry}
 use Rattle.list.specs.rules.Reader.{Sight, sight, none}
-use Rattle.tally.specs.declared.Tally.{Tally}
-use Rattle.tally.specs.rules.Tally.{raiseRule}
+use Rattle.list_tally.specs.rules.Tally.{raiseRule}
 use Rattle.batch.specs.declared.Batched.{Batched}
 use Rattle.batch.specs.rules.Batch.{Batch}
-use Rattle.handed.specs.rules.Boundary.{status, kept}
+use Rattle.brundelak_handed.specs.rules.Boundary.{kept}
 
 -- a star found: its index, right ascension and declination
 pub record ToldFound (a : Answer Entry) (n : ℕ) (index asc : ℕ) (dec : ℤ) (index′ asc′ : ℕ) (dec′ : ℤ) : Type 0 where
-  pub answers : n ≡ status a
+  pub answers : n ≡ statusOf a
   pub leaves-index : index′ ≡ kept (λ (e : Entry). e .index) a index
   pub leaves-asc : asc′ ≡ kept (λ (e : Entry). e .asc) a asc
   pub leaves-dec : dec′ ≡ kept (λ (e : Entry). e .dec) a dec

@@ -1,7 +1,7 @@
 -- `chain::night_of` meets its contract. Assumes nothing.
 use Rattle.double.specs.laws.Calls.{asks-nothing}
 use mathlib.Core.Path.{ap, _∙_}
-use Rattle.chain.specs.rules.Night.{gathered, nightOf}
+use Rattle.chain.specs.rules.Night.{nightFrom, nightOf}
 use Rattle.chain.proofs.night_of.Statement.{statement}
 use Rattle.chain.proofs.night_of.Tie as tie
 
@@ -12,7 +12,7 @@ returns c =
     let c2 = c1 .before in
     let c3 = c2 .before in
     let c4 = c3 .before in
-    rw (c4 .eq-turns .ensures, c3 .nutation-on .ensures, c2 .obliquity-on .ensures, c1 .velocity-on .ensures) at (c .gathered .ensures)
+    rw (c4 .eq-turns .ensures, c3 .nutation-on .ensures, c2 .obliquity-on .ensures, c1 .velocity-on .ensures) at (c .night-from .ensures)
 
 pub night-of-spec : {M : Type 1} → statement M
 night-of-spec = tie.close (tie.spec asks-nothing asks-nothing asks-nothing asks-nothing asks-nothing returns)

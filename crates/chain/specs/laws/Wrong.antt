@@ -1,6 +1,5 @@
 -- Wrong variants are excluded: each differs from the rule at the input stated. A rule varies: a library that refuses everything, or
 -- answers a constant, does not meet it. Assumes nothing.
-use Prim.Native.Nat.{ℕ}
 use mathlib.Core.Path.{refl}
 use std.Logic.{_≢_}
 use lib.Ieee.{Float, neg}
@@ -8,37 +7,22 @@ use Rattle.double.specs.rules.Operations.{bits, zero, one}
 use Rattle.double.specs.notions.Greatest.{greatest}
 use Rattle.double.specs.notions.Code.{ofNumber}
 use Rattle.double.specs.laws.Apart.{apart}
-use Rattle.quantity.specs.declared.EqPoint.{EqPoint}
 use Rattle.quantity.specs.declared.Shift.{Shift}
-use Rattle.quantity.specs.rules.Angle.{HALF}
-use Rattle.quantity.specs.rules.Answer.{Pair}
+use Rattle.quantity.specs.rules.Angle.{rad}
 use Rattle.quantity.specs.rules.Refusal.{epoch}
-use Rattle.quantity.specs.notions.Code.{ofFloat, ofRad, ofAnswer, ofFirst}
+use Rattle.quantity.specs.notions.Code.{ofRad, ofAnswer, ofFirst, unread}
+use Rattle.quantity.specs.notions.Stated.{r0, r1, later, origin, northPole}
 use Rattle.quantity.specs.notions.Varies.{Varies}
 use Rattle.chain.specs.declared.Night.{Night}
 use Rattle.chain.specs.rules.Obliquity.{obliquityOf}
-use Rattle.chain.specs.rules.Chain.{rad, pointRefusal, chainRule}
+use Rattle.chain.specs.rules.Chain.{pointRefusal, chainRule}
 use Rattle.chain.specs.rules.Night.{nightOf, moved, reducedAt, reducedIn}
 use Rattle.chain.specs.notions.Computed.{computed}
 use Rattle.chain.specs.notions.Still.{still}
 use Rattle.chain.specs.notions.Wrong.{obliquityOfOneDay, nightOfOneDay, precessedPointNotSteep, aberrationAddedFirst, anglesOfTheNightNotTested, placeNotRefused}
 
--- whether there is an answer, and which refusal
-abbrev unread : Pair → ℕ
-unread p = 0
-
--- 2488070.0, a century after 2451545.0
-abbrev later : Float
-later = bits 0x4142fb8300000000
-
-abbrev node : EqPoint
-node = record { asc = zero; dec = zero }
-
-abbrev pole : EqPoint
-pole = record { asc = zero; dec = HALF }
-
 abbrev shift : Float → Shift
-shift x = record { asc = x; dec = zero }
+shift x = record { asc = rad x; dec = r0 }
 
 -- ---- what a day or two fix
 
@@ -48,29 +32,30 @@ obliquity-of-one-day-excluded = apart ofRad refl
 
 pub night-of-one-day-excluded : nightOfOneDay epoch later ≢ nightOf epoch later
 unfolding computed
-night-of-one-day-excluded = apart (λ (n : Night). ofFloat (n .turns .xi)) refl
+night-of-one-day-excluded = apart (λ (n : Night). ofRad (n .turns .xi)) refl
 
 -- ---- a star under a night
 
-pub precessed-point-not-steep-excluded : precessedPointNotSteep pole ≢ pointRefusal pole
+pub precessed-point-not-steep-excluded : precessedPointNotSteep northPole ≢ pointRefusal northPole
 unfolding computed
 precessed-point-not-steep-excluded = apart ofNumber refl
 
 -- 1.0, −1.0 and 2^−60
-pub aberration-added-first-excluded : aberrationAddedFirst (record { asc = one; dec = zero }) (shift (neg one)) (shift (bits 0x3c30000000000000)) ≢ moved (record { asc = one; dec = zero }) (shift (neg one)) (shift (bits 0x3c30000000000000))
+pub aberration-added-first-excluded : aberrationAddedFirst (record { asc = one; dec = zero }) (shift (neg one)) (shift (bits 0x3c30000000000000))
+    ≢ moved (record { asc = one; dec = zero }) (shift (neg one)) (shift (bits 0x3c30000000000000))
 unfolding computed
 aberration-added-first-excluded = apart (ofAnswer ofFirst) refl
 
-pub angles-of-the-night-not-tested-excluded : anglesOfTheNightNotTested node (still 3) ≢ reducedAt node (still 3)
+pub angles-of-the-night-not-tested-excluded : anglesOfTheNightNotTested origin (still 3) ≢ reducedAt origin (still 3)
 unfolding computed
 angles-of-the-night-not-tested-excluded = apart (ofAnswer unread) refl
 
-pub reduced-in-varies : Varies (reducedIn (rad zero) (rad zero) (still 0)) (reducedIn (rad one) (rad zero) (still 0))
+pub reduced-in-varies : Varies (reducedIn r0 r0 (still 0)) (reducedIn r1 r0 (still 0))
 unfolding computed
 reduced-in-varies = record { here = refl; there = refl; apart = apart (ofAnswer ofFirst) refl }
 
 -- ---- the chain
 
-pub place-not-refused-excluded : placeNotRefused (rad zero) (rad zero) epoch greatest ≢ chainRule (rad zero) (rad zero) epoch greatest
+pub place-not-refused-excluded : placeNotRefused r0 r0 epoch greatest ≢ chainRule r0 r0 epoch greatest
 unfolding computed
 place-not-refused-excluded = apart (ofAnswer unread) refl

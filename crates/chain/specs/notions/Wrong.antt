@@ -5,6 +5,7 @@ use Rattle.double.specs.rules.Operations.{_⊕_}
 use Rattle.quantity.specs.declared.Rad.{Rad}
 use Rattle.quantity.specs.declared.EqPoint.{EqPoint}
 use Rattle.quantity.specs.declared.Shift.{Shift}
+use Rattle.quantity.specs.rules.Angle.{rad}
 use Rattle.quantity.specs.rules.Answer.{Answer, answered, Pair, pair, unless}
 use Rattle.quantity.specs.rules.Refusal.{lower, epoch, angleRefusal, steepRefusal}
 use Rattle.elementary.specs.rules.Direction.{directionOf}
@@ -16,8 +17,8 @@ use Rattle.aberr_velocity.specs.rules.Velocity.{velocityOf}
 use Rattle.aberr.specs.rules.Star.{aberrAt}
 use Rattle.chain.specs.declared.Night.{Night}
 use Rattle.chain.specs.rules.Obliquity.{obliquityOf}
-use Rattle.chain.specs.rules.Chain.{rad, pointRefusal}
-use Rattle.chain.specs.rules.Night.{gathered, nightOf, moved, reducedIn}
+use Rattle.chain.specs.rules.Chain.{pointRefusal}
+use Rattle.chain.specs.rules.Night.{nightFrom, nightOf, moved, reducedIn}
 
 -- that of 2451545.0
 abbrev pub obliquityOfOneDay : Float → Rad
@@ -25,7 +26,7 @@ obliquityOfOneDay day = obliquityOf epoch
 
 -- precession from the first day to itself
 abbrev pub nightOfOneDay : Float → Float → Night
-nightOfOneDay day1 day2 = gathered (eqTurnsOf day1 day1) (nutationOf day2) (obliquityOf day2) (velocityOf day2)
+nightOfOneDay day1 day2 = nightFrom (eqTurnsOf day1 day1) (nutationOf day2) (obliquityOf day2) (velocityOf day2)
 
 -- the right ascension tested in the declination's place
 abbrev pub precessedPointNotSteep : EqPoint → ℕ
@@ -33,7 +34,7 @@ precessedPointNotSteep p = lower (angleRefusal (rad (p .asc))) (steepRefusal (ra
 
 -- in right ascension
 abbrev pub aberrationAddedFirst : EqPoint → Shift → Shift → Answer Pair
-aberrationAddedFirst p n a = answered (pair ((p .asc ⊕ a .asc) ⊕ n .asc) ((p .dec ⊕ n .dec) ⊕ a .dec))
+aberrationAddedFirst p n a = answered (pair ((p .asc ⊕ a .asc .0) ⊕ n .asc .0) ((p .dec ⊕ n .dec .0) ⊕ a .dec .0))
 
 abbrev pub anglesOfTheNightNotTested : EqPoint → Night → Answer Pair
 anglesOfTheNightNotTested p night =

@@ -4,10 +4,11 @@ use lib.Ieee.{Float}
 use Rattle.double.specs.rules.Operations.{_⊕_}
 use Rattle.quantity.specs.declared.Rad.{Rad}
 use Rattle.quantity.specs.declared.EqPoint.{EqPoint}
+use Rattle.quantity.specs.rules.Angle.{rad}
 use Rattle.quantity.specs.rules.Answer.{Answer, answered, Pair, pair, first, second, then}
 use Rattle.quantity.specs.rules.Refusal.{lower, angleRefusal, steepRefusal}
 use Rattle.precess.specs.rules.Equatorial.{precessEqCoordsRule}
-use Rattle.nutation_rows.specs.declared.Nutations.{Nutations}
+use Rattle.nutation_args.specs.declared.Nutations.{Nutations}
 use Rattle.nutation.specs.rules.Day.{nutationRule}
 use Rattle.nutation.specs.rules.Point.{nutationInEqCoordsRule}
 use Rattle.aberr.specs.rules.Star.{stellAberrInEqCoordsRule}
@@ -15,9 +16,6 @@ use Rattle.chain.specs.rules.Obliquity.{obliquityOf}
 
 abbrev pub point : Pair → EqPoint
 point p = record { asc = first p; dec = second p }
-
-abbrev pub rad : Float → Rad
-rad x = record { 0 = x }
 
 -- (precessed + nutation) + aberration, in each coordinate
 abbrev pub sum : Pair → Pair → Pair → Pair
@@ -39,4 +37,4 @@ abbrev pub pointRefusal : EqPoint → ℕ
 pointRefusal p = lower (angleRefusal (rad (p .asc))) (steepRefusal (rad (p .dec)))
 
 abbrev pub anglesRefusal : Nutations → Rad → ℕ
-anglesRefusal n oblq = lower (angleRefusal (rad (n .long))) (lower (angleRefusal (rad (n .oblq))) (angleRefusal oblq))
+anglesRefusal n oblq = lower (angleRefusal (n .long)) (lower (angleRefusal (n .oblq)) (angleRefusal oblq))

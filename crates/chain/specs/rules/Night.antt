@@ -10,7 +10,7 @@ use Rattle.elementary.specs.rules.Sine.{sineOf, cosineOf}
 use Rattle.elementary.specs.rules.Direction.{directionOf}
 use Rattle.precess.specs.declared.EqTurns.{EqTurns}
 use Rattle.precess.specs.rules.Equatorial.{eqTurnsOf, turnedIn}
-use Rattle.nutation_rows.specs.declared.Nutations.{Nutations}
+use Rattle.nutation_args.specs.declared.Nutations.{Nutations}
 use Rattle.nutation_table.specs.rules.Day.{nutationOf}
 use Rattle.nutation.specs.rules.Point.{nutationAt}
 use Rattle.aberr_rows.specs.declared.Velocity.{Velocity}
@@ -20,15 +20,15 @@ use Rattle.chain.specs.declared.Night.{Night}
 use Rattle.chain.specs.rules.Obliquity.{obliquityOf}
 use Rattle.chain.specs.rules.Chain.{point, pointRefusal, anglesRefusal}
 
-unfoldable pub gathered : EqTurns → Nutations → Rad → Velocity → Night
-gathered turns n oblq v =
+unfoldable pub nightFrom : EqTurns → Nutations → Rad → Velocity → Night
+nightFrom turns n oblq v =
     record { turns = turns; nutation = n; «sin_oblq» = sineOf oblq; «cos_oblq» = cosineOf oblq; velocity = v; refusal = anglesRefusal n oblq }
 
 unfoldable pub nightOf : Float → Float → Night
-nightOf day1 day2 = gathered (eqTurnsOf day1 day2) (nutationOf day2) (obliquityOf day2) (velocityOf day2)
+nightOf day1 day2 = nightFrom (eqTurnsOf day1 day2) (nutationOf day2) (obliquityOf day2) (velocityOf day2)
 
 unfoldable pub moved : EqPoint → Shift → Shift → Answer Pair
-moved p n a = answered (pair ((p .asc ⊕ n .asc) ⊕ a .asc) ((p .dec ⊕ n .dec) ⊕ a .dec))
+moved p n a = answered (pair ((p .asc ⊕ n .asc .0) ⊕ a .asc .0) ((p .dec ⊕ n .dec .0) ⊕ a .dec .0))
 
 unfoldable pub reducedAt : EqPoint → Night → Answer Pair
 reducedAt p night =

@@ -3,13 +3,14 @@ use lib.Ieee.{Float}
 use Rattle.double.specs.rules.Operations.{_⊕_, _⊖_, _⊗_}
 use Rattle.quantity.specs.declared.Deg.{Deg}
 use Rattle.quantity.specs.declared.Rad.{Rad}
+use Rattle.quantity.specs.rules.Angle.{deg}
 use Rattle.helpers.specs.rules.Angle.{arc, radiansOf}
 use Rattle.helpers.specs.rules.Time.{centuryOf}
 use Rattle.chain.specs.rules.Numbers.{n84381·448, n46·8150, n0·00059, n0·001813}
 
 unfoldable pub meanObliquity : Float → Deg
 meanObliquity c =
-    record { 0 = arc n84381·448 ⊖ c ⊗ (arc n46·8150 ⊕ c ⊗ (arc n0·00059 ⊖ c ⊗ arc n0·001813)) }
+    deg (arc n84381·448 ⊖ c ⊗ (arc n46·8150 ⊕ c ⊗ (arc n0·00059 ⊖ c ⊗ arc n0·001813)))
 
 unfoldable pub obliquityOf : Float → Rad
 obliquityOf day = radiansOf (meanObliquity (centuryOf day))

@@ -1,14 +1,13 @@
 -- What a law of a rule says of answers: of the functions as of the rules, and of refused calls. Assumes nothing.
 use Prim.Native.Nat.{ℕ}
 use mathlib.Core.Path.{_≡_, ap, sym, _∙_}
-use native.Mathlib.Omega.{arith}
 use lib.Ieee.{Float}
 use Rattle.quantity.specs.declared.One.{One}
-use Rattle.quantity.specs.declared.One.the-variants.{Is}
 use Rattle.quantity.specs.declared.Two.{Two}
 use Rattle.quantity.specs.declared.Three.{Three}
 use Rattle.quantity.specs.declared.Degrees.{Degrees}
 use Rattle.quantity.specs.declared.Radians.{Radians}
+use Rattle.quantity.specs.declared.Radians.the-variants.{Are}
 use Rattle.quantity.specs.declared.Point.{Point}
 use Rattle.quantity.specs.declared.Deg.{Deg}
 use Rattle.quantity.specs.declared.Rad.{Rad}
@@ -38,20 +37,15 @@ one-point = unique shownPoint shown-point-loses-nothing
 
 -- ---- an answer in code is its rule's
 
-pub answered-by : {a : Answer Float} {r : One} {v : Float} → shown r ≡ a → r ≡ Is v → a ≡ answered v
-answered-by p e = sym p ∙ ap shown e
+pub answered-by : {a : Answer Rad} {r : Radians} {v : Rad} → shownRadians r ≡ a → r ≡ Are v → a ≡ answered v
+answered-by p e = sym p ∙ ap shownRadians e
 
-pub refused-not-answered : {A : Type 0} {n : ℕ} {v : A} → refused n ≡ answered v → ⊥
-refused-not-answered e =
-    let z : _≡_ {A = ℕ} 0 1 = cc in
-    absurd (omega arith)
+-- ---- two calls whose rules answer a and b, where b is a with its angle changed by f
 
--- ---- two calls whose rules answer a and b, where b is a with its number changed by f
-
-module _ (f : Float → Float) {a b : Answer Float} (law : b ≡ with f a) where
+module _ (f : Rad → Rad) {a b : Answer Rad} (law : b ≡ with f a) where
   -- the function's answer changes as the rule's does
-  pub mirrored : (r s : One) → shown r ≡ a → shown s ≡ b → shown s ≡ with f (shown r)
-  mirrored r s p q = carried shown (with f) r s p q law
+  pub mirrored : (r s : Radians) → shownRadians r ≡ a → shownRadians s ≡ b → shownRadians s ≡ with f (shownRadians r)
+  mirrored r s p q = carried shownRadians (with f) r s p q law
 
   -- refused calls refuse alike
   pub refused-there : (n : ℕ) → a ≡ refused n → b ≡ refused n
@@ -60,10 +54,10 @@ module _ (f : Float → Float) {a b : Answer Float} (law : b ≡ with f a) where
   pub refused-here : (n : ℕ) → b ≡ refused n → a ≡ refused n
   refused-here n e = by-case a (sym law ∙ e)
     where
-      by-case : (a : Answer Float) → with f a ≡ refused n → a ≡ refused n
+      by-case : (a : Answer Rad) → with f a ≡ refused n → a ≡ refused n
       by-case (answered x) e = cc
       by-case (refused m) e = e
 
 -- two calls whose rules answer alike answer alike
-pub unchanged : {a b : Answer Float} → b ≡ a → (r s : One) → shown r ≡ a → shown s ≡ b → s ≡ r
-unchanged law r s p q = one-answer s r (q ∙ law) p
+pub unchanged : {a b : Answer Rad} → b ≡ a → (r s : Radians) → shownRadians r ≡ a → shownRadians s ≡ b → s ≡ r
+unchanged law r s p q = one-radians s r (q ∙ law) p

@@ -2,16 +2,15 @@
 use Prim.Native.Nat.{ℕ}
 use mathlib.Core.Path.{_≡_, sym, ap, _∙_}
 use mathlib.Core.Bool.{true, false}
-use lib.Ieee.{Float, neg}
 use Rattle.double.specs.rules.Operations.{_⊖_}
 use Rattle.double.specs.rules.Sign.{bearsMinus, size}
 use Rattle.double.specs.rules.Order.{_≼_, NonZero}
 use Rattle.quantity.specs.declared.Rad.{Rad}
-use Rattle.quantity.specs.declared.One.{One}
-use Rattle.quantity.specs.declared.One.the-variants.{Is, Refused}
+use Rattle.quantity.specs.declared.Radians.{Radians}
+use Rattle.quantity.specs.declared.Radians.the-variants.{Are, Refused}
 use Rattle.quantity.specs.rules.Angle.{PI, HALF, opposite}
-use Rattle.quantity.specs.rules.Answer.{shown, with}
-use Rattle.quantity.specs.laws.Answer.{shown-loses-nothing}
+use Rattle.quantity.specs.rules.Answer.{shownRadians, with}
+use Rattle.quantity.specs.laws.Answer.{shown-radians-loses-nothing}
 use Rattle.elementary.specs.rules.Sine.{sineOf}
 use Rattle.coords.specs.rules.Horizon.{southward, azFrmEqRule, altFrmEqRule}
 use Rattle.coords_ecl.specs.rules.Ecliptic.{eclLongSum, eclLongFrmEqRule, eclLatSum, eclLatFrmEqRule}
@@ -23,51 +22,54 @@ use Rattle.conditions.specs.laws.RightAscension.{longitude-mirror, latit
 
 -- ---- azimuth answers v
 
-module _ (h d p : Rad) (r : One) (v : Float) (meets : shown r ≡ azFrmEqRule h d p) (is : r ≡ Is v) where
-  pub az-frm-eq-sign : bearsMinus v ≡ bearsMinus (sineOf h)
+module _ (h d p : Rad) (r : Radians) (v : Rad) (meets : shownRadians r ≡ azFrmEqRule h d p) (is : r ≡ Are v) where
+  pub az-frm-eq-sign : bearsMinus (v .0) ≡ bearsMinus (sineOf h)
   az-frm-eq-sign = azimuth-sign h d p v (answered-by meets is)
 
-  pub az-frm-eq-south : bearsMinus (southward h d p) ≡ false → size v ≼ HALF
+  pub az-frm-eq-south : bearsMinus (southward h d p) ≡ false → size (v .0) ≼ HALF
   az-frm-eq-south = azimuth-at-most-quarter-turn h d p v (answered-by meets is)
 
-  pub az-frm-eq-north : bearsMinus (southward h d p) ≡ true → HALF ≼ size v
+  pub az-frm-eq-north : bearsMinus (southward h d p) ≡ true → HALF ≼ size (v .0)
   az-frm-eq-north = azimuth-at-least-quarter-turn h d p v (answered-by meets is)
 
 -- ---- r is the answer, and s the answer in the mirror
 
-module _ (h d p : Rad) (r s : One) where
-  pub az-frm-eq-hour : shown r ≡ azFrmEqRule h d p → shown s ≡ azFrmEqRule (opposite h) d p → shown s ≡ with neg (shown r)
-  az-frm-eq-hour = mirrored neg (azimuth-hour h d p) r s
+module _ (h d p : Rad) (r s : Radians) where
+  pub az-frm-eq-hour : shownRadians r ≡ azFrmEqRule h d p → shownRadians s ≡ azFrmEqRule (opposite h) d p
+      → shownRadians s ≡ with opposite (shownRadians r)
+  az-frm-eq-hour = mirrored opposite (azimuth-hour h d p) r s
 
-  pub alt-frm-eq-hour : shown r ≡ altFrmEqRule h d p → shown s ≡ altFrmEqRule (opposite h) d p → s ≡ r
+  pub alt-frm-eq-hour : shownRadians r ≡ altFrmEqRule h d p → shownRadians s ≡ altFrmEqRule (opposite h) d p → s ≡ r
   alt-frm-eq-hour = unchanged (altitude-hour h d p) r s
 
-  pub alt-frm-eq-declination : shown r ≡ altFrmEqRule h d p → shown s ≡ altFrmEqRule h (opposite d) (opposite p) → s ≡ r
+  pub alt-frm-eq-declination : shownRadians r ≡ altFrmEqRule h d p → shownRadians s ≡ altFrmEqRule h (opposite d) (opposite p) → s ≡ r
   alt-frm-eq-declination = unchanged (altitude-declination h d p) r s
 
   -- refused alike
-  module _ (meets : shown r ≡ azFrmEqRule h d p) (meets' : shown s ≡ azFrmEqRule h (opposite d) (opposite p)) (n : ℕ) where
+  module _ (meets : shownRadians r ≡ azFrmEqRule h d p) (meets' : shownRadians s ≡ azFrmEqRule h (opposite d) (opposite p)) (n : ℕ) where
     pub az-frm-eq-declination-refused-there : r ≡ Refused n → s ≡ Refused n
     az-frm-eq-declination-refused-there is =
-        shown-loses-nothing s (Refused n) (meets' ∙ azimuth-refused-there h d p n (sym meets ∙ ap shown is))
+        shown-radians-loses-nothing s (Refused n) (meets' ∙ azimuth-refused-there h d p n (sym meets ∙ ap shownRadians is))
 
     pub az-frm-eq-declination-refused-here : s ≡ Refused n → r ≡ Refused n
     az-frm-eq-declination-refused-here is =
-        shown-loses-nothing r (Refused n) (meets ∙ azimuth-refused-here h d p n (sym meets' ∙ ap shown is))
+        shown-radians-loses-nothing r (Refused n) (meets ∙ azimuth-refused-here h d p n (sym meets' ∙ ap shownRadians is))
 
-  module _ (not-zero : NonZero (southward h d p)) (v w : Float) (meets : shown r ≡ azFrmEqRule h d p) (is : r ≡ Is v) (meets' : shown s ≡ azFrmEqRule h (opposite d) (opposite p)) (is' : s ≡ Is w) where
-    pub az-frm-eq-declination-sign : bearsMinus w ≡ bearsMinus v
+  module _ (not-zero : NonZero (southward h d p)) (v w : Rad) (meets : shownRadians r ≡ azFrmEqRule h d p) (is : r ≡ Are v) (meets' : shownRadians s ≡ azFrmEqRule h (opposite d) (opposite p)) (is' : s ≡ Are w) where
+    pub az-frm-eq-declination-sign : bearsMinus (w .0) ≡ bearsMinus (v .0)
     az-frm-eq-declination-sign = azimuth-sign-stays h d p not-zero v w (answered-by meets is) (answered-by meets' is')
 
-    pub az-frm-eq-declination-there : bearsMinus (southward h d p) ≡ false → size w ≡ PI ⊖ size v
+    pub az-frm-eq-declination-there : bearsMinus (southward h d p) ≡ false → size (w .0) ≡ PI ⊖ size (v .0)
     az-frm-eq-declination-there = azimuth-size-there h d p not-zero v w (answered-by meets is) (answered-by meets' is')
 
-    pub az-frm-eq-declination-here : bearsMinus (southward h d p) ≡ true → size v ≡ PI ⊖ size w
+    pub az-frm-eq-declination-here : bearsMinus (southward h d p) ≡ true → size (v .0) ≡ PI ⊖ size (w .0)
     az-frm-eq-declination-here = azimuth-size-here h d p not-zero v w (answered-by meets is) (answered-by meets' is')
 
-module _ (a d e : Rad) (r s : One) where
-  pub ecl-long-frm-eq-mirror : NonZero (eclLongSum a d e) → shown r ≡ eclLongFrmEqRule a d e → shown s ≡ eclLongFrmEqRule (opposite a) (opposite d) e → shown s ≡ with neg (shown r)
-  ecl-long-frm-eq-mirror not-zero = mirrored neg (longitude-mirror a d e not-zero) r s
+module _ (a d e : Rad) (r s : Radians) where
+  pub ecl-long-frm-eq-mirror : NonZero (eclLongSum a d e) → shownRadians r ≡ eclLongFrmEqRule a d e
+      → shownRadians s ≡ eclLongFrmEqRule (opposite a) (opposite d) e → shownRadians s ≡ with opposite (shownRadians r)
+  ecl-long-frm-eq-mirror not-zero = mirrored opposite (longitude-mirror a d e not-zero) r s
 
-  pub ecl-lat-frm-eq-mirror : NonZero (eclLatSum a d e) → shown r ≡ eclLatFrmEqRule a d e → shown s ≡ eclLatFrmEqRule (opposite a) (opposite d) e → shown s ≡ with neg (shown r)
-  ecl-lat-frm-eq-mirror not-zero = mirrored neg (latitude-mirror a d e not-zero) r s
+  pub ecl-lat-frm-eq-mirror : NonZero (eclLatSum a d e) → shownRadians r ≡ eclLatFrmEqRule a d e
+      → shownRadians s ≡ eclLatFrmEqRule (opposite a) (opposite d) e → shownRadians s ≡ with opposite (shownRadians r)
+  ecl-lat-frm-eq-mirror not-zero = mirrored opposite (latitude-mirror a d e not-zero) r s

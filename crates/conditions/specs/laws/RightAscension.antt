@@ -24,27 +24,28 @@ module _ (a d e : Rad) where
       rw (sine-odd a, tangent-odd d, mul-neg-l binary64 (sineOf a) (cosineOf e), mul-neg-l binary64 (tangentOf d) (sineOf e))
       (add-neg-neg binary64 (sineOf a ⊗ cosineOf e) (tangentOf d ⊗ sineOf e) z)
 
-  long-in-mirror : NonZero (eclLongSum a d e) → eclLongIn (opposite a) (opposite d) e ≡ with neg (eclLongIn a d e)
+  long-in-mirror : NonZero (eclLongSum a d e) → eclLongIn (opposite a) (opposite d) e ≡ with opposite (eclLongIn a d e)
   unfolding eclLongIn
   long-in-mirror z = rw (long-sum-mirror z, cosine-even a) (arctangent-in-odd (eclLongSum a d e) (cosineOf a))
 
   -- ecliptic longitude changes sign only
-  pub longitude-mirror : NonZero (eclLongSum a d e) → eclLongFrmEqRule (opposite a) (opposite d) e ≡ with neg (eclLongFrmEqRule a d e)
+  pub longitude-mirror : NonZero (eclLongSum a d e) → eclLongFrmEqRule (opposite a) (opposite d) e ≡ with opposite (eclLongFrmEqRule a d e)
   longitude-mirror z =
-      rw (angle-opposite a, steep-opposite d, long-in-mirror z) (with-unless neg (steepFrameRefusal a d e) (eclLongIn a d e))
+      rw (angle-opposite a, steep-opposite d, long-in-mirror z) (with-unless opposite (steepFrameRefusal a d e) (eclLongIn a d e))
 
   -- ---- latitude
 
   lat-sum-mirror : NonZero (eclLatSum a d e) → eclLatSum (opposite a) (opposite d) e ≡ neg (eclLatSum a d e)
   lat-sum-mirror z =
-      rw (sine-odd a, sine-odd d, cosine-even d, mul-neg-l binary64 (sineOf d) (cosineOf e), mul-neg-r binary64 (cosineOf d ⊗ sineOf e) (sineOf a))
+      rw
+      (sine-odd a, sine-odd d, cosine-even d, mul-neg-l binary64 (sineOf d) (cosineOf e), mul-neg-r binary64 (cosineOf d ⊗ sineOf e) (sineOf a))
       (sub-neg-neg binary64 (sineOf d ⊗ cosineOf e) (cosineOf d ⊗ sineOf e ⊗ sineOf a) z)
 
-  lat-in-mirror : NonZero (eclLatSum a d e) → eclLatIn (opposite a) (opposite d) e ≡ with neg (eclLatIn a d e)
+  lat-in-mirror : NonZero (eclLatSum a d e) → eclLatIn (opposite a) (opposite d) e ≡ with opposite (eclLatIn a d e)
   unfolding eclLatIn
   lat-in-mirror z = rw (lat-sum-mirror z) (arcsine-in-odd (eclLatSum a d e))
 
   -- ecliptic latitude changes sign only
-  pub latitude-mirror : NonZero (eclLatSum a d e) → eclLatFrmEqRule (opposite a) (opposite d) e ≡ with neg (eclLatFrmEqRule a d e)
+  pub latitude-mirror : NonZero (eclLatSum a d e) → eclLatFrmEqRule (opposite a) (opposite d) e ≡ with opposite (eclLatFrmEqRule a d e)
   latitude-mirror z =
-      rw (angle-opposite a, latitude-opposite d, lat-in-mirror z) (with-unless neg (frameRefusal a d e) (eclLatIn a d e))
+      rw (angle-opposite a, latitude-opposite d, lat-in-mirror z) (with-unless opposite (frameRefusal a d e) (eclLatIn a d e))

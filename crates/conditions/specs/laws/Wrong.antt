@@ -2,60 +2,60 @@
 use mathlib.Core.Path.{_≡_, refl}
 use mathlib.Core.Bool.{false}
 use std.Logic.{_≢_}
-use lib.Ieee.{Float, neg}
 use Rattle.double.specs.rules.Operations.{bits, zero, _⊖_}
 use Rattle.double.specs.rules.Sign.{bearsMinus, size}
 use Rattle.double.specs.rules.Order.{_≼_, NonZero}
+use Rattle.double.specs.notions.Stated.{minusZero}
 use Rattle.double.specs.laws.Apart.{apart}
 use Rattle.quantity.specs.declared.Rad.{Rad}
-use Rattle.quantity.specs.rules.Angle.{PI, HALF, QUARTER, opposite}
+use Rattle.quantity.specs.rules.Angle.{rad, PI, HALF, QUARTER, opposite}
 use Rattle.quantity.specs.rules.Answer.{answered, with}
-use Rattle.quantity.specs.notions.Code.{ofFloat, ofAnswer}
+use Rattle.quantity.specs.notions.Code.{ofFloat, ofRad, ofAnswer}
 use Rattle.quantity.specs.notions.Stated.{r0, r½, r1}
 use Rattle.elementary_arc.specs.notions.Computed.{computed}
 use Rattle.coords.specs.rules.Horizon.{southward, azimuthIn, azFrmEqRule, altitudeIn, altFrmEqRule}
 use Rattle.coords_ecl.specs.rules.Ecliptic.{eclLongSum, eclLatIn, eclLatFrmEqRule}
 
 abbrev m0 : Rad
-m0 = record { 0 = bits 0x8000000000000000 }
+m0 = rad minusZero
 
 -- ---- azimuth
 
-pub south-within-less-than-a-quarter-turn-excluded : ¬ ((h d p : Rad) (v : Float) → azFrmEqRule h d p ≡ answered v → bearsMinus (southward h d p) ≡ false → size v ≼ QUARTER)
+pub south-within-less-than-a-quarter-turn-excluded : ¬ ((h d p : Rad) (v : Rad) → azFrmEqRule h d p ≡ answered v → bearsMinus (southward h d p) ≡ false → size (v .0) ≼ QUARTER)
 unfolding computed azimuthIn
-south-within-less-than-a-quarter-turn-excluded wrong = wrong r½ r0 r0 HALF refl refl
+south-within-less-than-a-quarter-turn-excluded wrong = wrong r½ r0 r0 (rad HALF) refl refl
 
 pub hour-mirror-keeps-the-sign-excluded : ¬ ((h d p : Rad) → azFrmEqRule (opposite h) d p ≡ azFrmEqRule h d p)
 unfolding computed azimuthIn
-hour-mirror-keeps-the-sign-excluded wrong = apart (ofAnswer ofFloat) refl (wrong r0 r½ r0)
+hour-mirror-keeps-the-sign-excluded wrong = apart (ofAnswer ofRad) refl (wrong r0 r½ r0)
 
 -- the azimuths 0.5758289495618063 and 2.5657637040279866: PI less the second is 0.5758289495618065
-pub declination-size-on-the-other-side-excluded : ¬ ((h d p : Rad) → NonZero (southward h d p) → (v w : Float) → azFrmEqRule h d p ≡ answered v → azFrmEqRule h (opposite d) (opposite p) ≡ answered w → bearsMinus (southward h d p) ≡ false → size v ≡ PI ⊖ size w)
+pub declination-size-on-the-other-side-excluded : ¬ ((h d p : Rad) → NonZero (southward h d p) → (v w : Rad) → azFrmEqRule h d p ≡ answered v → azFrmEqRule h (opposite d) (opposite p) ≡ answered w → bearsMinus (southward h d p) ≡ false → size (v .0) ≡ PI ⊖ size (w .0))
 unfolding computed azimuthIn
 declination-size-on-the-other-side-excluded wrong =
-    apart ofFloat refl (wrong r½ r0 r1 tt (bits 0x3fe26d30d54ea7de) (bits 0x400486af1ef08320) refl refl refl)
+    apart ofFloat refl (wrong r½ r0 r1 tt (rad (bits 0x3fe26d30d54ea7de)) (rad (bits 0x400486af1ef08320)) refl refl refl)
 
-pub sky-sheet-mirrored-excluded : azFrmEqRule m0 r½ r0 ≢ answered PI
+pub sky-sheet-mirrored-excluded : azFrmEqRule m0 r½ r0 ≢ answered (rad PI)
 unfolding computed azimuthIn
-sky-sheet-mirrored-excluded = apart (ofAnswer ofFloat) refl
+sky-sheet-mirrored-excluded = apart (ofAnswer ofRad) refl
 
 -- ---- altitude
 
-pub altitude-turns-with-the-hour-excluded : ¬ ((h d p : Rad) → altFrmEqRule (opposite h) d p ≡ with neg (altFrmEqRule h d p))
+pub altitude-turns-with-the-hour-excluded : ¬ ((h d p : Rad) → altFrmEqRule (opposite h) d p ≡ with opposite (altFrmEqRule h d p))
 unfolding computed altitudeIn
-altitude-turns-with-the-hour-excluded wrong = apart (ofAnswer ofFloat) refl (wrong r0 r0 r0)
+altitude-turns-with-the-hour-excluded wrong = apart (ofAnswer ofRad) refl (wrong r0 r0 r0)
 
 pub altitude-with-latitude-alone-negated-excluded : ¬ ((h d p : Rad) → altFrmEqRule h (opposite d) (opposite p) ≡ altFrmEqRule h d (opposite p))
 unfolding computed altitudeIn
-altitude-with-latitude-alone-negated-excluded wrong = apart (ofAnswer ofFloat) refl (wrong r0 r½ r½)
+altitude-with-latitude-alone-negated-excluded wrong = apart (ofAnswer ofRad) refl (wrong r0 r½ r½)
 
-pub altitude-within-less-than-a-quarter-turn-excluded : ¬ ((h d p : Rad) (v : Float) → altFrmEqRule h d p ≡ answered v → size v ≼ QUARTER)
+pub altitude-within-less-than-a-quarter-turn-excluded : ¬ ((h d p : Rad) (v : Rad) → altFrmEqRule h d p ≡ answered v → size (v .0) ≼ QUARTER)
 unfolding computed altitudeIn
-altitude-within-less-than-a-quarter-turn-excluded wrong = wrong r0 r0 r0 HALF refl
+altitude-within-less-than-a-quarter-turn-excluded wrong = wrong r0 r0 r0 (rad HALF) refl
 
 -- ---- ecliptic latitude
 
 -- the sum behind the longitude is not zero, but that behind the latitude is
-pub latitude-mirror-of-a-zero-sum-excluded : ¬ ((a d e : Rad) → NonZero (eclLongSum a d e) → eclLatFrmEqRule (opposite a) (opposite d) e ≡ with neg (eclLatFrmEqRule a d e))
+pub latitude-mirror-of-a-zero-sum-excluded : ¬ ((a d e : Rad) → NonZero (eclLongSum a d e) → eclLatFrmEqRule (opposite a) (opposite d) e ≡ with opposite (eclLatFrmEqRule a d e))
 unfolding computed eclLatIn
-latitude-mirror-of-a-zero-sum-excluded wrong = apart (ofAnswer ofFloat) refl (wrong r½ r0 r0 tt)
+latitude-mirror-of-a-zero-sum-excluded wrong = apart (ofAnswer ofRad) refl (wrong r½ r0 r0 tt)

@@ -12,31 +12,31 @@ use Rattle.coords.specs.rules.Arguments.{skyRefusal, steepSkyRefusal}
 abbrev pub southward : Rad → Rad → Rad → Float
 southward h d p = cosineOf h ⊗ sineOf p ⊖ tangentOf d ⊗ cosineOf p
 
-unfoldable pub azimuthIn : Rad → Rad → Rad → Answer Float
+unfoldable pub azimuthIn : Rad → Rad → Rad → Answer Rad
 azimuthIn h d p = arctangentIn (sineOf h) (southward h d p)
 
-abbrev pub azFrmEqRule : Rad → Rad → Rad → Answer Float
+abbrev pub azFrmEqRule : Rad → Rad → Rad → Answer Rad
 azFrmEqRule h d p = unless (steepSkyRefusal h d p) (azimuthIn h d p)
 
 -- the sine of the altitude
 abbrev pub upward : Rad → Rad → Rad → Float
 upward h d p = sineOf p ⊗ sineOf d ⊕ (cosineOf p ⊗ cosineOf d) ⊗ cosineOf h
 
-unfoldable pub altitudeIn : Rad → Rad → Rad → Answer Float
+unfoldable pub altitudeIn : Rad → Rad → Rad → Answer Rad
 altitudeIn h d p = arcsineIn (upward h d p)
 
-abbrev pub altFrmEqRule : Rad → Rad → Rad → Answer Float
+abbrev pub altFrmEqRule : Rad → Rad → Rad → Answer Rad
 altFrmEqRule h d p = unless (skyRefusal h d p) (altitudeIn h d p)
 
-unfoldable pub hrAnglFrmHzIn : Rad → Rad → Rad → Answer Float
+unfoldable pub hrAnglFrmHzIn : Rad → Rad → Rad → Answer Rad
 hrAnglFrmHzIn z a p = arctangentIn (sineOf z) (cosineOf z ⊗ sineOf p ⊕ tangentOf a ⊗ cosineOf p)
 
-abbrev pub hrAnglFrmHzRule : Rad → Rad → Rad → Answer Float
+abbrev pub hrAnglFrmHzRule : Rad → Rad → Rad → Answer Rad
 hrAnglFrmHzRule z a p = unless (steepSkyRefusal z a p) (hrAnglFrmHzIn z a p)
 
 -- cos z twice, as in the crate
-unfoldable pub decFrmHzIn : Rad → Rad → Rad → Answer Float
+unfoldable pub decFrmHzIn : Rad → Rad → Rad → Answer Rad
 decFrmHzIn z a p = arcsineIn (sineOf p ⊗ sineOf a ⊖ cosineOf p ⊗ cosineOf z ⊗ cosineOf z)
 
-abbrev pub decFrmHzRule : Rad → Rad → Rad → Answer Float
+abbrev pub decFrmHzRule : Rad → Rad → Rad → Answer Rad
 decFrmHzRule z a p = unless (skyRefusal z a p) (decFrmHzIn z a p)

@@ -12,30 +12,30 @@ use Rattle.coords_ecl.specs.rules.Arguments.{frameRefusal, steepFrameRef
 abbrev pub eclLongSum : Rad → Rad → Rad → Float
 eclLongSum a d e = sineOf a ⊗ cosineOf e ⊕ tangentOf d ⊗ sineOf e
 
-unfoldable pub eclLongIn : Rad → Rad → Rad → Answer Float
+unfoldable pub eclLongIn : Rad → Rad → Rad → Answer Rad
 eclLongIn a d e = arctangentIn (eclLongSum a d e) (cosineOf a)
 
-abbrev pub eclLongFrmEqRule : Rad → Rad → Rad → Answer Float
+abbrev pub eclLongFrmEqRule : Rad → Rad → Rad → Answer Rad
 eclLongFrmEqRule a d e = unless (steepFrameRefusal a d e) (eclLongIn a d e)
 
 -- the sum behind the ecliptic latitude
 abbrev pub eclLatSum : Rad → Rad → Rad → Float
 eclLatSum a d e = sineOf d ⊗ cosineOf e ⊖ cosineOf d ⊗ sineOf e ⊗ sineOf a
 
-unfoldable pub eclLatIn : Rad → Rad → Rad → Answer Float
+unfoldable pub eclLatIn : Rad → Rad → Rad → Answer Rad
 eclLatIn a d e = arcsineIn (eclLatSum a d e)
 
-abbrev pub eclLatFrmEqRule : Rad → Rad → Rad → Answer Float
+abbrev pub eclLatFrmEqRule : Rad → Rad → Rad → Answer Rad
 eclLatFrmEqRule a d e = unless (frameRefusal a d e) (eclLatIn a d e)
 
-unfoldable pub ascFrmEclIn : Rad → Rad → Rad → Answer Float
+unfoldable pub ascFrmEclIn : Rad → Rad → Rad → Answer Rad
 ascFrmEclIn l b e = arctangentIn (sineOf l ⊗ cosineOf e ⊖ tangentOf b ⊗ sineOf e) (cosineOf l)
 
-abbrev pub ascFrmEclRule : Rad → Rad → Rad → Answer Float
+abbrev pub ascFrmEclRule : Rad → Rad → Rad → Answer Rad
 ascFrmEclRule l b e = unless (steepFrameRefusal l b e) (ascFrmEclIn l b e)
 
-unfoldable pub decFrmEclIn : Rad → Rad → Rad → Answer Float
+unfoldable pub decFrmEclIn : Rad → Rad → Rad → Answer Rad
 decFrmEclIn l b e = arcsineIn (sineOf b ⊗ cosineOf e ⊕ cosineOf b ⊗ sineOf e ⊗ sineOf l)
 
-abbrev pub decFrmEclRule : Rad → Rad → Rad → Answer Float
+abbrev pub decFrmEclRule : Rad → Rad → Rad → Answer Rad
 decFrmEclRule l b e = unless (frameRefusal l b e) (decFrmEclIn l b e)

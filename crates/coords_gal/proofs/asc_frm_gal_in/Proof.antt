@@ -1,7 +1,5 @@
 -- `coords_gal::asc_frm_gal_in` meets its contract. Assumes nothing.
 use Rattle.double.specs.laws.Calls.{asks-nothing}
-use mathlib.Core.Path.{ap}
-use Rattle.quantity.specs.declared.Rad.{Rad}
 use Rattle.coords_gal.specs.rules.Galactic.{ascFrmGalIn}
 use Rattle.coords_gal.proofs.asc_frm_gal_in.Statement.{statement}
 use Rattle.coords_gal.proofs.asc_frm_gal_in.Tie as tie
@@ -13,7 +11,7 @@ returns c =
     let c2 = c1 .before in
     let c3 = c2 .before in
     let c4 = c3 .before in
-    rw (c1 .round-pole .ensures, c2 .fold .ensures, c3 .from-centre .ensures, c4 .radians .ensures) at (c .added-to .ensures)
+    rw (c1 .round-pole .ensures, c2 .fold .ensures, c3 .from-pole-long .ensures, c4 .radians .ensures) at (c .added-to .ensures)
 
 pub asc-frm-gal-in-spec : {M : Type 1} → statement M
 asc-frm-gal-in-spec = tie.close (tie.spec asks-nothing asks-nothing asks-nothing asks-nothing asks-nothing returns)

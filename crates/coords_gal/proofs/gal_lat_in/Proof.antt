@@ -15,7 +15,7 @@ returns c =
     let c6 = c5 .before in
     let c7 = c6 .before in
     let c8 = c7 .before in
-    rw (c1 .cosine3 .ensures, c2 .cosine2 .ensures, c3 .cosine .ensures, c4 .sine2 .ensures, c5 .sine .ensures, c6 .fold .ensures, c7 .pole .ensures, c8 .from-node .ensures) at (c .arcsine-in .ensures)
+    rw (c1 .cosine3 .ensures, c2 .cosine2 .ensures, c3 .cosine .ensures, c4 .sine2 .ensures, c5 .sine .ensures, c6 .fold .ensures, c7 .pole .ensures, c8 .from-pole-asc .ensures) at (c .arcsine-in .ensures)
 
 pub gal-lat-in-spec : {M : Type 1} → statement M
 gal-lat-in-spec = tie.close (tie.spec asks-nothing asks-nothing asks-nothing asks-nothing asks-nothing asks-nothing asks-nothing asks-nothing asks-nothing returns)

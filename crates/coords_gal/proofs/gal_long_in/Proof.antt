@@ -1,7 +1,5 @@
 -- `coords_gal::gal_long_in` meets its contract. Assumes nothing.
 use Rattle.double.specs.laws.Calls.{asks-nothing}
-use mathlib.Core.Path.{ap}
-use Rattle.quantity.specs.declared.Rad.{Rad}
 use Rattle.coords_gal.specs.rules.Galactic.{galLongIn}
 use Rattle.coords_gal.proofs.gal_long_in.Statement.{statement}
 use Rattle.coords_gal.proofs.gal_long_in.Tie as tie
@@ -13,7 +11,7 @@ returns c =
     let c2 = c1 .before in
     let c3 = c2 .before in
     let c4 = c3 .before in
-    rw (c1 .round-pole .ensures, c2 .fold .ensures, c3 .from-node .ensures, c4 .radians .ensures) at (c .taken-from .ensures)
+    rw (c1 .round-pole .ensures, c2 .fold .ensures, c3 .from-pole-asc .ensures, c4 .radians .ensures) at (c .taken-from .ensures)
 
 pub gal-long-in-spec : {M : Type 1} → statement M
 gal-long-in-spec = tie.close (tie.spec asks-nothing asks-nothing asks-nothing asks-nothing asks-nothing returns)

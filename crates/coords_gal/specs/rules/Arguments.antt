@@ -4,8 +4,8 @@ use Rattle.quantity.specs.declared.Rad.{Rad}
 use Rattle.quantity.specs.rules.Refusal.{lower, angleRefusal, latitudeRefusal, steepRefusal}
 
 -- a longitude and a latitude
-abbrev pub placeRefusal : Rad → Rad → ℕ
-placeRefusal long lat = lower (angleRefusal long) (latitudeRefusal lat)
+abbrev pub galRefusal : Rad → Rad → ℕ
+galRefusal long lat = lower (angleRefusal long) (latitudeRefusal lat)
 
-abbrev pub steepPlaceRefusal : Rad → Rad → ℕ
-steepPlaceRefusal long lat = lower (angleRefusal long) (steepRefusal lat)
+abbrev pub steepGalRefusal : Rad → Rad → ℕ
+steepGalRefusal long lat = lower (angleRefusal long) (steepRefusal lat)

@@ -1,8 +1,8 @@
 -- Equatorial and galactic coordinates of B1950.0 (Meeus, chapter 13): right ascension a, declination d, longitude l, latitude b.
-use lib.Ieee.{Float}
 use Rattle.double.specs.rules.Operations.{bits, _⊕_, _⊖_, _⊗_}
 use Rattle.quantity.specs.declared.Deg.{Deg}
 use Rattle.quantity.specs.declared.Rad.{Rad}
+use Rattle.quantity.specs.rules.Angle.{deg, rad}
 use Rattle.quantity.specs.rules.Answer.{Answer, unless, addedTo, takenFrom}
 use Rattle.elementary.specs.declared.Folded.{Folded}
 use Rattle.elementary.specs.rules.Fold.{fold}
@@ -10,62 +10,59 @@ use Rattle.elementary.specs.rules.Sine.{foldedSine, foldedCosine, foldedTangent
 use Rattle.elementary_arc.specs.rules.Arctangent.{arctangentIn}
 use Rattle.elementary_arc.specs.rules.Arcsine.{arcsineIn}
 use Rattle.helpers.specs.rules.Angle.{radiansOf}
-use Rattle.coords_gal.specs.rules.Arguments.{placeRefusal, steepPlaceRefusal}
+use Rattle.coords_gal.specs.rules.Arguments.{galRefusal, steepGalRefusal}
 
-abbrev deg : Float → Deg
-deg x = record { 0 = x }
+-- 303, the galactic longitude of the south celestial pole
+abbrev pub southCelPoleLong : Deg
+southCelPoleLong = deg (bits 0x4072f00000000000)
 
--- 303
-abbrev pub poleLong : Deg
-poleLong = deg (bits 0x4072f00000000000)
+-- 192.25, the right ascension of the galactic pole
+abbrev pub galPoleAsc : Deg
+galPoleAsc = deg (bits 0x4068080000000000)
 
--- 192.25
-abbrev pub poleAsc : Deg
-poleAsc = deg (bits 0x4068080000000000)
+-- 27.4, its declination
+abbrev pub galPoleDec : Deg
+galPoleDec = deg (bits 0x403b666666666666)
 
--- 27.4
-abbrev pub poleDec : Deg
-poleDec = deg (bits 0x403b666666666666)
+-- 123, the galactic longitude of the celestial pole
+abbrev pub celPoleLong : Deg
+celPoleLong = deg (bits 0x405ec00000000000)
 
--- 123
-abbrev pub northLong : Deg
-northLong = deg (bits 0x405ec00000000000)
-
--- 12.25
-abbrev pub southAsc : Deg
-southAsc = deg (bits 0x4028800000000000)
+-- 12.25, the right ascension of the south galactic pole
+abbrev pub southGalPoleAsc : Deg
+southGalPoleAsc = deg (bits 0x4028800000000000)
 
 abbrev pub pole : Folded
-pole = fold (radiansOf poleDec)
+pole = fold (radiansOf galPoleDec)
 
 -- the arctangent of (sin n, sin pole · cos n − cos pole · tan d), for an angle n at the pole and a latitude d
-unfoldable pub roundPole : Folded → Folded → Answer Float
+unfoldable pub roundPole : Folded → Folded → Answer Rad
 roundPole n d = arctangentIn (foldedSine n) (foldedSine pole ⊗ foldedCosine n ⊖ foldedCosine pole ⊗ foldedTangent d)
 
--- 192.25 degrees less a
-abbrev pub fromNode : Rad → Folded
-fromNode a = fold (record { 0 = radiansOf poleAsc .0 ⊖ a .0 })
+-- the galactic pole's right ascension less a
+abbrev pub fromPoleAsc : Rad → Folded
+fromPoleAsc a = fold (rad (radiansOf galPoleAsc .0 ⊖ a .0))
 
-unfoldable pub galLongIn : Rad → Rad → Answer Float
-galLongIn a d = takenFrom (radiansOf poleLong .0) (roundPole (fromNode a) (fold d))
+unfoldable pub galLongIn : Rad → Rad → Answer Rad
+galLongIn a d = takenFrom (radiansOf southCelPoleLong) (roundPole (fromPoleAsc a) (fold d))
 
-abbrev pub galLongFrmEqRule : Rad → Rad → Answer Float
-galLongFrmEqRule a d = unless (steepPlaceRefusal a d) (galLongIn a d)
+abbrev pub galLongFrmEqRule : Rad → Rad → Answer Rad
+galLongFrmEqRule a d = unless (steepGalRefusal a d) (galLongIn a d)
 
-unfoldable pub galLatIn : Rad → Rad → Answer Float
+unfoldable pub galLatIn : Rad → Rad → Answer Rad
 galLatIn a d =
     arcsineIn
-    (foldedSine (fold d) ⊗ foldedSine pole ⊕ foldedCosine (fold d) ⊗ foldedCosine pole ⊗ foldedCosine (fromNode a))
+    (foldedSine (fold d) ⊗ foldedSine pole ⊕ foldedCosine (fold d) ⊗ foldedCosine pole ⊗ foldedCosine (fromPoleAsc a))
 
-abbrev pub galLatFrmEqRule : Rad → Rad → Answer Float
-galLatFrmEqRule a d = unless (placeRefusal a d) (galLatIn a d)
+abbrev pub galLatFrmEqRule : Rad → Rad → Answer Rad
+galLatFrmEqRule a d = unless (galRefusal a d) (galLatIn a d)
 
--- l less 123 degrees
-abbrev pub fromCentre : Rad → Folded
-fromCentre l = fold (record { 0 = l .0 ⊖ radiansOf northLong .0 })
+-- l less the celestial pole's longitude
+abbrev pub fromPoleLong : Rad → Folded
+fromPoleLong l = fold (rad (l .0 ⊖ radiansOf celPoleLong .0))
 
-unfoldable pub ascFrmGalIn : Rad → Rad → Answer Float
-ascFrmGalIn l b = addedTo (radiansOf southAsc .0) (roundPole (fromCentre l) (fold b))
+unfoldable pub ascFrmGalIn : Rad → Rad → Answer Rad
+ascFrmGalIn l b = addedTo (radiansOf southGalPoleAsc) (roundPole (fromPoleLong l) (fold b))
 
-abbrev pub ascFrmGalRule : Rad → Rad → Answer Float
-ascFrmGalRule l b = unless (steepPlaceRefusal l b) (ascFrmGalIn l b)
+abbrev pub ascFrmGalRule : Rad → Rad → Answer Rad
+ascFrmGalRule l b = unless (steepGalRefusal l b) (ascFrmGalIn l b)

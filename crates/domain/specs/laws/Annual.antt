@@ -14,11 +14,11 @@ use Rattle.helpers.specs.rules.Angle.{hourArc, degree, radiansOf}
 use Rattle.helpers.specs.rules.Time.{centuryOf}
 use Rattle.precess.specs.rules.Numbers.{n3·07496, n0·00186, n1·33621, n0·00057}
 use Rattle.precess.specs.rules.Annual.{annualM, annualN, annualAt, annualIn, annualRefusal, annualPrecessRule}
-use Rattle.conditions.specs.laws.Accepted.{angle-sine, angle-cosine, steep-tangent}
-use Rattle.conditions.specs.notions.Outcome.{Outcome, Never}
-use Rattle.conditions.specs.notions.Within.{Within, BothFinite}
-use Rattle.conditions.specs.laws.Outcome.{outcome-answered, rule-answers, rule-refuses}
-use Rattle.conditions.specs.laws.Near.{within}
+use Rattle.domain_accepted.specs.laws.Accepted.{angle-sine, angle-cosine, steep-tangent}
+use Rattle.domain_accepted.specs.notions.Outcome.{Outcome, Never}
+use Rattle.domain_accepted.specs.notions.Within.{Within, BothFinite}
+use Rattle.domain_accepted.specs.laws.Outcome.{outcome-answered, rule-answers, rule-refuses}
+use Rattle.domain_accepted.specs.laws.Near.{within}
 use Rattle.domain.specs.laws.Days.{century-within}
 
 module _ (c : Float) (C : Within 20 c) where

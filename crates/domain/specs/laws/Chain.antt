@@ -5,19 +5,19 @@ use mathlib.Core.Path.{_≡_, refl, sym, _∙_, subst}
 use mathlib.Core.Logic.{_⊎_, inl, inr}
 use mathlib.Core.Bool.{Bool, true, false, cond}
 use lib.Ieee.{Float, neg, add, sub, mul, div, le, lt, ofBits, round}
-use lib.Ieee.Bits.{is-true, is-false}
+use lib.Ieee.Bits.{is-true}
 use Rattle.double.specs.rules.Sign.{size, isFinite}
-use Rattle.double.specs.rules.Order.{_≼_, Finite, Between}
+use Rattle.double.specs.rules.Order.{_≼_, Between}
 use Rattle.double.specs.rules.Table.{over}
 use Rattle.double.specs.notions.Range.{known, con, _⊞_, _⊟_, _⊠_}
-use Rattle.double.specs.laws.Sign.{finite-size}
-use Rattle.double.specs.laws.Order.{le-trans, not-lt-of-le}
-use Rattle.double.specs.laws.Between.{finite-of-size, between→size}
+use Rattle.double.specs.laws.Order.{le-trans}
+use Rattle.double.specs.laws.Between.{between→size}
 use Rattle.quantity.specs.declared.Rad.{Rad}
-use Rattle.quantity.specs.rules.Angle.{HALF}
+use Rattle.quantity.specs.rules.Angle.{rad, HALF}
 use Rattle.quantity.specs.rules.Answer.{Answer, answered, refused, Pair, pair, first, second, unless, then}
-use Rattle.quantity.specs.rules.Refusal.{past, dayRefusal, farthest, steepest, angleRefusal, latitudeRefusal, steepRefusal}
+use Rattle.quantity.specs.rules.Refusal.{dayRefusal, farthest, steepest, angleRefusal, latitudeRefusal, steepRefusal}
 use Rattle.quantity.specs.laws.Answer.{then-unless}
+use Rattle.quantity.specs.laws.Refusal.{past-none}
 use Rattle.elementary.specs.rules.Sine.{farthestAlone}
 use Rattle.elementary.specs.laws.Accepted.{answered-unless}
 use Rattle.helpers.specs.rules.Angle.{arc, degree}
@@ -28,11 +28,11 @@ use Rattle.nutation.specs.rules.Point.{nutationInRefusal, nutationInEqCoordsIn,
 use Rattle.aberr.specs.rules.Star.{stellAberrRefusal, stellAberrInEqCoordsIn, stellAberrInEqCoordsRule}
 use Rattle.chain.specs.rules.Numbers.{n84381·448, n46·8150, n0·00059, n0·001813}
 use Rattle.chain.specs.rules.Obliquity.{meanObliquity, obliquityOf}
-use Rattle.chain.specs.rules.Chain.{point, rad, sum, fromPoint, chainRule}
-use Rattle.conditions.specs.notions.Outcome.{Outcome, FourOrSeven}
-use Rattle.conditions.specs.notions.Within.{Within, IsPlace, BothFinite, BothWithin}
-use Rattle.conditions.specs.laws.Outcome.{outcome-answered, outcome-then}
-use Rattle.conditions.specs.laws.Near.{within, near-far}
+use Rattle.chain.specs.rules.Chain.{point, sum, fromPoint, chainRule}
+use Rattle.domain_accepted.specs.notions.Outcome.{Outcome, FourOrSeven}
+use Rattle.domain_accepted.specs.notions.Within.{Within, IsPlace, BothFinite, BothWithin}
+use Rattle.domain_accepted.specs.laws.Outcome.{outcome-answered, outcome-then}
+use Rattle.domain_accepted.specs.laws.Near.{within, near-far}
 use Rattle.domain.specs.laws.Days.{century-within, second-accepted, place-accepted}
 use Rattle.domain.specs.laws.Equatorial.{precess-eq-coords-answers, precess-eq-coords-refuses}
 use Rattle.domain.specs.laws.NutationSum.{nutation-answers, nutation-refuses}
@@ -40,11 +40,6 @@ use Rattle.domain.specs.laws.NutationPoint.{nutation-in-eq-coords-answer
 use Rattle.domain.specs.laws.StarAberration.{stell-aberr-in-eq-coords-answers, stell-aberr-in-eq-coords-refuses}
 
 -- ---- what is not refused
-
-past-none : (x limit : Float) (n : ℕ) → Finite limit → size x ≼ limit → past x limit n ≡ 0
-past-none x limit n p h =
-    let F = finite-of-size x limit p h in
-    rw (is-true (isFinite x) F, is-false (lt limit (size x)) (not-lt-of-le (size x) limit (rw (finite-size x) F) p h))
 
 angle-near : (x : Rad) → Within 64 (x .0) → angleRefusal x ≡ 0
 unfolding angleRefusal isFinite le ofBits round
@@ -117,7 +112,7 @@ module _ (p n : Pair) (day : Float) (P : IsPlace p) (N : BothWithin 1 n) (D : da
             λ k e.
             elim nutation-cases [
               | inl z ↦ absurd (nutation-in-eq-coords-refuses (point p) long lat oblq z k e)
-              | inr f ↦ inl (refused-four (nutationInRefusal (point p) long lat oblq) (answered (pair (nutationInEqCoordsIn (point p) long lat oblq .asc) (nutationInEqCoordsIn (point p) long lat oblq .dec))) k f e)
+              | inr f ↦ inl (refused-four (nutationInRefusal (point p) long lat oblq) (answered (pair (nutationInEqCoordsIn (point p) long lat oblq .asc .0) (nutationInEqCoordsIn (point p) long lat oblq .dec .0))) k f e)
             ];
       }
 
@@ -130,7 +125,7 @@ module _ (p n : Pair) (day : Float) (P : IsPlace p) (N : BothWithin 1 n) (D : da
             λ k e.
             elim aberr-cases [
               | inl z ↦ absurd (stell-aberr-in-eq-coords-refuses (point p) day z k e)
-              | inr f ↦ inl (refused-four (stellAberrRefusal (point p) day) (answered (pair (stellAberrInEqCoordsIn (point p) day .asc) (stellAberrInEqCoordsIn (point p) day .dec))) k f e)
+              | inr f ↦ inl (refused-four (stellAberrRefusal (point p) day) (answered (pair (stellAberrInEqCoordsIn (point p) day .asc .0) (stellAberrInEqCoordsIn (point p) day .dec .0))) k f e)
             ];
       }
 

@@ -21,16 +21,17 @@ use Rattle.quantity.specs.declared.Radians.{Radians}
 use Rattle.quantity.specs.declared.Radians.the-variants as radians
 use Rattle.quantity.specs.rules.Answer.{answered, refused, shownDegrees, shownRadians, unless}
 use Rattle.quantity.specs.rules.Refusal.{numberRefusal}
+use Rattle.quantity.specs.rules.Angle.{deg}
 use Rattle.elementary.specs.laws.Accepted.{number-accepted}
 use Rattle.helpers.specs.rules.Angle.{secondsOfDegree, degreesOfHour, arc, hourArc, degFrmDmsRule, degFrmHmsRule, degree, radiansOf, toRadiansRule}
-use Rattle.conditions.specs.notions.Outcome.{Never}
-use Rattle.conditions.specs.laws.Answers.{refused-not-answered}
-use Rattle.conditions.specs.laws.Outcome.{outcome-answered, rule-answers}
+use Rattle.domain_accepted.specs.notions.Outcome.{Never}
+use Rattle.domain_accepted.specs.laws.Outcome.{refused-not-answered, outcome-answered, rule-answers}
 use Rattle.domain.specs.notions.Answers.{FiniteDegrees, FiniteRadians}
 
 -- ---- a number is refused only where it is not finite, and by 1
 
-refused-number : {A : Type 0} (x : Float) (a : A) (n : ℕ) → unless (numberRefusal x) (answered a) ≡ refused n → (isFinite x ≡ false) × (n ≡ 1)
+refused-number : {A : Type 0} (x : Float) (a : A) (n : ℕ) → unless (numberRefusal x) (answered a) ≡ refused n
+    → (isFinite x ≡ false) × (n ≡ 1)
 refused-number {A} x a n e = by-case (isFinite x) e
   where
     by-case : (b : Bool) → unless (cond b 0 1) (answered a) ≡ refused n → (b ≡ false) × (n ≡ 1)
@@ -52,19 +53,19 @@ module _ (x : Float) where
 
     pub deg-frm-dms-finite : (v : Deg) → degFrmDmsRule x ≡ answered v → Finite (v .0)
     deg-frm-dms-finite v answer =
-        rule-answers {P = λ (v : Deg). Finite (v .0)} {Q = Never} (numberRefusal x) (answered (record { 0 = arc x }))
-        (λ none. outcome-answered (record { 0 = arc x }) (arc-finite (number-accepted x none))) v answer
+        rule-answers {P = λ (v : Deg). Finite (v .0)} {Q = Never} (numberRefusal x) (answered (deg (arc x)))
+        (λ none. outcome-answered (deg (arc x)) (arc-finite (number-accepted x none))) v answer
 
     pub deg-frm-hms-finite : (v : Deg) → degFrmHmsRule x ≡ answered v → Finite (v .0)
     deg-frm-hms-finite v answer =
-        rule-answers {P = λ (v : Deg). Finite (v .0)} {Q = Never} (numberRefusal x) (answered (record { 0 = hourArc x }))
-        (λ none. outcome-answered (record { 0 = hourArc x }) (hour-arc-finite (number-accepted x none))) v answer
+        rule-answers {P = λ (v : Deg). Finite (v .0)} {Q = Never} (numberRefusal x) (answered (deg (hourArc x)))
+        (λ none. outcome-answered (deg (hourArc x)) (hour-arc-finite (number-accepted x none))) v answer
 
   pub deg-frm-dms-refuses : (n : ℕ) → degFrmDmsRule x ≡ refused n → (isFinite x ≡ false) × (n ≡ 1)
-  deg-frm-dms-refuses n e = refused-number x (record { 0 = arc x }) n e
+  deg-frm-dms-refuses n e = refused-number x (deg (arc x)) n e
 
   pub deg-frm-hms-refuses : (n : ℕ) → degFrmHmsRule x ≡ refused n → (isFinite x ≡ false) × (n ≡ 1)
-  deg-frm-hms-refuses n e = refused-number x (record { 0 = hourArc x }) n e
+  deg-frm-hms-refuses n e = refused-number x (deg (hourArc x)) n e
 
 module _ (x : Deg) where
   module _ (F : T (fits binary64 (x .0))) where
@@ -104,5 +105,5 @@ module _ (n : ℕ) where
   pub deg-frm-hms-finite-of-bits : (v : Deg) → degFrmHmsRule (bits n) ≡ answered v → Finite (v .0)
   deg-frm-hms-finite-of-bits = deg-frm-hms-finite (bits n) (ofBits-fits binary64 n)
 
-  pub to-radians-finite-of-bits : (v : Rad) → toRadiansRule (record { 0 = bits n }) ≡ answered v → Finite (v .0)
-  to-radians-finite-of-bits = to-radians-finite (record { 0 = bits n }) (ofBits-fits binary64 n)
+  pub to-radians-finite-of-bits : (v : Rad) → toRadiansRule (deg (bits n)) ≡ answered v → Finite (v .0)
+  to-radians-finite-of-bits = to-radians-finite (deg (bits n)) (ofBits-fits binary64 n)

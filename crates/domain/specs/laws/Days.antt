@@ -16,10 +16,10 @@ use Rattle.quantity.specs.declared.Rad.{Rad}
 use Rattle.quantity.specs.rules.Refusal.{lower, epoch, daysAround, dayRefusal, angleRefusal, latitudeRefusal}
 use Rattle.elementary.specs.laws.Accepted.{lower-none, day-accepted}
 use Rattle.helpers.specs.rules.Time.{daysOfCentury, centuryOf}
-use Rattle.precess.specs.rules.Numbers.{n36525, n2415020·3135, n36524·2199}
+use Rattle.precess.specs.rules.Numbers.{n2415020·3135, n36524·2199}
 use Rattle.precess.specs.rules.Days.{spanOf, daysRefusal, placeRefusal}
 use Rattle.precess.specs.rules.Fk4.{fk4Century, fk4Span}
-use Rattle.conditions.specs.notions.Within.{Within}
+use Rattle.domain_accepted.specs.notions.Within.{Within}
 
 finite-epoch : Finite epoch
 unfolding isFinite ofBits
@@ -82,15 +82,18 @@ module _ (day1 day2 : Float) (none : daysRefusal day1 day2 ≡ 0) where
   pub span-within : Within 41 (spanOf day1 day2)
   unfolding isFinite le neg add sub div ofBits round
   span-within =
-      bounded binary64 (neg (over 41 1)) (over 41 1) ((known (day-between day2 second-accepted) ⊟ known (day-between day1 first-accepted)) ⧄ con n36525) tt
+      bounded binary64 (neg (over 41 1)) (over 41 1)
+      ((known (day-between day2 second-accepted) ⊟ known (day-between day1 first-accepted)) ⧄ con daysOfCentury) tt
 
   pub fk4-span-within : Within 41 (fk4Span day1 day2)
   unfolding isFinite le neg add sub div ofBits round
   fk4-span-within =
-      bounded binary64 (neg (over 41 1)) (over 41 1) ((known (day-between day2 second-accepted) ⊟ known (day-between day1 first-accepted)) ⧄ con n36524·2199) tt
+      bounded binary64 (neg (over 41 1)) (over 41 1)
+      ((known (day-between day2 second-accepted) ⊟ known (day-between day1 first-accepted)) ⧄ con n36524·2199) tt
 
 -- a place with two days
-pub place-accepted : (long lat : Rad) (day1 day2 : Float) → placeRefusal long lat day1 day2 ≡ 0 → (angleRefusal long ≡ 0) × (latitudeRefusal lat ≡ 0) × (daysRefusal day1 day2 ≡ 0)
+pub place-accepted : (long lat : Rad) (day1 day2 : Float) → placeRefusal long lat day1 day2 ≡ 0
+    → (angleRefusal long ≡ 0) × (latitudeRefusal lat ≡ 0) × (daysRefusal day1 day2 ≡ 0)
 place-accepted long lat day1 day2 e =
     let n = lower-none (lower (angleRefusal long) (latitudeRefusal lat)) (daysRefusal day1 day2) e in
     let m = lower-none (angleRefusal long) (latitudeRefusal lat) (n .0) in

@@ -16,30 +16,29 @@ use Rattle.elementary_arc.specs.rules.Arctangent.{arctangentIn}
 use Rattle.elementary.specs.laws.Accepted.{lower-none, height-accepted}
 use Rattle.elementary.specs.laws.Sine.{sine-between, cosine-between}
 use Rattle.helpers.specs.rules.Earth.{ratio, radius, rhoAt, rhoIn, rhoRefusal, rhoSinCosPhiRule}
-use Rattle.conditions.specs.laws.Accepted.{steep-far, steep-tangent}
-use Rattle.conditions.specs.notions.Outcome.{Outcome, Never}
-use Rattle.conditions.specs.notions.Within.{Within, BothFinite, BothWithin}
-use Rattle.conditions.specs.laws.Outcome.{outcome-answered, outcome-wider, outcome-then, rule-answers, rule-refuses}
-use Rattle.conditions.specs.laws.Elementary.{arctangent-outcome}
-use Rattle.conditions.specs.laws.Near.{within, near-far, near-sine, near-cosine}
+use Rattle.domain_accepted.specs.laws.Accepted.{steep-far, steep-tangent}
+use Rattle.domain_accepted.specs.notions.Outcome.{Outcome, Never}
+use Rattle.domain_accepted.specs.notions.Within.{Angle, Within, BothFinite, BothWithin}
+use Rattle.domain_accepted.specs.laws.Outcome.{outcome-answered, outcome-wider, outcome-then, rule-answers, rule-refuses}
+use Rattle.domain_accepted.specs.laws.Elementary.{arctangent-outcome}
+use Rattle.domain_accepted.specs.laws.Near.{within, near-far, near-sine, near-cosine}
 
 module _ (lat : Rad) (height : Float) (L : steepRefusal lat ≡ 0) (H : heightRefusal height ≡ 0) where
   -- u, which goes into a sine
-  u-outcome : {Q : ℕ → Type 0} → Outcome (Within 2048) Q (arctangentIn (ratio ⊗ tangentOf lat) one)
+  u-outcome : {Q : ℕ → Type 0} → Outcome (Angle (Within 2048)) Q (arctangentIn (ratio ⊗ tangentOf lat) one)
   unfolding isFinite le neg mul ofBits round
   u-outcome =
       outcome-wider (λ v i. within 2048 (known i) tt)
       (arctangent-outcome (ratio ⊗ tangentOf lat) one (within 32768 (con ratio ⊠ known (steep-tangent lat L)) tt .finite) tt)
 
-  pub u-far : (u : Float) → arctangentIn (ratio ⊗ tangentOf lat) one ≡ answered u → size u ≼ farthestAlone
-  u-far u e = near-far u (u-outcome {Q = Never} .answers u e)
+  pub u-far : (u : Rad) → arctangentIn (ratio ⊗ tangentOf lat) one ≡ answered u → size (u .0) ≼ farthestAlone
+  u-far u e = near-far (u .0) (u-outcome {Q = Never} .answers u e)
 
   pub rho-outcome : {Q : ℕ → Type 0} → Outcome (BothWithin 2) Q (rhoIn lat height)
   unfolding rhoIn isFinite le neg add mul div ofBits round
   rho-outcome =
-      outcome-then (λ (u : Float). rhoAt (fold (record { 0 = u })) (fold lat) height)
-      (λ u U.
-      let x : Rad = record { 0 = u } in
+      outcome-then (λ (u : Rad). rhoAt (fold u) (fold lat) height)
+      (λ x U.
       let h = known (height-accepted height H) ⧄ con radius in
       outcome-answered
       (pair (ratio ⊗ sineOf x ⊕ height ⊘ radius ⊗ sineOf lat) (cosineOf x ⊕ height ⊘ radius ⊗ cosineOf lat)) (

@@ -5,11 +5,12 @@ use mathlib.Core.Path.{_≡_, refl}
 use lib.Ieee.{Float, neg, add, sub, mul, div, le, ofBits, round}
 use Rattle.double.specs.rules.Operations.{_⊕_, _⊖_, _⊗_}
 use Rattle.double.specs.rules.Sign.{size, isFinite}
-use Rattle.double.specs.rules.Order.{_≼_}
+use Rattle.double.specs.rules.Order.{Between, _≼_}
 use Rattle.double.specs.notions.Range.{known, con, _⊞_, _⊟_, _⊠_}
 use Rattle.quantity.specs.declared.Rad.{Rad}
 use Rattle.quantity.specs.rules.Answer.{answered, refused, Pair, takenFrom}
 use Rattle.quantity.specs.rules.Refusal.{angleRefusal, latitudeRefusal}
+use Rattle.quantity.specs.rules.Angle.{HALF, rad}
 use Rattle.elementary.specs.rules.Sine.{sineOf, cosineOf, farthestAlone}
 use Rattle.elementary_arc.specs.rules.Arctangent.{arctangentIn}
 use Rattle.elementary_arc.specs.rules.Arcsine.{arcsineIn}
@@ -19,13 +20,13 @@ use Rattle.precess_ecl.specs.declared.EclTurns.{EclTurns}
 use Rattle.precess_ecl.specs.rules.Numbers.{n0·000598, n47·0029, n0·06603, m0·03302, n0·00006, n174·876384, n3289·4789, n0·60622, n869·8089, n0·50491, n0·03536, n0·000042, n5029·0966, n2·22226, n1·11113, n0·000006}
 use Rattle.precess.specs.rules.Days.{spanOf, daysRefusal, placeRefusal}
 use Rattle.precess_ecl.specs.rules.Ecliptic.{eclNu, eclPi, eclRho, eclTurned, eclTurnsOf, eclPlaced, eclTurnedIn, precessEclCoordsRule}
-use Rattle.conditions.specs.laws.Accepted.{angle-between, latitude-sine, latitude-cosine}
-use Rattle.conditions.specs.notions.Outcome.{Outcome, Seven}
-use Rattle.conditions.specs.notions.Within.{Within, IsPlace, BothFinite}
+use Rattle.domain_accepted.specs.laws.Accepted.{angle-between, latitude-sine, latitude-cosine}
+use Rattle.domain_accepted.specs.notions.Outcome.{Outcome, Seven}
+use Rattle.domain_accepted.specs.notions.Within.{Within, IsPlace, BothFinite}
 use Rattle.domain.specs.notions.Turns.{EclTurnsNear}
-use Rattle.conditions.specs.laws.Outcome.{outcome-with, outcome-both, rule-answers, rule-refuses}
-use Rattle.conditions.specs.laws.Elementary.{arctangent-outcome, arcsine-outcome}
-use Rattle.conditions.specs.laws.Near.{within, near-far, near-sine, near-cosine}
+use Rattle.domain_accepted.specs.laws.Outcome.{outcome-with, outcome-both, rule-answers, rule-refuses}
+use Rattle.domain_accepted.specs.laws.Elementary.{arctangent-outcome, arcsine-outcome}
+use Rattle.domain_accepted.specs.laws.Near.{within, near-far, near-sine, near-cosine}
 use Rattle.domain.specs.laws.Days.{century-within, span-within, first-accepted, place-accepted}
 
 -- ---- the angles that two days fix
@@ -65,28 +66,29 @@ module _ (day1 day2 : Float) (none : daysRefusal day1 day2 ≡ 0) where
       let t = spanOf day1 day2 in
       let C = century-within day1 (first-accepted day1 day2 none) in
       let S = span-within day1 day2 none in
-      turns-near (radiansOf (eclNu c t)) (radiansOf (eclPi c t)) (radiansOf (eclRho c t)) (nu-within c t C S) (pi-within c t C S) (rho-within c t C S)
+      turns-near (radiansOf (eclNu c t)) (radiansOf (eclPi c t)) (radiansOf (eclRho c t)) (nu-within c t C S)
+      (pi-within c t C S) (rho-within c t C S)
 
   -- the first angle goes into a sine
-  pub nu-far : size (eclTurnsOf day1 day2 .nu) ≼ farthestAlone
+  pub nu-far : size (eclTurnsOf day1 day2 .nu .0) ≼ farthestAlone
   unfolding isFinite le neg round
-  nu-far = near-far (eclTurnsOf day1 day2 .nu) (within 2048 (known (ecl-turns-near .nu)) tt)
+  nu-far = near-far (eclTurnsOf day1 day2 .nu .0) (within 2048 (known (ecl-turns-near .nu)) tt)
 
 -- ---- a place after the turns
 
 module _ (long lat : Rad) (turns : EclTurns) (L : angleRefusal long ≡ 0) (B : latitudeRefusal lat ≡ 0) (N : EclTurnsNear turns) where
   -- Pi less the longitude goes into a sine
-  turned-within : Within 2048 (turns .pi ⊖ long .0)
+  turned-within : Within 2048 (turns .pi .0 ⊖ long .0)
   unfolding isFinite le neg add sub ofBits round
   turned-within = within 2048 (known (N .pi) ⊟ known (angle-between long L)) tt
 
-  pub ecl-turned-far : size (turns .pi ⊖ long .0) ≼ farthestAlone
-  ecl-turned-far = near-far (turns .pi ⊖ long .0) turned-within
+  pub ecl-turned-far : size (turns .pi .0 ⊖ long .0) ≼ farthestAlone
+  ecl-turned-far = near-far (turns .pi .0 ⊖ long .0) turned-within
 
   ecl-turned-outcome : Outcome IsPlace Seven (eclTurnedIn long lat turns)
   unfolding eclTurnedIn eclPlaced takenFrom isFinite le neg add sub mul ofBits round
   ecl-turned-outcome =
-      let p : Rad = record { 0 = turns .pi ⊖ long .0 } in
+      let p = rad (turns .pi .0 ⊖ long .0) in
       let sp = known (near-sine p turned-within) in
       let cp = known (near-cosine p turned-within) in
       let sb = known (latitude-sine lat B) in
@@ -94,9 +96,9 @@ module _ (long lat : Rad) (turns : EclTurns) (L : angleRefusal long ≡ 0) (B : 
       let y = turns .cosine ⊗ cosineOf lat ⊗ sineOf p ⊖ turns .sine ⊗ sineOf lat in
       let x = cosineOf lat ⊗ cosineOf p in
       let s = turns .cosine ⊗ sineOf lat ⊕ turns .sine ⊗ cosineOf lat ⊗ sineOf p in
-      let z = turns .rho ⊕ turns .pi in
-      outcome-both {P = Within 64} (takenFrom z (arctangentIn y x)) (arcsineIn s)
-      (outcome-with (λ (v : Float). z ⊖ v) (λ v i. within 64 ((known (N .rho) ⊞ known (N .pi)) ⊟ known i) tt) (arctangentIn y x)
+      let z = rad (turns .rho .0 ⊕ turns .pi .0) in
+      outcome-both (Within 64) (Between (neg HALF) HALF) (takenFrom z (arctangentIn y x)) (arcsineIn s)
+      (outcome-with (λ (v : Rad). rad (z .0 ⊖ v .0)) (λ v i. within 64 ((known (N .rho) ⊞ known (N .pi)) ⊟ known i) tt) (arctangentIn y x)
       (arctangent-outcome y x (within 4 (known (N .cosine) ⊠ cb ⊠ sp ⊟ known (N .sine) ⊠ sb) tt .finite) (within 2 (cb ⊠ cp) tt .finite)))
       (arcsine-outcome refl s (within 4 (known (N .cosine) ⊠ sb ⊞ known (N .sine) ⊠ cb ⊠ sp) tt .finite))
 
@@ -116,5 +118,6 @@ module _ (long lat : Rad) (day1 day2 : Float) where
       let i = precess-ecl-coords-answers p e in
       (i .0 .finite, i .1 .finite)
 
-  pub precess-ecl-coords-refuses : placeRefusal long lat day1 day2 ≡ 0 → (n : ℕ) → precessEclCoordsRule long lat day1 day2 ≡ refused n → n ≡ 7
+  pub precess-ecl-coords-refuses : placeRefusal long lat day1 day2 ≡ 0 → (n : ℕ)
+      → precessEclCoordsRule long lat day1 day2 ≡ refused n → n ≡ 7
   precess-ecl-coords-refuses = rule-refuses (placeRefusal long lat day1 day2) (eclTurnedIn long lat (eclTurnsOf day1 day2)) ecl-outcome

@@ -5,11 +5,12 @@ use mathlib.Core.Path.{_≡_, refl}
 use lib.Ieee.{Float, neg, add, sub, mul, div, le, ofBits, round}
 use Rattle.double.specs.rules.Operations.{_⊕_, _⊖_, _⊗_}
 use Rattle.double.specs.rules.Sign.{size, isFinite}
-use Rattle.double.specs.rules.Order.{_≼_}
+use Rattle.double.specs.rules.Order.{Between, _≼_}
 use Rattle.double.specs.notions.Range.{Expr, known, con, _⊞_, _⊟_, _⊠_}
 use Rattle.quantity.specs.declared.Rad.{Rad}
 use Rattle.quantity.specs.rules.Answer.{answered, refused, Pair, plus}
 use Rattle.quantity.specs.rules.Refusal.{angleRefusal, latitudeRefusal}
+use Rattle.quantity.specs.rules.Angle.{HALF, rad}
 use Rattle.elementary.specs.rules.Direction.{directionOf}
 use Rattle.elementary.specs.rules.Sine.{sineOf, cosineOf, farthestAlone}
 use Rattle.elementary_arc.specs.rules.Arctangent.{arctangentIn}
@@ -21,13 +22,13 @@ use Rattle.precess.specs.rules.Numbers.{n2306·2181, n1·39656, n0·000139, n0�
 use Rattle.precess.specs.rules.Days.{spanOf, daysRefusal, placeRefusal}
 use Rattle.precess.specs.rules.Equatorial.{eqXi, eqZeta, eqTheta, turnsOf, eqTurnsOf, placed, turnedIn, precessEqCoordsRule}
 use Rattle.precess.specs.rules.Fk4.{fk4Century, fk4Span, fk4Xi, fk4Zeta, fk4Theta, degreesAsRadians, fk4TurnsOf, precessEqCoordsFK5Rule}
-use Rattle.conditions.specs.laws.Accepted.{angle-between, latitude-sine, latitude-cosine}
-use Rattle.conditions.specs.notions.Outcome.{Outcome, Seven}
-use Rattle.conditions.specs.notions.Within.{Within, IsPlace, BothFinite}
+use Rattle.domain_accepted.specs.laws.Accepted.{angle-between, latitude-sine, latitude-cosine}
+use Rattle.domain_accepted.specs.notions.Outcome.{Outcome, Seven}
+use Rattle.domain_accepted.specs.notions.Within.{Within, IsPlace, BothFinite}
 use Rattle.domain.specs.notions.Turns.{EqTurnsNear}
-use Rattle.conditions.specs.laws.Outcome.{outcome-with, outcome-both, rule-answers, rule-refuses}
-use Rattle.conditions.specs.laws.Elementary.{arctangent-outcome, arcsine-outcome}
-use Rattle.conditions.specs.laws.Near.{within, near-far, near-sine, near-cosine}
+use Rattle.domain_accepted.specs.laws.Outcome.{outcome-with, outcome-both, rule-answers, rule-refuses}
+use Rattle.domain_accepted.specs.laws.Elementary.{arctangent-outcome, arcsine-outcome}
+use Rattle.domain_accepted.specs.laws.Near.{within, near-far, near-sine, near-cosine}
 use Rattle.domain.specs.laws.Days.{century-within, span-within, fk4-century-within, fk4-span-within, first-accepted, place-accepted}
 
 -- ---- the angles that two days fix
@@ -73,7 +74,8 @@ module _ (c t : Float) (C : Within 41 c) (S : Within 41 t) where
       within 2048
       (known S ⊠ (con (arc n2004·682) ⊟ known C ⊠ con (arc n0·853) ⊟ known S ⊠ (con (arc n0·426) ⊞ known S ⊠ con (arc n0·042)))) tt
 
-turns-near : (xi zeta theta : Rad) → Within 1024 (xi .0) → Within 32 (zeta .0) → Within 2048 (theta .0) → EqTurnsNear (turnsOf xi zeta theta)
+turns-near : (xi zeta theta : Rad) → Within 1024 (xi .0) → Within 32 (zeta .0) → Within 2048 (theta .0)
+    → EqTurnsNear (turnsOf xi zeta theta)
 unfolding turnsOf
 turns-near xi zeta theta X Z T = record { xi = X; zeta = Z; sine = near-sine theta T; cosine = near-cosine theta T }
 
@@ -95,7 +97,8 @@ module _ (day1 day2 : Float) (none : daysRefusal day1 day2 ≡ 0) where
   eq-turns-near =
       let c = centuryOf day1 in
       let t = spanOf day1 day2 in
-      turns-near (radiansOf (eqXi c t)) (radiansOf (eqZeta c t)) (radiansOf (eqTheta c t)) (xi-within c t century span) (zeta-within c t century span) (theta-within c t century span)
+      turns-near (radiansOf (eqXi c t)) (radiansOf (eqZeta c t)) (radiansOf (eqTheta c t)) (xi-within c t century span)
+      (zeta-within c t century span) (theta-within c t century span)
 
   pub fk4-turns-near : EqTurnsNear (fk4TurnsOf day1 day2)
   unfolding fk4TurnsOf degreesAsRadians isFinite le neg round
@@ -108,26 +111,30 @@ module _ (day1 day2 : Float) (none : daysRefusal day1 day2 ≡ 0) where
 
   -- the third angle goes into a sine
   pub theta-far : size (radiansOf (eqTheta (centuryOf day1) (spanOf day1 day2)) .0) ≼ farthestAlone
-  theta-far = near-far (radiansOf (eqTheta (centuryOf day1) (spanOf day1 day2)) .0) (theta-within (centuryOf day1) (spanOf day1 day2) century span)
+  theta-far =
+      near-far (radiansOf (eqTheta (centuryOf day1) (spanOf day1 day2)) .0)
+      (theta-within (centuryOf day1) (spanOf day1 day2) century span)
 
   pub fk4-theta-far : size (fk4Theta (fk4Century day1) (fk4Span day1 day2) .0) ≼ farthestAlone
-  fk4-theta-far = near-far (fk4Theta (fk4Century day1) (fk4Span day1 day2) .0) (fk4-theta-within (fk4Century day1) (fk4Span day1 day2) fk4-century fk4-span)
+  fk4-theta-far =
+      near-far (fk4Theta (fk4Century day1) (fk4Span day1 day2) .0)
+      (fk4-theta-within (fk4Century day1) (fk4Span day1 day2) fk4-century fk4-span)
 
 -- ---- a place after the turns
 
 module _ (asc dec : Rad) (turns : EqTurns) (A : angleRefusal asc ≡ 0) (D : latitudeRefusal dec ≡ 0) (N : EqTurnsNear turns) where
   -- the right ascension with xi added goes into a sine
-  turned-within : Within 2048 (asc .0 ⊕ turns .xi)
+  turned-within : Within 2048 (asc .0 ⊕ turns .xi .0)
   unfolding isFinite le neg add ofBits round
   turned-within = within 2048 (known (angle-between asc A) ⊞ known (N .xi)) tt
 
-  pub turned-far : size (asc .0 ⊕ turns .xi) ≼ farthestAlone
-  turned-far = near-far (asc .0 ⊕ turns .xi) turned-within
+  pub turned-far : size (asc .0 ⊕ turns .xi .0) ≼ farthestAlone
+  turned-far = near-far (asc .0 ⊕ turns .xi .0) turned-within
 
   pub turned-outcome : Outcome IsPlace Seven (turnedIn asc dec turns)
   unfolding turnedIn directionOf placed plus isFinite le neg add sub mul ofBits round
   turned-outcome =
-      let a : Rad = record { 0 = asc .0 ⊕ turns .xi } in
+      let a = rad (asc .0 ⊕ turns .xi .0) in
       let sa = known (near-sine a turned-within) in
       let ca = known (near-cosine a turned-within) in
       let sd = known (latitude-sine dec D) in
@@ -135,8 +142,8 @@ module _ (asc dec : Rad) (turns : EqTurns) (A : angleRefusal asc ≡ 0) (D : lat
       let y = cosineOf dec ⊗ sineOf a in
       let x = turns .cosine ⊗ cosineOf dec ⊗ cosineOf a ⊖ turns .sine ⊗ sineOf dec in
       let s = turns .sine ⊗ cosineOf dec ⊗ cosineOf a ⊕ turns .cosine ⊗ sineOf dec in
-      outcome-both {P = Within 64} (plus (arctangentIn y x) (turns .zeta)) (arcsineIn s)
-      (outcome-with (λ (v : Float). v ⊕ turns .zeta) (λ v i. within 64 (known i ⊞ known (N .zeta)) tt) (arctangentIn y x)
+      outcome-both (Within 64) (Between (neg HALF) HALF) (plus (arctangentIn y x) (turns .zeta)) (arcsineIn s)
+      (outcome-with (λ (v : Rad). rad (v .0 ⊕ turns .zeta .0)) (λ v i. within 64 (known i ⊞ known (N .zeta)) tt) (arctangentIn y x)
       (arctangent-outcome y x (within 2 (cd ⊠ sa) tt .finite) (within 4 (known (N .cosine) ⊠ cd ⊠ ca ⊟ known (N .sine) ⊠ sd) tt .finite)))
       (arcsine-outcome refl s (within 4 (known (N .sine) ⊠ cd ⊠ ca ⊞ known (N .cosine) ⊠ sd) tt .finite))
 
@@ -172,5 +179,6 @@ module _ (asc dec : Rad) (day1 day2 : Float) where
       let i = precess-eq-coords-fk5-answers p e in
       (i .0 .finite, i .1 .finite)
 
-  pub precess-eq-coords-fk5-refuses : placeRefusal asc dec day1 day2 ≡ 0 → (n : ℕ) → precessEqCoordsFK5Rule asc dec day1 day2 ≡ refused n → n ≡ 7
+  pub precess-eq-coords-fk5-refuses : placeRefusal asc dec day1 day2 ≡ 0 → (n : ℕ)
+      → precessEqCoordsFK5Rule asc dec day1 day2 ≡ refused n → n ≡ 7
   precess-eq-coords-fk5-refuses = rule-refuses (placeRefusal asc dec day1 day2) (turnedIn asc dec (fk4TurnsOf day1 day2)) fk4-outcome

@@ -11,9 +11,9 @@ use Rattle.elementary.specs.laws.Accepted.{number-accepted}
 use Rattle.helpers.specs.rules.Angle.{turnInDegrees, turnInRadians, within360, withinTwoPI, limitTo360Rule, limitToTwoPIRule}
 use Rattle.helpers.specs.rules.Time.{centuryOf, julianCentRule}
 use Rattle.helpers.specs.laws.Limit.{limited-degrees, limited-radians}
-use Rattle.conditions.specs.notions.Outcome.{Never}
-use Rattle.conditions.specs.notions.Within.{Within}
-use Rattle.conditions.specs.laws.Outcome.{outcome-answered, rule-answers}
+use Rattle.domain_accepted.specs.notions.Outcome.{Never}
+use Rattle.domain_accepted.specs.notions.Within.{Within}
+use Rattle.domain_accepted.specs.laws.Outcome.{outcome-answered, rule-answers}
 use Rattle.domain.specs.laws.Days.{century-within}
 
 pub julian-cent-answers : (day v : Float) → julianCentRule day ≡ answered v → Within 20 v

@@ -11,9 +11,10 @@ use Rattle.double.specs.laws.Sign.{finite-size}
 use Rattle.double.specs.laws.Order.{not-lt-of-le}
 use Rattle.double.specs.laws.Between.{between→size}
 use Rattle.double.specs.laws.Interval.{bounded}
-use Rattle.quantity.specs.rules.Angle.{HALF}
+use Rattle.quantity.specs.rules.Angle.{deg, HALF}
 use Rattle.quantity.specs.rules.Answer.{answered, refused}
 use Rattle.quantity.specs.rules.Refusal.{distanceRefusal}
+use Rattle.quantity.specs.declared.Rad.{Rad}
 use Rattle.elementary.specs.rules.Fold.{fold}
 use Rattle.elementary.specs.rules.Sine.{foldedSine, farthestAlone}
 use Rattle.elementary.specs.laws.Accepted.{distance-accepted}
@@ -21,12 +22,13 @@ use Rattle.elementary_arc.specs.laws.Arcsine.{arcsine-refuses-seven}
 use Rattle.helpers.specs.rules.Angle.{arc, radiansOf}
 use Rattle.parallax.specs.rules.Numbers.{n8·794}
 use Rattle.parallax.specs.rules.Horizontal.{sunParallax, eqHzParallaxIn, eqHzParallaxRule}
-use Rattle.conditions.specs.notions.Outcome.{Outcome, Never}
-use Rattle.conditions.specs.laws.Outcome.{rule-answers, rule-refuses}
-use Rattle.conditions.specs.laws.Elementary.{arcsine-outcome}
+use Rattle.domain_accepted.specs.notions.Outcome.{Outcome, Never}
+use Rattle.domain_accepted.specs.laws.Outcome.{rule-answers, rule-refuses}
+use Rattle.domain_accepted.specs.laws.Elementary.{arcsine-outcome}
+use Rattle.domain_accepted.specs.notions.Within.{Angle}
 
 -- 8.794 seconds go into a sine
-pub sun-parallax-far : size (radiansOf (record { 0 = arc n8·794 }) .0) ≼ farthestAlone
+pub sun-parallax-far : size (radiansOf (deg (arc n8·794)) .0) ≼ farthestAlone
 unfolding size le mul div ofBits
 sun-parallax-far = tt
 
@@ -36,7 +38,7 @@ module _ (dist : Float) where
   unfolding sunParallax fold foldedSine bearsMinus size isFinite le lt neg add sub mul div ofBits ofInt toUnsigned
   ratio-between none = bounded binary64 (neg one) one (con sunParallax ⧄ known (distance-accepted dist none)) tt
 
-  outcome : distanceRefusal dist ≡ 0 → Outcome (Between (neg HALF) HALF) Never (eqHzParallaxIn dist)
+  outcome : distanceRefusal dist ≡ 0 → Outcome (Angle (Between (neg HALF) HALF)) Never (eqHzParallaxIn dist)
   unfolding eqHzParallaxIn
   outcome none =
       let s = sunParallax ⊘ dist in
@@ -47,10 +49,10 @@ module _ (dist : Float) where
         refuses = λ n e. T-not (lt one (size s)) (not-lt-of-le (size s) one (rw (finite-size s) (i .finite)) (unfold isFinite ofBits in tt) small) (arcsine-refuses-seven s (i .finite) n e .1);
       }
 
-  pub eq-hz-parallax-answers : (v : Float) → eqHzParallaxRule dist ≡ answered v → Between (neg HALF) HALF v
+  pub eq-hz-parallax-answers : (v : Rad) → eqHzParallaxRule dist ≡ answered v → Between (neg HALF) HALF (v .0)
   eq-hz-parallax-answers = rule-answers (distanceRefusal dist) (eqHzParallaxIn dist) outcome
 
-  pub eq-hz-parallax-finite : (v : Float) → eqHzParallaxRule dist ≡ answered v → Finite v
+  pub eq-hz-parallax-finite : (v : Rad) → eqHzParallaxRule dist ≡ answered v → Finite (v .0)
   eq-hz-parallax-finite v e = eq-hz-parallax-answers v e .finite
 
   pub eq-hz-parallax-refuses : distanceRefusal dist ≡ 0 → (n : ℕ) → eqHzParallaxRule dist ≡ refused n → ⊥

@@ -8,24 +8,25 @@ use Rattle.quantity.specs.declared.Rad.{Rad}
 use Rattle.quantity.specs.declared.EqPoint.{EqPoint}
 use Rattle.quantity.specs.rules.Answer.{answered, refused, Pair, pair}
 use Rattle.quantity.specs.rules.Refusal.{lower, angleRefusal, steepRefusal}
+use Rattle.quantity.specs.rules.Angle.{rad}
 use Rattle.elementary.specs.rules.Direction.{directionOf}
 use Rattle.elementary.specs.laws.Accepted.{lower-none}
 use Rattle.nutation.specs.rules.Point.{nutationAt, nutationInRefusal, nutationInEqCoordsIn, nutationInEqCoordsRule}
-use Rattle.conditions.specs.laws.Accepted.{none-of-three, angle-between, angle-sine, angle-cosine, steep-tangent}
-use Rattle.conditions.specs.notions.Outcome.{Outcome, Never}
-use Rattle.conditions.specs.notions.Within.{BothFinite, BothWithin}
-use Rattle.conditions.specs.laws.Outcome.{outcome-answered, rule-answers, rule-refuses}
-use Rattle.conditions.specs.laws.Near.{within}
+use Rattle.domain_accepted.specs.laws.Accepted.{none-of-three, angle-between, angle-sine, angle-cosine, steep-tangent}
+use Rattle.domain_accepted.specs.notions.Outcome.{Outcome, Never}
+use Rattle.domain_accepted.specs.notions.Within.{BothFinite, BothWithin}
+use Rattle.domain_accepted.specs.laws.Outcome.{outcome-answered, rule-answers, rule-refuses}
+use Rattle.domain_accepted.specs.laws.Near.{within}
 
 module _ (p : EqPoint) (long oblq tru : Rad) where
   abbrev shifted : Pair
-  shifted = pair (nutationInEqCoordsIn p long oblq tru .asc) (nutationInEqCoordsIn p long oblq tru .dec)
+  shifted = pair (nutationInEqCoordsIn p long oblq tru .asc .0) (nutationInEqCoordsIn p long oblq tru .dec .0)
 
   outcome : nutationInRefusal p long oblq tru ≡ 0 → Outcome (BothWithin 4194304) Never (answered shifted)
   unfolding nutationInEqCoordsIn nutationAt directionOf isFinite le neg add sub mul ofBits round
   outcome e =
-      let asc : Rad = record { 0 = p .asc } in
-      let dec : Rad = record { 0 = p .dec } in
+      let asc = rad (p .asc) in
+      let dec = rad (p .dec) in
       let n = lower-none (lower (angleRefusal asc) (steepRefusal dec)) (lower (angleRefusal long) (lower (angleRefusal oblq) (angleRefusal tru))) e in
       let m = lower-none (angleRefusal asc) (steepRefusal dec) (n .0) in
       let k = none-of-three (angleRefusal long) (angleRefusal oblq) (angleRefusal tru) (n .1) in
@@ -48,6 +49,7 @@ module _ (p : EqPoint) (long oblq tru : Rad) where
       let i = nutation-in-eq-coords-answers v e in
       (i .0 .finite, i .1 .finite)
 
-  pub nutation-in-eq-coords-refuses : nutationInRefusal p long oblq tru ≡ 0 → (n : ℕ) → nutationInEqCoordsRule p long oblq tru ≡ refused n → ⊥
+  pub nutation-in-eq-coords-refuses : nutationInRefusal p long oblq tru ≡ 0 → (n : ℕ)
+      → nutationInEqCoordsRule p long oblq tru ≡ refused n → ⊥
   unfolding nutationInEqCoordsRule
   nutation-in-eq-coords-refuses = rule-refuses (nutationInRefusal p long oblq tru) (answered shifted) outcome

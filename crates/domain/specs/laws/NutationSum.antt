@@ -18,18 +18,18 @@ use Rattle.quantity.specs.rules.Refusal.{dayRefusal}
 use Rattle.elementary.specs.rules.Sine.{sineOf, cosineOf, farthestAlone}
 use Rattle.helpers.specs.rules.Angle.{degree}
 use Rattle.helpers.specs.rules.Time.{centuryOf}
-use Rattle.nutation_rows.specs.declared.Nutations.{Nutations}
-use Rattle.nutation_rows.specs.rules.Numbers.{n10}
-use Rattle.nutation_rows.specs.rules.Arguments.{moonOf}
+use Rattle.nutation_args.specs.declared.Sums.{Sums}
+use Rattle.nutation_args.specs.rules.Numbers.{n10}
+use Rattle.nutation_args.specs.rules.Arguments.{moonOf}
 use Rattle.nutation_table.specs.rules.Rows.{rows}
-use Rattle.nutation_rows.specs.rules.Sum.{whole, argumentOf, unit, share, withRow, summed, none, converted}
+use Rattle.nutation_args.specs.rules.Sum.{whole, argumentOf, unit, share, withRow, summed, none, converted}
 use Rattle.nutation_table.specs.rules.Day.{nutationOf}
 use Rattle.nutation.specs.rules.Day.{nutationRule}
-use Rattle.conditions.specs.notions.Outcome.{Outcome, Never}
-use Rattle.conditions.specs.notions.Within.{Within, BothFinite, BothWithin}
+use Rattle.domain_accepted.specs.notions.Outcome.{Outcome, Never}
+use Rattle.domain_accepted.specs.notions.Within.{Within, BothFinite, BothWithin}
 use Rattle.domain.specs.notions.Nutation.{Moon, Row, EachRow, MoonNear, argumentRange, argumentsNear, shareRange, longRange, oblqRange}
-use Rattle.conditions.specs.laws.Outcome.{outcome-answered, rule-answers, rule-refuses}
-use Rattle.conditions.specs.laws.Near.{within, near-far, near-sine, near-cosine}
+use Rattle.domain_accepted.specs.laws.Outcome.{outcome-answered, rule-answers, rule-refuses}
+use Rattle.domain_accepted.specs.laws.Near.{within, near-far, near-sine, near-cosine}
 use Rattle.domain.specs.laws.Days.{century-within}
 use Rattle.domain.specs.laws.NutationArguments.{moon-near}
 
@@ -46,14 +46,15 @@ module _ (a : Moon) (A : MoonNear a) where
   shareExpr c d W = (con c ⊞ known (A .t) ⊠ con d ⧄ con n10) ⊠ known W ⊠ con unit
 
   -- a sum in r, with a share added
-  added : (r : Range) (s c d v : Float) → In r s → Between (neg one) one v → In (addRange binary64 r (shareRange c d)) (s ⊕ share c d v (a .t))
+  added : (r : Range) (s c d v : Float) → In r s → Between (neg one) one v
+      → In (addRange binary64 r (shareRange c d)) (s ⊕ share c d v (a .t) .0)
   added unknown s c d v i W = tt
   added (lo to hi) s c d v i W = sound binary64 (known i ⊞ shareExpr c d W)
 
   -- ---- all rows
 
-  summed-in : (xs : List Row) (s : Nutations) (r q : Range) → T (argumentsNear xs) → In r (s .long) → In q (s .oblq)
-      → In (longRange xs r) (summed xs a s .long) × In (oblqRange xs q) (summed xs a s .oblq)
+  summed-in : (xs : List Row) (s : Sums) (r q : Range) → T (argumentsNear xs) → In r (s .long .0) → In q (s .oblq .0)
+      → In (longRange xs r) (summed xs a s .long .0) × In (oblqRange xs q) (summed xs a s .oblq .0)
   unfolding summed withRow
   summed-in [] s r q t i j = (i, j)
   summed-in (x ∷ xs) s r q t i j =
@@ -62,21 +63,23 @@ module _ (a : Moon) (A : MoonNear a) where
       let L = shareRange (whole (x .5)) (whole (x .6)) in
       let O = shareRange (whole (x .7)) (whole (x .8)) in
       summed-in xs (withRow x a s) (addRange binary64 r L) (addRange binary64 q O) (and-r here (argumentsNear xs) t)
-      (added r (s .long) (whole (x .5)) (whole (x .6)) (sineOf (argumentOf x a)) i (near-sine (argumentOf x a) N))
-      (added q (s .oblq) (whole (x .7)) (whole (x .8)) (cosineOf (argumentOf x a)) j (near-cosine (argumentOf x a) N))
+      (added r (s .long .0) (whole (x .5)) (whole (x .6)) (sineOf (argumentOf x a)) i (near-sine (argumentOf x a) N))
+      (added q (s .oblq .0) (whole (x .7)) (whole (x .8)) (cosineOf (argumentOf x a)) j (near-cosine (argumentOf x a) N))
 
 in-inside : (a b : Float) (r : Range) (z : Float) → T (inside a b r) → In r z → Between a b z
 in-inside a b unknown z t i = absurd t
 in-inside a b (c to d) z t i = bounded binary64 a b (known i) t
 
-summed-between : (a : Moon) → MoonNear a → (xs : List Row) (s : Nutations) (r : Range) → T (argumentsNear xs) → In r (s .long) → In r (s .oblq)
+summed-between : (a : Moon) → MoonNear a → (xs : List Row) (s : Sums) (r : Range) → T (argumentsNear xs)
+    → In r (s .long .0) → In r (s .oblq .0)
     → (lo hi : Float) → T (inside lo hi (longRange xs r)) → T (inside lo hi (oblqRange xs r))
-    → Between lo hi (summed xs a s .long) × Between lo hi (summed xs a s .oblq)
+    → Between lo hi (summed xs a s .long .0) × Between lo hi (summed xs a s .oblq .0)
 summed-between a A xs s r t i j lo hi u w =
     let k = summed-in a A xs s r r t i j in
-    (in-inside lo hi (longRange xs r) (summed xs a s .long) u (k .0), in-inside lo hi (oblqRange xs r) (summed xs a s .oblq) w (k .1))
+    (in-inside lo hi (longRange xs r) (summed xs a s .long .0) u (k .0), in-inside lo hi (oblqRange xs r) (summed xs a s .oblq .0) w (k .1))
 
-arguments-far : (a : Moon) → MoonNear a → (xs : List Row) → T (argumentsNear xs) → EachRow (λ (x : Row). size (argumentOf x a .0) ≼ farthestAlone) xs
+arguments-far : (a : Moon) → MoonNear a → (xs : List Row) → T (argumentsNear xs)
+    → EachRow (λ (x : Row). size (argumentOf x a .0) ≼ farthestAlone) xs
 arguments-far a A [] t = tt
 arguments-far a A (x ∷ xs) t =
     let here = inside (neg (over 2048 1)) (over 2048 1) (argumentRange x) in
@@ -109,20 +112,22 @@ module _ (day : Float) (accepted : dayRefusal day ≡ 0) where
   pub row-arguments-far : EachRow (λ (x : Row). size (argumentOf x moon .0) ≼ farthestAlone) rows
   row-arguments-far = arguments-far moon near rows rows-near
 
-  pub sums-between : Between (neg one) one (summed rows moon none .long) × Between (neg one) one (summed rows moon none .oblq)
+  pub sums-between : Between (neg one) one (summed rows moon none .long .0) × Between (neg one) one (summed rows moon none .oblq .0)
   sums-between =
       let z : Between zero zero zero = between-itself {c = zero} (unfold isFinite ofBits in tt) in
       summed-between moon near rows none (zero to zero) rows-near z z (neg one) one long-degree oblq-degree
 
-  nutation-outcome : Outcome (BothWithin 1) Never (answered (pair (nutationOf day .long) (nutationOf day .oblq)))
+  nutation-outcome : Outcome (BothWithin 1) Never (answered (pair (nutationOf day .long .0) (nutationOf day .oblq .0)))
   unfolding nutationOf converted isFinite le neg mul ofBits round
   nutation-outcome =
-      outcome-answered (pair (nutationOf day .long) (nutationOf day .oblq))
+      outcome-answered (pair (nutationOf day .long .0) (nutationOf day .oblq .0))
       (within 1 (known (sums-between .0) ⊠ con degree) tt, within 1 (known (sums-between .1) ⊠ con degree) tt)
 
 pub nutation-answers : (day : Float) (v : Pair) → nutationRule day ≡ answered v → BothWithin 1 v
 unfolding nutationRule
-nutation-answers day = rule-answers (dayRefusal day) (answered (pair (nutationOf day .long) (nutationOf day .oblq))) (nutation-outcome day)
+nutation-answers day =
+    rule-answers (dayRefusal day) (answered (pair (nutationOf day .long .0) (nutationOf day .oblq .0)))
+    (nutation-outcome day)
 
 pub nutation-finite : (day : Float) (v : Pair) → nutationRule day ≡ answered v → BothFinite v
 nutation-finite day v e =
@@ -131,4 +136,6 @@ nutation-finite day v e =
 
 pub nutation-refuses : (day : Float) → dayRefusal day ≡ 0 → (n : ℕ) → nutationRule day ≡ refused n → ⊥
 unfolding nutationRule
-nutation-refuses day = rule-refuses (dayRefusal day) (answered (pair (nutationOf day .long) (nutationOf day .oblq))) (nutation-outcome day)
+nutation-refuses day =
+    rule-refuses (dayRefusal day) (answered (pair (nutationOf day .long .0) (nutationOf day .oblq .0)))
+    (nutation-outcome day)

@@ -7,21 +7,23 @@ use Rattle.double.specs.notions.Range.{known}
 use Rattle.quantity.specs.declared.Rad.{Rad}
 use Rattle.quantity.specs.declared.GeographPoint.{GeographPoint}
 use Rattle.quantity.specs.rules.Refusal.{lower, angleRefusal, steepRefusal, heightRefusal}
+use Rattle.quantity.specs.rules.Angle.{rad}
 use Rattle.elementary_arc.specs.rules.Arctangent.{arctangentIn}
 use Rattle.elementary.specs.laws.Accepted.{lower-none}
 use Rattle.parallax.specs.rules.Observer.{observerRefusal}
-use Rattle.conditions.specs.notions.Outcome.{Outcome}
-use Rattle.conditions.specs.notions.Within.{Within}
-use Rattle.conditions.specs.laws.Outcome.{outcome-wider}
-use Rattle.conditions.specs.laws.Elementary.{arctangent-outcome}
-use Rattle.conditions.specs.laws.Near.{within}
+use Rattle.domain_accepted.specs.notions.Outcome.{Outcome}
+use Rattle.domain_accepted.specs.notions.Within.{Angle, Within}
+use Rattle.domain_accepted.specs.laws.Outcome.{outcome-wider}
+use Rattle.domain_accepted.specs.laws.Elementary.{arctangent-outcome}
+use Rattle.domain_accepted.specs.laws.Near.{within}
 
-pub observer-accepted : (parallax : Rad) (place : GeographPoint) (height : Float) (sidereal : Rad) → observerRefusal parallax place height sidereal ≡ 0
-    → (angleRefusal parallax ≡ 0) × (angleRefusal sidereal ≡ 0) × (angleRefusal (record { 0 = place .long }) ≡ 0) × (steepRefusal (record { 0 = place .lat }) ≡ 0) × (heightRefusal height ≡ 0)
+pub observer-accepted : (parallax : Rad) (place : GeographPoint) (height : Float) (sidereal : Rad)
+    → observerRefusal parallax place height sidereal ≡ 0
+    → (angleRefusal parallax ≡ 0) × (angleRefusal sidereal ≡ 0) × (angleRefusal (rad (place .long)) ≡ 0) × (steepRefusal (rad (place .lat)) ≡ 0) × (heightRefusal height ≡ 0)
 unfolding observerRefusal
 observer-accepted parallax place height sidereal e =
-    let long : Rad = record { 0 = place .long } in
-    let lat : Rad = record { 0 = place .lat } in
+    let long = rad (place .long) in
+    let lat = rad (place .lat) in
     let n = lower-none (lower (angleRefusal parallax) (angleRefusal sidereal)) (lower (lower (angleRefusal long) (steepRefusal lat)) (heightRefusal height)) e in
     let a = lower-none (angleRefusal parallax) (angleRefusal sidereal) (n .0) in
     let b = lower-none (lower (angleRefusal long) (steepRefusal lat)) (heightRefusal height) (n .1) in
@@ -29,6 +31,6 @@ observer-accepted parallax place height sidereal e =
     (a .0, a .1, c .0, c .1, b .1)
 
 -- the answer of an arctangent goes into a sine
-pub arctangent-near : {Q : ℕ → Type 0} (y x : Float) → Within 1024 y → Within 1024 x → Outcome (Within 2048) Q (arctangentIn y x)
+pub arctangent-near : {Q : ℕ → Type 0} (y x : Float) → Within 1024 y → Within 1024 x → Outcome (Angle (Within 2048)) Q (arctangentIn y x)
 unfolding isFinite le neg ofBits round
 arctangent-near y x Y X = outcome-wider (λ v i. within 2048 (known i) tt) (arctangent-outcome y x (Y .finite) (X .finite))

@@ -10,7 +10,7 @@ use Rattle.double.specs.rules.Order.{_≼_, Finite}
 use Rattle.double.specs.notions.Range.{known, con, _⊞_, _⊟_, _⊠_}
 use Rattle.double.specs.laws.Between.{between-neg}
 use Rattle.quantity.specs.declared.Rad.{Rad}
-use Rattle.quantity.specs.rules.Angle.{PI}
+use Rattle.quantity.specs.rules.Angle.{rad, PI}
 use Rattle.quantity.specs.rules.Answer.{answered, refused, Pair, first, second, Triple, triple, then, addedTo}
 use Rattle.quantity.specs.rules.Refusal.{lower, angleRefusal}
 use Rattle.root.specs.rules.Root.{rootRule}
@@ -23,20 +23,20 @@ use Rattle.precess_ecl.specs.declared.EclTurns.{EclTurns}
 use Rattle.precess.specs.rules.Days.{daysRefusal}
 use Rattle.precess_ecl.specs.rules.Ecliptic.{eclTurnsOf}
 use Rattle.precess_ecl.specs.rules.Orbit.{leanedOf, newInclination, newNode, nodeAndPerihelion, orbitFrom, orbitIn, orbitRefusal, precessOrbElementsRule}
-use Rattle.conditions.specs.laws.Accepted.{none-of-three, angle-between, angle-sine, angle-cosine}
-use Rattle.conditions.specs.notions.Outcome.{Outcome, SixOrSeven}
-use Rattle.conditions.specs.notions.Within.{Within, AllFinite}
+use Rattle.domain_accepted.specs.laws.Accepted.{none-of-three, angle-between, angle-sine, angle-cosine}
+use Rattle.domain_accepted.specs.notions.Outcome.{Outcome, SixOrSeven}
+use Rattle.domain_accepted.specs.notions.Within.{Angle, Within, AllFinite}
 use Rattle.domain.specs.notions.Turns.{EclTurnsNear}
-use Rattle.conditions.specs.laws.Outcome.{outcome-answered, outcome-refused, outcome-cond, outcome-wider, outcome-with, outcome-then, outcome-both, rule-answers, rule-refuses}
-use Rattle.conditions.specs.laws.Elementary.{arctangent-outcome, arcsine-outcome, arcsine-number-outcome, quotient-not-nan, root-outcome}
-use Rattle.conditions.specs.laws.Near.{within, near-far, near-sine, near-cosine}
+use Rattle.domain_accepted.specs.laws.Outcome.{outcome-answered, outcome-refused, outcome-cond, outcome-wider, outcome-with, outcome-then, outcome-both, rule-answers, rule-refuses}
+use Rattle.domain_accepted.specs.laws.Elementary.{arctangent-outcome, arcsine-outcome, arcsine-number-outcome, quotient-not-nan, root-outcome}
+use Rattle.domain_accepted.specs.laws.Near.{within, near-far, near-sine, near-cosine}
 use Rattle.domain.specs.laws.Ecliptic.{ecl-turns-near}
 
 module _ (inc perih node : Rad) (turns : EclTurns) (I : angleRefusal inc ≡ 0) (P : angleRefusal perih ≡ 0) (O : angleRefusal node ≡ 0) (N : EclTurnsNear turns) where
   -- ---- the node less Pi
 
   abbrev fromPi : Rad
-  fromPi = record { 0 = node .0 ⊖ turns .pi }
+  fromPi = rad (node .0 ⊖ turns .pi .0)
 
   from-pi-within : Within 2048 (fromPi .0)
   unfolding isFinite le neg add sub ofBits round
@@ -65,7 +65,7 @@ module _ (inc perih node : Rad) (turns : EclTurns) (I : angleRefusal inc ≡ 0) 
 
   -- ---- the new inclination, which goes into a sine, and the new node
 
-  inclination-outcome : Outcome (Within 1024) SixOrSeven (newInclination inc (leanedOf (fold inc) (fold fromPi) turns) turns)
+  inclination-outcome : Outcome (Angle (Within 1024)) SixOrSeven (newInclination inc (leanedOf (fold inc) (fold fromPi) turns) turns)
   unfolding newInclination leanedOf isFinite le neg add mul ofBits round
   inclination-outcome =
       let a = known a-within in
@@ -73,49 +73,54 @@ module _ (inc perih node : Rad) (turns : EclTurns) (I : angleRefusal inc ≡ 0) 
       let x = A ⊗ A ⊕ B ⊗ B in
       outcome-cond (eq (inc .0) zero) (answered (turns .nu)) (then (rootRule x) arcsineIn) (outcome-answered (turns .nu) (N .nu))
       (λ t.
-      outcome-then {R = Within 1024} arcsineIn (λ r F. outcome-wider (λ v i. within 1024 (known i) tt) (arcsine-outcome (inr refl) r F)) (rootRule x)
+      outcome-then {R = Angle (Within 1024)} arcsineIn (λ r F. outcome-wider (λ v i. within 1024 (known i) tt) (arcsine-outcome (inr refl) r F)) (rootRule x)
       (root-outcome A B (a-within .finite) (b-within .finite) (within 4 (a ⊠ a) tt .finite) (within 4 (b ⊠ b) tt .finite) (within 8 (a ⊠ a ⊞ b ⊠ b) tt .finite)))
 
-  pub inclination-far : (i : Float) → newInclination inc (leanedOf (fold inc) (fold fromPi) turns) turns ≡ answered i → size i ≼ farthestAlone
+  pub inclination-far : (i : Rad) → newInclination inc (leanedOf (fold inc) (fold fromPi) turns) turns ≡ answered i
+      → size (i .0) ≼ farthestAlone
   unfolding isFinite le neg round
-  inclination-far i e = near-far i (within 2048 (known (inclination-outcome .answers i e)) tt)
+  inclination-far i e = near-far (i .0) (within 2048 (known (inclination-outcome .answers i e)) tt)
 
-  node-outcome : Outcome Finite SixOrSeven (newNode inc (leanedOf (fold inc) (fold fromPi) turns) turns)
+  node-outcome : Outcome (Angle Finite) SixOrSeven (newNode inc (leanedOf (fold inc) (fold fromPi) turns) turns)
   unfolding newNode leanedOf addedTo isFinite le neg add ofBits round
   node-outcome =
-      let phi = turns .pi ⊕ turns .rho in
+      let phi = turns .pi .0 ⊕ turns .rho .0 in
       let F = known (N .pi) ⊞ known (N .rho) in
       let v = arctangentIn A B in
-      outcome-cond (eq (inc .0) zero) (answered (phi ⊕ PI)) (addedTo phi v) (outcome-answered (phi ⊕ PI) (within 2048 (F ⊞ con PI) tt .finite))
+      outcome-cond (eq (inc .0) zero) (answered (rad (phi ⊕ PI))) (addedTo (rad phi) v)
+      (outcome-answered (rad (phi ⊕ PI)) (within 2048 (F ⊞ con PI) tt .finite))
       (λ t.
-      outcome-with (λ (x : Float). phi ⊕ x) (λ x i. within 2048 (F ⊞ known i) tt .finite) v
+      outcome-with (λ (x : Rad). rad (phi ⊕ x .0)) (λ x i. within 2048 (F ⊞ known i) tt .finite) v
       (arctangent-outcome A B (a-within .finite) (b-within .finite)))
 
   -- ---- the three elements, by the sine of the new inclination, where that is not zero
 
-  from-outcome : (i : Float) → Within 1024 i → Outcome AllFinite SixOrSeven (orbitFrom i (newNode inc (leanedOf (fold inc) (fold fromPi) turns) turns) perih (fold fromPi) turns)
+  from-outcome : (i : Rad) → Within 1024 (i .0)
+      → Outcome AllFinite SixOrSeven (orbitFrom i (newNode inc (leanedOf (fold inc) (fold fromPi) turns) turns) perih (fold fromPi) turns)
   unfolding orbitFrom nodeAndPerihelion addedTo isFinite le neg add mul ofBits round
   from-outcome i J =
-      let s = sineOf (record { 0 = i }) in
-      let S = near-sine (record { 0 = i }) (within 2048 (known J) tt) in
+      let s = sineOf i in
+      let S = near-sine i (within 2048 (known J) tt) in
       let top = neg (turns .sine) ⊗ sineOf fromPi in
       let T = within 2 (known (between-neg (N .sine)) ⊠ known (near-sine fromPi from-pi-within)) tt in
       let new = newNode inc (leanedOf (fold inc) (fold fromPi) turns) turns in
       outcome-cond (eq s zero) (refused 6)
-      (then (nodeAndPerihelion s new perih (fold fromPi) turns) (λ (p : Pair). answered (triple i (second p) (first p))))
+      (then (nodeAndPerihelion s new perih (fold fromPi) turns) (λ (p : Pair). answered (triple (i .0) (second p) (first p))))
       (outcome-refused 6 (inl refl))
       (λ not-zero.
-      outcome-then (λ (p : Pair). answered (triple i (second p) (first p)))
-      (λ p q. outcome-answered (triple i (second p) (first p)) (J .finite, q .1, q .0))
+      outcome-then (λ (p : Pair). answered (triple (i .0) (second p) (first p)))
+      (λ p q. outcome-answered (triple (i .0) (second p) (first p)) (J .finite, q .1, q .0))
       (nodeAndPerihelion s new perih (fold fromPi) turns)
-      (outcome-both {P = Finite} {R = Finite} new (addedTo (perih .0) (arcsineIn (top ⊘ s))) node-outcome
-      (outcome-with (λ (x : Float). perih .0 ⊕ x) (λ x j. within 2048 (known (angle-between perih P) ⊞ known j) tt .finite) (arcsineIn (top ⊘ s))
+      (outcome-both Finite Finite new (addedTo perih (arcsineIn (top ⊘ s))) node-outcome
+      (outcome-with (λ (x : Rad). rad (perih .0 ⊕ x .0)) (λ x j. within 2048 (known (angle-between perih P) ⊞ known j) tt .finite) (arcsineIn (top ⊘ s))
       (arcsine-number-outcome (inr refl) (top ⊘ s) (quotient-not-nan top s (T .finite) (S .finite) not-zero)))))
 
   orbit-outcome : Outcome AllFinite SixOrSeven (orbitIn inc perih node turns)
   unfolding orbitIn
   orbit-outcome =
-      outcome-then (λ (i : Float). orbitFrom i (newNode inc (leanedOf (fold inc) (fold fromPi) turns) turns) perih (fold fromPi) turns) from-outcome
+      outcome-then
+      (λ (i : Rad). orbitFrom i (newNode inc (leanedOf (fold inc) (fold fromPi) turns) turns) perih (fold fromPi) turns)
+      from-outcome
       (newInclination inc (leanedOf (fold inc) (fold fromPi) turns) turns) inclination-outcome
 
 -- ---- the function
@@ -131,6 +136,7 @@ module _ (inc perih node : Rad) (day1 day2 : Float) where
   precess-orb-elements-finite =
       rule-answers (orbitRefusal inc perih node day1 day2) (orbitIn inc perih node (eclTurnsOf day1 day2)) outcome
 
-  pub precess-orb-elements-refuses : orbitRefusal inc perih node day1 day2 ≡ 0 → (n : ℕ) → precessOrbElementsRule inc perih node day1 day2 ≡ refused n → SixOrSeven n
+  pub precess-orb-elements-refuses : orbitRefusal inc perih node day1 day2 ≡ 0 → (n : ℕ)
+      → precessOrbElementsRule inc perih node day1 day2 ≡ refused n → SixOrSeven n
   precess-orb-elements-refuses =
       rule-refuses (orbitRefusal inc perih node day1 day2) (orbitIn inc perih node (eclTurnsOf day1 day2)) outcome

@@ -1,41 +1,34 @@
 -- What the batch stores of a star: its status is 0, 4, 7 or 9 where the days are not refused, and both angles are finite. Assumes nothing.
 use Prim.Native.Nat.{ℕ}
 use mathlib.Core.Path.{_≡_, refl}
-use mathlib.Core.Logic.{_⊎_, inl, inr}
+use mathlib.Core.Logic.{inl, inr}
 use mathlib.Core.Bool.{Bool, true, false, cond}
-use lib.Ieee.{Float, ofBits}
-use Rattle.double.specs.rules.Operations.{zero}
-use Rattle.double.specs.rules.Sign.{isFinite}
+use lib.Ieee.{Float}
 use Rattle.double.specs.rules.Order.{Finite}
-use Rattle.quantity.specs.rules.Answer.{Answer, answered, refused, Pair}
+use Rattle.double.specs.laws.Between.{finite-zero}
+use Rattle.quantity.specs.rules.Answer.{Answer, answered, refused, Pair, statusOf}
 use Rattle.precess.specs.rules.Days.{daysRefusal}
 use Rattle.chain.specs.rules.Chain.{chainRule}
 use Rattle.list.specs.declared.Star.{Star}
 use Rattle.list.specs.rules.Record.{inRange}
-use Rattle.batch.specs.rules.Star.{ascOf, decOf, starRule, statusOf, firstOf, secondOf}
+use Rattle.batch.specs.rules.Star.{ascOf, decOf, starRule, firstOf, secondOf}
 use Rattle.batch.specs.laws.Star.{place-taken}
-use Rattle.conditions.specs.notions.Outcome.{FourOrSeven}
-use Rattle.conditions.specs.notions.Within.{BothFinite}
-use Rattle.conditions.specs.laws.Answers.{refused-not-answered}
+use Rattle.domain_accepted.specs.notions.Outcome.{FourOrSeven}
+use Rattle.domain_accepted.specs.notions.Within.{BothFinite}
+use Rattle.domain_accepted.specs.laws.Outcome.{refused-not-answered}
 use Rattle.domain.specs.laws.Chain.{chain-refuses, chain-finite}
-
--- the statuses of a star
-abbrev pub OfAStar : ℕ → Type 0
-OfAStar n = (n ≡ 0) ⊎ (n ≡ 4) ⊎ (n ≡ 7) ⊎ (n ≡ 9)
+use Rattle.domain.specs.notions.Star.{OfAStar}
 
 of-an-answer : (a : Answer Pair) → ((n : ℕ) → a ≡ refused n → FourOrSeven n) → OfAStar (statusOf a)
 of-an-answer (answered v) h = inl refl
 of-an-answer (refused n) h = elim (h n refl) [ inl e ↦ inr (inl e) | inr e ↦ inr (inr (inl e)) ]
 
-finite-zero : Finite zero
-unfolding isFinite ofBits
-finite-zero = tt
-
 finite-of-an-answer : (a : Answer Pair) → ((v : Pair) → a ≡ answered v → BothFinite v) → Finite (firstOf a) × Finite (secondOf a)
 finite-of-an-answer (answered v) h = h v refl
 finite-of-an-answer (refused n) h = (finite-zero, finite-zero)
 
-pub star-angles-finite : (star : Star) (day1 day2 : Float) → Finite (firstOf (starRule star day1 day2)) × Finite (secondOf (starRule star day1 day2))
+pub star-angles-finite : (star : Star) (day1 day2 : Float)
+    → Finite (firstOf (starRule star day1 day2)) × Finite (secondOf (starRule star day1 day2))
 unfolding starRule
 star-angles-finite star day1 day2 = finite-of-an-answer (starRule star day1 day2) (by-range (inRange star))
   where
@@ -48,6 +41,9 @@ module _ (star : Star) (day1 day2 : Float) (days : daysRefusal day1 day2 ≡ 0) 
   unfolding starRule
   star-status = by-range (inRange star) (λ e. e)
     where
-      by-range : (b : Bool) → (b ≡ true → inRange star ≡ true) → OfAStar (statusOf (cond b (chainRule (ascOf star) (decOf star) day1 day2) (refused 9)))
-      by-range true r = of-an-answer (chainRule (ascOf star) (decOf star) day1 day2) (chain-refuses (ascOf star) (decOf star) day1 day2 (place-taken star day1 day2 days (r refl)))
+      by-range : (b : Bool) → (b ≡ true → inRange star ≡ true)
+          → OfAStar (statusOf (cond b (chainRule (ascOf star) (decOf star) day1 day2) (refused 9)))
+      by-range true r =
+          of-an-answer (chainRule (ascOf star) (decOf star) day1 day2)
+          (chain-refuses (ascOf star) (decOf star) day1 day2 (place-taken star day1 day2 days (r refl)))
       by-range false r = inr (inr (inr refl))

@@ -7,10 +7,10 @@ use Rattle.double.specs.rules.Operations.{zero}
 use Rattle.double.specs.rules.Sign.{isFinite}
 use Rattle.double.specs.notions.Range.{known, con, _⊞_, _⊟_, _⊠_, _⧄_}
 use Rattle.double.specs.laws.Between.{between-neg}
-use Rattle.quantity.specs.declared.Rad.{Rad}
 use Rattle.quantity.specs.declared.EqPoint.{EqPoint}
 use Rattle.quantity.specs.rules.Answer.{answered, refused, Pair, pair}
 use Rattle.quantity.specs.rules.Refusal.{lower, dayRefusal, angleRefusal, steepRefusal}
+use Rattle.quantity.specs.rules.Angle.{rad}
 use Rattle.elementary.specs.rules.Direction.{directionOf}
 use Rattle.elementary.specs.laws.Accepted.{lower-none, steep-accepted}
 use Rattle.elementary.specs.laws.Sine.{sine-between, cosine-steep}
@@ -18,12 +18,12 @@ use Rattle.helpers.specs.rules.Time.{centuryOf}
 use Rattle.aberr_rows.specs.rules.Arguments.{argumentsOf}
 use Rattle.aberr_velocity.specs.rules.Velocity.{rows, summed, none, velocityOf}
 use Rattle.aberr.specs.rules.Star.{light, aberrAt, stellAberrRefusal, stellAberrInEqCoordsIn, stellAberrInEqCoordsRule}
-use Rattle.conditions.specs.laws.Accepted.{angle-sine, angle-cosine, steep-far}
-use Rattle.conditions.specs.notions.Outcome.{Outcome, Never}
-use Rattle.conditions.specs.notions.Within.{Within, BothFinite, BothWithin}
+use Rattle.domain_accepted.specs.laws.Accepted.{angle-sine, angle-cosine, steep-far}
+use Rattle.domain_accepted.specs.notions.Outcome.{Outcome, Never}
+use Rattle.domain_accepted.specs.notions.Within.{Within, BothFinite, BothWithin}
 use Rattle.domain.specs.notions.Aberration.{Held}
-use Rattle.conditions.specs.laws.Outcome.{outcome-answered, rule-answers, rule-refuses}
-use Rattle.conditions.specs.laws.Near.{within}
+use Rattle.domain_accepted.specs.laws.Outcome.{outcome-answered, rule-answers, rule-refuses}
+use Rattle.domain_accepted.specs.laws.Near.{within}
 use Rattle.domain.specs.laws.Days.{century-within}
 use Rattle.domain.specs.laws.Rows1To12.{row1-held, row2-held, row3-held, row4-held, row5-held, row6-held, row7-held, row8-held, row9-held, row10-held, row11-held, row12-held}
 use Rattle.domain.specs.laws.Rows13To24.{row13-held, row14-held, row15-held, row16-held, row17-held, row18-held, row19-held, row20-held, row21-held, row22-held, row23-held, row24-held}
@@ -80,13 +80,13 @@ module _ (t : Float) (T : Within 20 t) where
 
 module _ (p : EqPoint) (day : Float) where
   abbrev shifted : Pair
-  shifted = pair (stellAberrInEqCoordsIn p day .asc) (stellAberrInEqCoordsIn p day .dec)
+  shifted = pair (stellAberrInEqCoordsIn p day .asc .0) (stellAberrInEqCoordsIn p day .dec .0)
 
   outcome : stellAberrRefusal p day ≡ 0 → Outcome (BothWithin 8) Never (answered shifted)
   unfolding stellAberrInEqCoordsIn aberrAt directionOf velocityOf isFinite le neg add sub mul div ofBits round
   outcome e =
-      let asc : Rad = record { 0 = p .asc } in
-      let dec : Rad = record { 0 = p .dec } in
+      let asc = rad (p .asc) in
+      let dec = rad (p .dec) in
       let n = lower-none (lower (angleRefusal asc) (steepRefusal dec)) (dayRefusal day) e in
       let m = lower-none (angleRefusal asc) (steepRefusal dec) (n .0) in
       let held = velocity-held (centuryOf day) (century-within day (n .1)) in

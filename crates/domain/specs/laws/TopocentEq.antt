@@ -13,6 +13,7 @@ use Rattle.quantity.specs.declared.EqPoint.{EqPoint}
 use Rattle.quantity.specs.declared.GeographPoint.{GeographPoint}
 use Rattle.quantity.specs.rules.Answer.{answered, refused, Pair, first, second}
 use Rattle.quantity.specs.rules.Refusal.{lower, angleRefusal, latitudeRefusal}
+use Rattle.quantity.specs.rules.Angle.{rad}
 use Rattle.elementary.specs.rules.Fold.{fold}
 use Rattle.elementary.specs.rules.Sine.{sineOf, cosineOf, farthestAlone}
 use Rattle.elementary_arc.specs.rules.Arctangent.{arctangentIn}
@@ -21,11 +22,11 @@ use Rattle.helpers.specs.rules.Earth.{rhoIn}
 use Rattle.coords.specs.rules.HourAngle.{hrAnglFrmObserverLong}
 use Rattle.parallax.specs.rules.Observer.{centreOf, observerRefusal}
 use Rattle.parallax.specs.rules.Equatorial.{eastward, ahead, topocentDec, topocentFrom, topocentAt, topocentIn, topocentRefusal, topocentEqCoordsRule}
-use Rattle.conditions.specs.laws.Accepted.{angle-between, angle-sine, latitude-sine, latitude-cosine}
-use Rattle.conditions.specs.notions.Outcome.{Outcome, Never}
-use Rattle.conditions.specs.notions.Within.{Within, PointFinite}
-use Rattle.conditions.specs.laws.Outcome.{outcome-answered, outcome-then, rule-answers, rule-refuses}
-use Rattle.conditions.specs.laws.Near.{within, near-far, near-sine, near-cosine}
+use Rattle.domain_accepted.specs.laws.Accepted.{angle-between, angle-sine, latitude-sine, latitude-cosine}
+use Rattle.domain_accepted.specs.notions.Outcome.{Outcome, Never}
+use Rattle.domain_accepted.specs.notions.Within.{Within, PointFinite}
+use Rattle.domain_accepted.specs.laws.Outcome.{outcome-answered, outcome-then, rule-answers, rule-refuses}
+use Rattle.domain_accepted.specs.laws.Near.{within, near-far, near-sine, near-cosine}
 use Rattle.domain.specs.laws.Earth.{rho-outcome}
 use Rattle.domain.specs.laws.Observer.{observer-accepted, arctangent-near}
 
@@ -43,36 +44,41 @@ module _ (rs rc : Float) (p h d : Rad) (asc : Rad) (RS : Within 2 rs) (RC : With
   unfolding isFinite le neg mul ofBits round
   y-within = within 1024 (known (between-neg RC) ⊠ known (angle-sine p P) ⊠ known (near-sine h H)) tt
 
-  from-outcome : (change : Float) → Within 2048 change → Outcome PointFinite Never (topocentFrom (centreOf rs rc p) (fold d) (asc .0) change x)
+  from-outcome : (change : Rad) → Within 2048 (change .0)
+      → Outcome PointFinite Never (topocentFrom (centreOf rs rc p) (fold d) asc change x)
   unfolding topocentFrom topocentDec centreOf isFinite le neg add sub mul ofBits round
   from-outcome change C =
-      let c : Rad = record { 0 = change } in
-      let y = (sineOf d ⊖ rs ⊗ sineOf p) ⊗ cosineOf c in
-      outcome-then (λ (dec : Float). answered (record { asc = asc .0 ⊕ change; dec = dec }))
-      (λ dec i. outcome-answered (record { asc = asc .0 ⊕ change; dec = dec }) (within 4096 (known (angle-between asc A) ⊞ known C) tt .finite, i .finite))
+      let y = (sineOf d ⊖ rs ⊗ sineOf p) ⊗ cosineOf change in
+      outcome-then (λ (dec : Rad). answered (record { asc = asc .0 ⊕ change .0; dec = dec .0 }))
+      (λ dec i. outcome-answered (record { asc = asc .0 ⊕ change .0; dec = dec .0 }) (within 4096 (known (angle-between asc A) ⊞ known C) tt .finite, i .finite))
       (arctangentIn y x)
-      (arctangent-near y x (within 1024 ((known (latitude-sine d D) ⊟ known RS ⊠ known (angle-sine p P)) ⊠ known (near-cosine c C)) tt) x-within)
+      (arctangent-near y x (within 1024 ((known (latitude-sine d D) ⊟ known RS ⊠ known (angle-sine p P)) ⊠ known (near-cosine change C)) tt) x-within)
 
   -- the change of right ascension goes into a cosine
-  pub change-far : (change : Float) → arctangentIn (eastward (centreOf rs rc p) (fold h)) (ahead (centreOf rs rc p) (fold h) (fold d)) ≡ answered change → size change ≼ farthestAlone
+  pub change-far : (change : Rad)
+      → arctangentIn (eastward (centreOf rs rc p) (fold h)) (ahead (centreOf rs rc p) (fold h) (fold d)) ≡ answered change
+      → size (change .0) ≼ farthestAlone
   unfolding eastward ahead centreOf
-  change-far change e = near-far change (arctangent-near {Q = Never} (neg rc ⊗ sineOf p ⊗ sineOf h) x y-within x-within .answers change e)
+  change-far change e =
+      near-far (change .0)
+      (arctangent-near {Q = Never} (neg rc ⊗ sineOf p ⊗ sineOf h) x y-within x-within .answers change e)
 
-  at-outcome : Outcome PointFinite Never (topocentAt (centreOf rs rc p) (fold h) (fold d) (asc .0))
+  at-outcome : Outcome PointFinite Never (topocentAt (centreOf rs rc p) (fold h) (fold d) asc)
   unfolding topocentAt eastward ahead centreOf
   at-outcome =
       let y = neg rc ⊗ sineOf p ⊗ sineOf h in
-      outcome-then (λ (change : Float). topocentFrom (centreOf rs rc p) (fold d) (asc .0) change x) from-outcome (arctangentIn y x) (arctangent-near y x y-within x-within)
+      outcome-then (λ (change : Rad). topocentFrom (centreOf rs rc p) (fold d) asc change x) from-outcome
+      (arctangentIn y x) (arctangent-near y x y-within x-within)
 
 module _ (q : EqPoint) (parallax : Rad) (place : GeographPoint) (height : Float) (sidereal : Rad) where
   abbrev asc : Rad
-  asc = record { 0 = q .asc }
+  asc = rad (q .asc)
 
   abbrev dec : Rad
-  dec = record { 0 = q .dec }
+  dec = rad (q .dec)
 
   abbrev hour : Rad
-  hour = hrAnglFrmObserverLong sidereal (record { 0 = place .long }) asc
+  hour = hrAnglFrmObserverLong sidereal (rad (place .long)) asc
 
   module _ (none : topocentRefusal q parallax place height sidereal ≡ 0) where
     apart : (lower (angleRefusal asc) (latitudeRefusal dec) ≡ 0) × (observerRefusal parallax place height sidereal ≡ 0)
@@ -83,7 +89,7 @@ module _ (q : EqPoint) (parallax : Rad) (place : GeographPoint) (height : Float)
     hour-within =
         let o = observer-accepted parallax place height sidereal (apart .1) in
         let m = lower-none (angleRefusal asc) (latitudeRefusal dec) (apart .0) in
-        within 2048 ((known (angle-between sidereal (o .1)) ⊟ known (angle-between (record { 0 = place .long }) (o .2))) ⊟ known (angle-between asc (m .0))) tt
+        within 2048 ((known (angle-between sidereal (o .1)) ⊟ known (angle-between (rad (place .long)) (o .2))) ⊟ known (angle-between asc (m .0))) tt
 
     -- the hour angle goes into a sine
     pub hour-angle-far : size (hour .0) ≼ farthestAlone
@@ -94,12 +100,17 @@ module _ (q : EqPoint) (parallax : Rad) (place : GeographPoint) (height : Float)
     eq-outcome =
         let o = observer-accepted parallax place height sidereal (apart .1) in
         let m = lower-none (angleRefusal asc) (latitudeRefusal dec) (apart .0) in
-        outcome-then (λ (rho : Pair). topocentAt (centreOf (first rho) (second rho) parallax) (fold hour) (fold dec) (q .asc))
+        outcome-then (λ (rho : Pair). topocentAt (centreOf (first rho) (second rho) parallax) (fold hour) (fold dec) asc)
         (λ rho R. at-outcome (first rho) (second rho) parallax hour dec asc (R .0) (R .1) (o .0) hour-within (m .1) (m .0))
-        (rhoIn (record { 0 = place .lat }) height) (rho-outcome (record { 0 = place .lat }) height (o .3) (o .4))
+        (rhoIn (rad (place .lat)) height) (rho-outcome (rad (place .lat)) height (o .3) (o .4))
 
   pub topocent-eq-coords-finite : (v : EqPoint) → topocentEqCoordsRule q parallax place height sidereal ≡ answered v → PointFinite v
-  topocent-eq-coords-finite = rule-answers (topocentRefusal q parallax place height sidereal) (topocentIn q parallax place height sidereal) eq-outcome
+  topocent-eq-coords-finite =
+      rule-answers (topocentRefusal q parallax place height sidereal) (topocentIn q parallax place height sidereal)
+      eq-outcome
 
-  pub topocent-eq-coords-refuses : topocentRefusal q parallax place height sidereal ≡ 0 → (n : ℕ) → topocentEqCoordsRule q parallax place height sidereal ≡ refused n → ⊥
-  topocent-eq-coords-refuses = rule-refuses (topocentRefusal q parallax place height sidereal) (topocentIn q parallax place height sidereal) eq-outcome
+  pub topocent-eq-coords-refuses : topocentRefusal q parallax place height sidereal ≡ 0 → (n : ℕ)
+      → topocentEqCoordsRule q parallax place height sidereal ≡ refused n → ⊥
+  topocent-eq-coords-refuses =
+      rule-refuses (topocentRefusal q parallax place height sidereal) (topocentIn q parallax place height sidereal)
+      eq-outcome

@@ -13,6 +13,7 @@ use Rattle.quantity.specs.declared.EclPoint.{EclPoint}
 use Rattle.quantity.specs.declared.GeographPoint.{GeographPoint}
 use Rattle.quantity.specs.rules.Answer.{answered, refused, Pair, first, second, Triple, triple, then}
 use Rattle.quantity.specs.rules.Refusal.{lower, angleRefusal, latitudeRefusal}
+use Rattle.quantity.specs.rules.Angle.{rad}
 use Rattle.elementary.specs.rules.Fold.{fold}
 use Rattle.elementary.specs.rules.Sine.{sineOf, cosineOf, farthestAlone}
 use Rattle.elementary_arc.specs.rules.Arcsine.{arcsineIn}
@@ -22,12 +23,12 @@ use Rattle.helpers.specs.rules.Earth.{rhoIn}
 use Rattle.helpers.specs.laws.Limit.{limited-radians}
 use Rattle.parallax.specs.rules.Observer.{centreOf, observerRefusal}
 use Rattle.parallax_ecl.specs.rules.Ecliptic.{nearby, longTop, latTop, semidiameterIn, eclipticFrom, eclipticAlong, eclipticAt, eclipticIn, topopcentRefusal, topopcentEclCoordsRule}
-use Rattle.conditions.specs.laws.Accepted.{angle-sine, angle-cosine, latitude-sine, latitude-cosine}
-use Rattle.conditions.specs.notions.Outcome.{Outcome, SixOrSeven}
-use Rattle.conditions.specs.notions.Within.{Within, AllFinite}
-use Rattle.conditions.specs.laws.Outcome.{outcome-answered, outcome-refused, outcome-cond, outcome-then, rule-answers, rule-refuses}
-use Rattle.conditions.specs.laws.Elementary.{arcsine-number-outcome, quotient-not-nan}
-use Rattle.conditions.specs.laws.Near.{within, near-far, near-cosine}
+use Rattle.domain_accepted.specs.laws.Accepted.{angle-sine, angle-cosine, latitude-sine, latitude-cosine}
+use Rattle.domain_accepted.specs.notions.Outcome.{Outcome, SixOrSeven}
+use Rattle.domain_accepted.specs.notions.Within.{Angle, Within, AllFinite}
+use Rattle.domain_accepted.specs.laws.Outcome.{outcome-answered, outcome-refused, outcome-cond, outcome-then, rule-answers, rule-refuses}
+use Rattle.domain_accepted.specs.laws.Elementary.{arcsine-number-outcome, quotient-not-nan}
+use Rattle.domain_accepted.specs.laws.Near.{within, near-far, near-cosine}
 use Rattle.domain.specs.laws.Earth.{rho-outcome}
 use Rattle.domain.specs.laws.Observer.{observer-accepted, arctangent-near}
 
@@ -44,7 +45,7 @@ module _ (rs rc : Float) (p l b s e m : Rad) (RS : Within 2 rs) (RC : Within 2 r
       within 1024
       (known (angle-cosine l L) ⊠ known (latitude-cosine b B) ⊟ known RC ⊠ known (angle-sine p P) ⊠ known (angle-cosine s S)) tt
 
-  long-outcome : Outcome (Within 2048) SixOrSeven (longTop (centreOf rs rc p) (fold l) (fold b) (fold s) (fold e) n)
+  long-outcome : Outcome (Angle (Within 2048)) SixOrSeven (longTop (centreOf rs rc p) (fold l) (fold b) (fold s) (fold e) n)
   unfolding longTop centreOf isFinite le neg add sub mul ofBits round
   long-outcome =
       arctangent-near (sineOf l ⊗ cosineOf b ⊖ sineOf p ⊗ (rs ⊗ sineOf e ⊕ rc ⊗ cosineOf e ⊗ sineOf s)) n
@@ -54,17 +55,18 @@ module _ (rs rc : Float) (p l b s e m : Rad) (RS : Within 2 rs) (RC : Within 2 r
       n-within
 
   -- the longitude goes into a cosine
-  pub long-far : (long : Float) → longTop (centreOf rs rc p) (fold l) (fold b) (fold s) (fold e) n ≡ answered long → size long ≼ farthestAlone
-  long-far long answer = near-far long (long-outcome .answers long answer)
+  pub long-far : (long : Rad) → longTop (centreOf rs rc p) (fold l) (fold b) (fold s) (fold e) n ≡ answered long
+      → size (long .0) ≼ farthestAlone
+  long-far long answer = near-far (long .0) (long-outcome .answers long answer)
 
-  module _ (long : Float) (G : Within 2048 long) where
+  module _ (long : Rad) (G : Within 2048 (long .0)) where
     abbrev cosLong : Float
-    cosLong = cosineOf (record { 0 = long })
+    cosLong = cosineOf long
 
     G-cosine : Between (neg one) one cosLong
-    G-cosine = near-cosine (record { 0 = long }) G
+    G-cosine = near-cosine long G
 
-    lat-outcome : Outcome (Within 2048) SixOrSeven (latTop (centreOf rs rc p) (fold b) (fold s) (fold e) cosLong n)
+    lat-outcome : Outcome (Angle (Within 2048)) SixOrSeven (latTop (centreOf rs rc p) (fold b) (fold s) (fold e) cosLong n)
     unfolding latTop centreOf isFinite le neg add sub mul ofBits round
     lat-outcome =
         arctangent-near (cosLong ⊗ (sineOf b ⊖ sineOf p ⊗ (rs ⊗ cosineOf e ⊖ rc ⊗ sineOf e ⊗ sineOf s))) n
@@ -74,25 +76,25 @@ module _ (rs rc : Float) (p l b s e m : Rad) (RS : Within 2 rs) (RC : Within 2 r
         n-within
 
     -- the latitude goes into a cosine
-    pub lat-far : (lat : Float) → latTop (centreOf rs rc p) (fold b) (fold s) (fold e) cosLong n ≡ answered lat → size lat ≼ farthestAlone
-    lat-far lat answer = near-far lat (lat-outcome .answers lat answer)
+    pub lat-far : (lat : Rad) → latTop (centreOf rs rc p) (fold b) (fold s) (fold e) cosLong n ≡ answered lat
+        → size (lat .0) ≼ farthestAlone
+    lat-far lat answer = near-far (lat .0) (lat-outcome .answers lat answer)
 
     module _ (not-zero : NonZero n) where
-      from-outcome : (lat : Float) → Within 2048 lat → Outcome AllFinite SixOrSeven (eclipticFrom long cosLong lat m n)
+      from-outcome : (lat : Rad) → Within 2048 (lat .0) → Outcome AllFinite SixOrSeven (eclipticFrom long cosLong lat m n)
       unfolding eclipticFrom semidiameterIn isFinite le neg mul ofBits round
       from-outcome lat T =
-          let t : Rad = record { 0 = lat } in
-          let top = cosLong ⊗ cosineOf t ⊗ sineOf m in
-          outcome-then (λ (v : Float). answered (triple (withinTwoPI (record { 0 = long }) .0) lat v))
-          (λ v i. outcome-answered (triple (withinTwoPI (record { 0 = long }) .0) lat v) (limited-radians long (G .finite) .finite, T .finite, i .finite))
+          let top = cosLong ⊗ cosineOf lat ⊗ sineOf m in
+          outcome-then (λ (v : Rad). answered (triple (withinTwoPI long .0) (lat .0) (v .0)))
+          (λ v i. outcome-answered (triple (withinTwoPI long .0) (lat .0) (v .0)) (limited-radians (long .0) (G .finite) .finite, T .finite, i .finite))
           (arcsineIn (top ⊘ n))
           (arcsine-number-outcome (inr refl) (top ⊘ n)
-          (quotient-not-nan top n (within 2 (known G-cosine ⊠ known (near-cosine t T) ⊠ known (angle-sine m M)) tt .finite) (n-within .finite) not-zero))
+          (quotient-not-nan top n (within 2 (known G-cosine ⊠ known (near-cosine lat T) ⊠ known (angle-sine m M)) tt .finite) (n-within .finite) not-zero))
 
       along-outcome : Outcome AllFinite SixOrSeven (eclipticAlong (centreOf rs rc p) (fold b) (fold s) (fold e) long m n)
       unfolding eclipticAlong
       along-outcome =
-          outcome-then (λ (lat : Float). eclipticFrom long cosLong lat m n) from-outcome
+          outcome-then (λ (lat : Rad). eclipticFrom long cosLong lat m n) from-outcome
           (latTop (centreOf rs rc p) (fold b) (fold s) (fold e) cosLong n) lat-outcome
 
   at-outcome : Outcome AllFinite SixOrSeven (eclipticAt (centreOf rs rc p) (fold l) (fold b) (fold s) (fold e) m)
@@ -100,21 +102,23 @@ module _ (rs rc : Float) (p l b s e m : Rad) (RS : Within 2 rs) (RC : Within 2 r
   at-outcome =
       let c = centreOf rs rc p in
       let top = longTop c (fold l) (fold b) (fold s) (fold e) n in
-      outcome-cond (eq n zero) (refused 6) (then top (λ (long : Float). eclipticAlong c (fold b) (fold s) (fold e) long m n))
+      outcome-cond (eq n zero) (refused 6) (then top (λ (long : Rad). eclipticAlong c (fold b) (fold s) (fold e) long m n))
       (outcome-refused 6 (inl refl))
       (λ not-zero.
-      outcome-then (λ (long : Float). eclipticAlong c (fold b) (fold s) (fold e) long m n) (λ long G. along-outcome long G not-zero) top long-outcome)
+      outcome-then (λ (long : Rad). eclipticAlong c (fold b) (fold s) (fold e) long m n)
+      (λ long G. along-outcome long G not-zero) top long-outcome)
 
 -- ---- the function
 
 module _ (q : EclPoint) (parallax : Rad) (place : GeographPoint) (height : Float) (sidereal oblq semidiameter : Rad) where
   abbrev long : Rad
-  long = record { 0 = q .long }
+  long = rad (q .long)
 
   abbrev lat : Rad
-  lat = record { 0 = q .lat }
+  lat = rad (q .lat)
 
-  outcome : topopcentRefusal q parallax place height sidereal oblq semidiameter ≡ 0 → Outcome AllFinite SixOrSeven (eclipticIn q parallax place height sidereal oblq semidiameter)
+  outcome : topopcentRefusal q parallax place height sidereal oblq semidiameter ≡ 0
+      → Outcome AllFinite SixOrSeven (eclipticIn q parallax place height sidereal oblq semidiameter)
   unfolding eclipticIn
   outcome none =
       let first-two = lower (angleRefusal long) (latitudeRefusal lat) in
@@ -124,14 +128,19 @@ module _ (q : EclPoint) (parallax : Rad) (place : GeographPoint) (height : Float
       let c = lower-none first-two last-two (a .0) in
       let d = lower-none (angleRefusal long) (latitudeRefusal lat) (c .0) in
       let f = lower-none (angleRefusal oblq) (angleRefusal semidiameter) (c .1) in
-      outcome-then (λ (rho : Pair). eclipticAt (centreOf (first rho) (second rho) parallax) (fold long) (fold lat) (fold sidereal) (fold oblq) semidiameter)
+      outcome-then
+      (λ (rho : Pair). eclipticAt (centreOf (first rho) (second rho) parallax) (fold long) (fold lat) (fold sidereal) (fold oblq) semidiameter)
       (λ rho R. at-outcome (first rho) (second rho) parallax long lat sidereal oblq semidiameter (R .0) (R .1) (o .0) (d .0) (d .1) (o .1) (f .0) (f .1))
-      (rhoIn (record { 0 = place .lat }) height) (rho-outcome (record { 0 = place .lat }) height (o .3) (o .4))
+      (rhoIn (rad (place .lat)) height) (rho-outcome (rad (place .lat)) height (o .3) (o .4))
 
-  pub topopcent-ecl-coords-finite : (t : Triple) → topopcentEclCoordsRule q parallax place height sidereal oblq semidiameter ≡ answered t → AllFinite t
+  pub topopcent-ecl-coords-finite : (t : Triple)
+      → topopcentEclCoordsRule q parallax place height sidereal oblq semidiameter ≡ answered t → AllFinite t
   topopcent-ecl-coords-finite =
-      rule-answers (topopcentRefusal q parallax place height sidereal oblq semidiameter) (eclipticIn q parallax place height sidereal oblq semidiameter) outcome
+      rule-answers (topopcentRefusal q parallax place height sidereal oblq semidiameter)
+      (eclipticIn q parallax place height sidereal oblq semidiameter) outcome
 
-  pub topopcent-ecl-coords-refuses : topopcentRefusal q parallax place height sidereal oblq semidiameter ≡ 0 → (k : ℕ) → topopcentEclCoordsRule q parallax place height sidereal oblq semidiameter ≡ refused k → SixOrSeven k
+  pub topopcent-ecl-coords-refuses : topopcentRefusal q parallax place height sidereal oblq semidiameter ≡ 0 → (k : ℕ)
+      → topopcentEclCoordsRule q parallax place height sidereal oblq semidiameter ≡ refused k → SixOrSeven k
   topopcent-ecl-coords-refuses =
-      rule-refuses (topopcentRefusal q parallax place height sidereal oblq semidiameter) (eclipticIn q parallax place height sidereal oblq semidiameter) outcome
+      rule-refuses (topopcentRefusal q parallax place height sidereal oblq semidiameter)
+      (eclipticIn q parallax place height sidereal oblq semidiameter) outcome

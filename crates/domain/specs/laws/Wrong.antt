@@ -13,16 +13,15 @@ use Rattle.double.specs.laws.Apart.{apart}
 use Rattle.quantity.specs.declared.Rad.{Rad}
 use Rattle.quantity.specs.declared.EclPoint.{EclPoint}
 use Rattle.quantity.specs.declared.GeographPoint.{GeographPoint}
-use Rattle.quantity.specs.rules.Angle.{HALF}
-use Rattle.quantity.specs.rules.Answer.{refused}
+use Rattle.quantity.specs.rules.Angle.{HALF, rad}
+use Rattle.quantity.specs.rules.Answer.{refused, statusOf}
 use Rattle.quantity.specs.rules.Refusal.{epoch}
-use Rattle.quantity.specs.notions.Stated.{rad}
 use Rattle.helpers.specs.rules.Angle.{degreesOfHour}
 use Rattle.helpers.specs.rules.Earth.{rhoIn}
 use Rattle.precess.specs.rules.Days.{placeRefusal}
 use Rattle.precess.specs.rules.Equatorial.{precessEqCoordsRule}
-use Rattle.nutation_rows.specs.rules.Sum.{summed, none}
-use Rattle.nutation_rows.specs.notions.Computed as nutation
+use Rattle.nutation_args.specs.rules.Sum.{summed, none}
+use Rattle.nutation_args.specs.notions.Computed as nutation
 use Rattle.nutation_table.specs.rules.Rows.{rows}
 use Rattle.parallax.specs.rules.Observer.{centreOf, observerRefusal}
 use Rattle.parallax_ecl.specs.rules.Ecliptic.{nearby, eclipticAt, eclipticIn, topopcentRefusal, topopcentEclCoordsRule}
@@ -30,8 +29,8 @@ use Rattle.chain.specs.notions.Computed.{computed}
 use Rattle.chain.specs.notions.Still.{still}
 use Rattle.list.specs.declared.Star.{Star}
 use Rattle.list.specs.rules.Record.{quarter, inRange}
-use Rattle.batch.specs.rules.Star.{reduceStar, statusOf}
-use Rattle.conditions.specs.notions.Within.{Within}
+use Rattle.batch.specs.rules.Star.{reduceStar}
+use Rattle.domain_accepted.specs.notions.Within.{Within}
 use Rattle.domain.specs.notions.Nutation.{Moon, MoonNear}
 use Rattle.domain.specs.notions.Wrong.{StatusFiveForFour}
 
@@ -60,7 +59,7 @@ ecliptic-never-meets-six-excluded wrong =
 
 -- the arguments all 0.0
 abbrev moon : Moon
-moon = record { t = zero; d = zero; m = zero; m1 = zero; f = zero; node = zero }
+moon = record { t = zero; d = rad zero; m = rad zero; m1 = rad zero; f = rad zero; node = rad zero }
 
 at-seven : Within 7 zero
 unfolding computed
@@ -70,7 +69,7 @@ at-twenty : Within 20 zero
 unfolding computed
 at-twenty = record { start = tt; end = tt; finite = tt; from = tt; to = tt }
 
-pub nutation-sums-are-zero-excluded : ¬ ((a : Moon) → MoonNear a → Between (neg zero) zero (summed rows a none .oblq))
+pub nutation-sums-are-zero-excluded : ¬ ((a : Moon) → MoonNear a → Between (neg zero) zero (summed rows a none .oblq .0))
 unfolding nutation.computed
 nutation-sums-are-zero-excluded wrong =
     wrong moon (record { t = at-twenty; d = at-seven; m = at-seven; m1 = at-seven; f = at-seven; node = at-seven }) .to

@@ -6,11 +6,11 @@ use lib.Ieee.{Float, binary64, neg}
 use Rattle.double.specs.rules.Operations.{one}
 use Rattle.double.specs.rules.Table.{over}
 use Rattle.double.specs.notions.Range.{Range, _to_, span, addRange, mulRange, divRange, inside}
-use Rattle.nutation_rows.specs.rules.Numbers.{n10}
-use Rattle.nutation_rows.specs.rules.Arguments.{moonOf}
+use Rattle.nutation_args.specs.rules.Numbers.{n10}
+use Rattle.nutation_args.specs.rules.Arguments.{moonOf}
 use Rattle.nutation_table.specs.rules.Rows.{rows}
-use Rattle.nutation_rows.specs.rules.Sum.{whole, unit}
-use Rattle.conditions.specs.notions.Within.{Within}
+use Rattle.nutation_args.specs.rules.Sum.{whole, unit}
+use Rattle.domain_accepted.specs.notions.Within.{Within}
 
 -- ---- the sorts of the arguments and of the rows, by a value of each
 
@@ -35,11 +35,11 @@ EachRow P (x ∷ xs) = P x × EachRow P xs
 
 pub record MoonNear (a : Moon) : Type 0 where
   pub t : Within 20 (a .t)
-  pub d : Within 7 (a .d)
-  pub m : Within 7 (a .m)
-  pub m1 : Within 7 (a .m1)
-  pub f : Within 7 (a .f)
-  pub node : Within 7 (a .node)
+  pub d : Within 7 (a .d .0)
+  pub m : Within 7 (a .m .0)
+  pub m1 : Within 7 (a .m1 .0)
+  pub f : Within 7 (a .f .0)
+  pub node : Within 7 (a .node .0)
 
 -- ---- a row's argument and its shares
 

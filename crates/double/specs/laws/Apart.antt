@@ -1,7 +1,7 @@
 -- Two values are apart where a number that is read off them differs. Assumes nothing.
 use Prim.Native.Nat.{ℕ}
 use mathlib.Core.Path.{_≡_, ap, sym, subst, _∙_}
-use mathlib.Core.Bool.{Bool, false}
+use mathlib.Core.Bool.{false}
 use lib.Dec.{T, eqb, eqb-refl}
 
 pub apart : {A : Type 0} (code : A → ℕ) {a b : A} → eqb (code a) (code b) ≡ false → ¬ (a ≡ b)

@@ -10,7 +10,7 @@ use lib.Dec.{T, eqb, eqb→eq, ltb→lt, not-T}
 use lib.Ieee.Fits.{and-l, up-pos}
 use lib.Ieee.{Float, nan, inf, fin, up, down, neg, eq, le, ofBits}
 use lib.Ieee.Positive.{positive, above, above-of-le}
-use Rattle.double.specs.rules.Operations.{zero}
+use Rattle.double.specs.rules.Operations.{one, zero}
 use Rattle.double.specs.rules.Sign.{isFinite, size}
 use Rattle.double.specs.rules.Order.{_≼_, NonZero, Finite, Plus, Between}
 use Rattle.double.specs.laws.Sign.{neg-neg, finite-neg, finite-size, plus-size}
@@ -97,6 +97,16 @@ nonzero-of-positive c x p h = of-above x (above-of-le c x p h)
         not-T (z && true)
         (λ (t' : T (z && true)). no (m * up e) (down e) (mul-pos (ltb→lt 0 m t) (up-pos e)) (eqb→eq (m * up e * 1) (0 * down e) (and-l z true t')))
 
+-- ---- 0.0 and 1.0 are finite
+
+pub finite-zero : Finite zero
+unfolding isFinite ofBits
+finite-zero = tt
+
+pub finite-one : Finite one
+unfolding isFinite ofBits
+finite-one = tt
+
 -- ---- sizes up to a limit
 
 -- what is in size at most a finite double is finite
@@ -112,9 +122,6 @@ pub size-between : (x most : Float) → Finite most → size x ≼ most → Betw
 size-between x most p h =
     let F = finite-of-size x most p h in
     between finite-zero p (zero-le-plus (size x) (rw (finite-size x) F) (plus-size x F)) h
-  where
-    finite-zero : Finite zero
-    finite-zero = unfold isFinite ofBits in tt
 
 -- a size at most b is the place between −b and b
 pub between→size : (b x : Float) → Between (neg b) b x → size x ≼ b

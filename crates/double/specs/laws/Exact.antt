@@ -85,7 +85,8 @@ moved : (m u c d : ℕ) → m * (u * d) * c ≡ m * u * c * d
 moved m u c d = ap (λ (x : ℕ). x * c) (sym (mul-assoc m u d)) ∙ mul-right-comm (m * u) d c
 
 -- what two fractions of one value are over each other
-crossed : (a c m n : ℕ) (e g : ℤ) → 0 < c → m * up e * c ≡ a * down e → n * up g * c ≡ a * down g → m * (up e * down g) ≡ n * (up g * down e)
+crossed : (a c m n : ℕ) (e g : ℤ) → 0 < c → m * up e * c ≡ a * down e → n * up g * c ≡ a * down g
+    → m * (up e * down g) ≡ n * (up g * down e)
 crossed a c m n e g p v w =
     eq-of-mul-eq-mul-right c p (m * (up e * down g)) (n * (up g * down e))
     (moved m (up e) c (down g) ∙ ap (λ (x : ℕ). x * down g) v ∙ mul-right-comm a (down e) (down g) ∙ ap (λ (x : ℕ). x * down e) (sym w) ∙ sym (moved n (up g) c (down e)))
@@ -96,15 +97,18 @@ some m e g = mul-pos (zero-lt-suc m) (mul-pos (up-pos e) (down-pos g))
 nothing : (k x : ℕ) → 0 < x → 0 * k ≡ x → ⊥
 nothing k x p q = lt-irrefl 0 (subst (λ (y : ℕ). 0 < y) (sym q ∙ zero-mul k) p)
 
-value-unique : (f : Format) (x y : Float) (s : Bool) (a c : ℕ) → 0 < c → T (fits f x) → T (fits f y) → HasValue x s a c → HasValue y s a c → x ≡ y
+value-unique : (f : Format) (x y : Float) (s : Bool) (a c : ℕ) → 0 < c → T (fits f x) → T (fits f y) → HasValue x s a c
+    → HasValue y s a c → x ≡ y
 value-unique f nan y s a c p F G v w = absurd v
 value-unique f (inf t) y s a c p F G v w = absurd v
 value-unique f (fin t m e) nan s a c p F G v w = absurd w
 value-unique f (fin t m e) (inf u) s a c p F G v w = absurd w
 value-unique f (fin t zero e) (fin u zero g) s a c p F G v w =
     λ i. fin ((v .0 ∙ sym (w .0)) i) zero ((zero-exponent f t e F ∙ sym (zero-exponent f u g G)) i)
-value-unique f (fin t zero e) (fin u (suc n) g) s a c p F G v w = absurd (nothing (up e * down g) _ (some n g e) (crossed a c 0 (suc n) e g p (v .1) (w .1)))
-value-unique f (fin t (suc m) e) (fin u zero g) s a c p F G v w = absurd (nothing (up g * down e) _ (some m e g) (sym (crossed a c (suc m) 0 e g p (v .1) (w .1))))
+value-unique f (fin t zero e) (fin u (suc n) g) s a c p F G v w =
+    absurd (nothing (up e * down g) _ (some n g e) (crossed a c 0 (suc n) e g p (v .1) (w .1)))
+value-unique f (fin t (suc m) e) (fin u zero g) s a c p F G v w =
+    absurd (nothing (up g * down e) _ (some m e g) (sym (crossed a c (suc m) 0 e g p (v .1) (w .1))))
 value-unique f (fin t (suc m) e) (fin u (suc n) g) s a c p F G v w =
     let k = apart e g in
     let q = ap (λ (x : ℕ). suc m * x) (sym (k .over)) ∙ crossed a c (suc m) (suc n) e g p (v .1) (w .1) ∙ ap (λ (x : ℕ). suc n * x) (k .under) in
@@ -114,7 +118,8 @@ value-unique f (fin t (suc m) e) (fin u (suc n) g) s a c p F G v w =
 -- a double is its own rounding
 pub round-own : (f : Format) (s : Bool) (m : ℕ) (e : ℤ) → T (fits f (fin s m e)) → round f s (m * up e) (down e) ≡ fin s m e
 round-own f s m e F =
-    value-unique f (round f s (m * up e) (down e)) (fin s m e) s (m * up e) (down e) (down-pos e) (round-fits f s (m * up e) (down e)) F (own-value f s m e F) (refl, refl)
+    value-unique f (round f s (m * up e) (down e)) (fin s m e) s (m * up e) (down e) (down-pos e)
+    (round-fits f s (m * up e) (down e)) F (own-value f s m e F) (refl, refl)
 
 -- ---- zero less a double
 

@@ -41,7 +41,9 @@ module _ (f : Format) (j k : ℕ) where
       grown a b h = omega (arith, mul-le-mul-right a h, mul-comm a b)
 
       room : k * 1 < 2 ^ suc (emax f) * 2 ^ suc j
-      room = lt-of-lt-of-le (subst (λ (x : ℕ). x < 2 ^ prec f) (sym (mul-one k)) h) (le-trans (pow-mono (reach f)) (grown (2 ^ suc (emax f)) (2 ^ suc j) (pow-pos (suc j))))
+      room =
+          lt-of-lt-of-le (subst (λ (x : ℕ). x < 2 ^ prec f) (sym (mul-one k)) h)
+          (le-trans (pow-mono (reach f)) (grown (2 ^ suc (emax f)) (2 ^ suc j) (pow-pos (suc j))))
 
   -- ---- from fractions to values
 

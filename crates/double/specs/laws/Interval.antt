@@ -33,7 +33,9 @@ module _ (a b z : Float) where
       (λ t. tt)
 
 -- z lies in the hull of four values if it lies wherever they all do
-in-hull : (p q r s z : Float) → ((a b : Float) → Between a b p → Between a b q → Between a b r → Between a b s → Between a b z) → In (hull p q r s) z
+in-hull : (p q r s z : Float)
+    → ((a b : Float) → Between a b p → Between a b q → Between a b r → Between a b s → Between a b z)
+    → In (hull p q r s) z
 in-hull p q r s z k =
     by-test (λ (i : Range). In i z) (P && (Q && (R && S))) (a to b) unknown
     (λ t.
@@ -94,7 +96,8 @@ module _ (f : Format) where
       (sub-mono f x b y c (p .finite) (p .end) (q .finite) (q .start) (p .to) (q .from))
 
   -- a factor e, and y from c to d
-  along : (lo hi e c d y : Float) → Finite e → Between c d y → Between lo hi (mul f e c) → Between lo hi (mul f e d) → Between lo hi (mul f e y)
+  along : (lo hi e c d y : Float) → Finite e → Between c d y → Between lo hi (mul f e c) → Between lo hi (mul f e d)
+      → Between lo hi (mul f e y)
   along lo hi e c d y p q i j =
       rw (mul-comm f e y)
       (amid lo hi (mul f c e) (mul f d e) (mul f y e) (rw (mul-comm f c e) i) (rw (mul-comm f d e) j)
@@ -127,7 +130,8 @@ module _ (f : Format) where
 
   con-in : (c : Float) → In (span c c) c
   con-in c =
-      by-test (λ (i : Range). In i c) (isFinite c && isFinite c) (c to c) unknown (λ t. between-itself (and-l (isFinite c) (isFinite c) t)) (λ t. tt)
+      by-test (λ (i : Range). In i c) (isFinite c && isFinite c) (c to c) unknown
+      (λ t. between-itself (and-l (isFinite c) (isFinite c) t)) (λ t. tt)
 
   -- ---- an expression's value lies in its range
 

@@ -1,6 +1,6 @@
 -- The sign laws of the four operations, at every format and for every operand. A sum whose sign is to turn must not be zero,
 -- since x + −x is +0 either way round; nothing else is asked. Assumes nothing.
-use mathlib.Core.Path.{_≡_, refl, sym, ap, _∙_, subst}
+use mathlib.Core.Path.{_≡_, refl, ap, _∙_, subst}
 use Prim.Native.Nat.{ℕ, _+_, _-_, _*_, _≤_, _<_}
 use native.Mathlib.Nat as Nat
 use native.Mathlib.Omega.{arith}
@@ -25,9 +25,6 @@ unlike-comm true true = refl
 unlike-comm true false = refl
 unlike-comm false true = refl
 unlike-comm false false = refl
-
-unlike-r : (s t : Bool) → unlike s (not t) ≡ not (unlike s t)
-unlike-r s t = unlike-comm s (not t) ∙ unlike-l t s ∙ ap not (unlike-comm t s)
 
 -- ---- products
 
@@ -78,7 +75,8 @@ quotient f m n s a c = cond (eqb n 0) (cond (eqb m 0) nan (inf s)) (round f s a 
 quotient-neg : (f : Format) (m n : ℕ) (s : Bool) (a c : ℕ) → quotient f m n (not s) a c ≡ neg (quotient f m n s a c)
 quotient-neg f m n s a c = rw (round-neg f s a c) (by-case (eqb n 0))
   where
-    by-case : (b : Bool) → cond b (cond (eqb m 0) nan (inf (not s))) (neg (round f s a c)) ≡ neg (cond b (cond (eqb m 0) nan (inf s)) (round f s a c))
+    by-case : (b : Bool)
+        → cond b (cond (eqb m 0) nan (inf (not s))) (neg (round f s a c)) ≡ neg (cond b (cond (eqb m 0) nan (inf s)) (round f s a c))
     by-case true = infinite-neg (eqb m 0) s
     by-case false = refl
 
@@ -93,21 +91,6 @@ div-neg-l f (fin s m e) (inf t) = ap (λ (u : Bool). fin u 0 (pos 0)) (unlike-l 
 div-neg-l f (fin s m e) (fin t n d) =
     ap (λ (u : Bool). quotient f m n u (m * up e * down d) (n * up d * down e)) (unlike-l s t)
     ∙ quotient-neg f m n (unlike s t) (m * up e * down d) (n * up d * down e)
-
-pub div-neg-r : (f : Format) (x y : Float) → div f x (neg y) ≡ neg (div f x y)
-unfolding div neg
-div-neg-r f nan y = refl
-div-neg-r f (inf s) nan = refl
-div-neg-r f (inf s) (inf t) = refl
-div-neg-r f (inf s) (fin t n d) = ap inf (unlike-r s t)
-div-neg-r f (fin s m e) nan = refl
-div-neg-r f (fin s m e) (inf t) = ap (λ (u : Bool). fin u 0 (pos 0)) (unlike-r s t)
-div-neg-r f (fin s m e) (fin t n d) =
-    ap (λ (u : Bool). quotient f m n u (m * up e * down d) (n * up d * down e)) (unlike-r s t)
-    ∙ quotient-neg f m n (unlike s t) (m * up e * down d) (n * up d * down e)
-
-pub div-neg-neg : (f : Format) (x y : Float) → div f (neg x) (neg y) ≡ div f x y
-div-neg-neg f x y = div-neg-l f x (neg y) ∙ ap neg (div-neg-r f x y) ∙ neg-neg (div f x y)
 
 -- ---- sums
 
@@ -132,30 +115,6 @@ unlike-comm-sum f a b c = go (ltb a b) (ltb b a) (ltb→lt a b) (ltb→lt b a) (
     go false true p q _ _ = refl
     go false false _ _ p q = ap (λ (z : ℕ). round f false z c) (both-zero a b (p tt) (q tt))
 
-sum-comm : (f : Format) (s : Bool) (a : ℕ) (t : Bool) (b c : ℕ) → sum f s a t b c ≡ sum f t b s a c
-sum-comm f true a true b c = unfold sum in ap (λ (z : ℕ). round f true z c) (Nat.add-comm a b)
-sum-comm f false a false b c = unfold sum in ap (λ (z : ℕ). round f false z c) (Nat.add-comm a b)
-sum-comm f true a false b c = unlike-comm-sum f a b c
-sum-comm f false a true b c = sym (unlike-comm-sum f b a c)
-
--- the order does not matter, the sign of a zero included
-pub add-comm : (f : Format) (x y : Float) → add f x y ≡ add f y x
-unfolding add
-add-comm f nan nan = refl
-add-comm f nan (inf t) = refl
-add-comm f nan (fin t n d) = refl
-add-comm f (inf s) nan = refl
-add-comm f (inf true) (inf true) = refl
-add-comm f (inf true) (inf false) = refl
-add-comm f (inf false) (inf true) = refl
-add-comm f (inf false) (inf false) = refl
-add-comm f (inf s) (fin t n d) = refl
-add-comm f (fin s m e) nan = refl
-add-comm f (fin s m e) (inf t) = refl
-add-comm f (fin s m e) (fin t n d) =
-    sum-comm f s (m * up e * down d) t (n * up d * down e) (down e * down d)
-    ∙ ap (sum f t (n * up d * down e) s (m * up e * down d)) (Nat.mul-comm (down e) (down d))
-
 rounds-to-zero : (f : Format) (a b c : ℕ) → a ≤ b → NonZero (round f false (a - b) c) → ⊥
 unfolding eq ofBits
 rounds-to-zero f a b c q h =
@@ -172,7 +131,8 @@ unlike-neg-sum f a b c h = go (ltb a b) (ltb b a) (nltb→le b a) h
     go false true q h = round-neg f true (a - b) c
     go false false q h = absurd (rounds-to-zero f a b c (q tt) h)
 
-sum-neg : (f : Format) (s : Bool) (a : ℕ) (t : Bool) (b c : ℕ) → NonZero (sum f s a t b c) → sum f (not s) a (not t) b c ≡ neg (sum f s a t b c)
+sum-neg : (f : Format) (s : Bool) (a : ℕ) (t : Bool) (b c : ℕ) → NonZero (sum f s a t b c)
+    → sum f (not s) a (not t) b c ≡ neg (sum f s a t b c)
 sum-neg f true a true b c h = unfold sum in round-neg f true (a + b) c
 sum-neg f false a false b c h = unfold sum in round-neg f false (a + b) c
 sum-neg f true a false b c h = unlike-neg-sum f a b c h
@@ -205,17 +165,6 @@ sub-neg-r f x y = ap (add f x) (neg-neg y)
 pub add-neg-r : (f : Format) (x y : Float) → add f x (neg y) ≡ sub f x y
 unfolding sub
 add-neg-r f x y = refl
-
-pub add-neg-l : (f : Format) (x y : Float) → add f (neg x) y ≡ sub f y x
-add-neg-l f x y = add-comm f (neg x) y ∙ add-neg-r f y x
-
--- −x − y is −(x + y)
-pub sub-neg-l : (f : Format) (x y : Float) → NonZero (add f x y) → sub f (neg x) y ≡ neg (add f x y)
-sub-neg-l f x y h = sym (add-neg-r f (neg x) y) ∙ add-neg-neg f x y h
-
--- y − x is −(x − y)
-pub sub-swap : (f : Format) (x y : Float) → NonZero (sub f x y) → sub f y x ≡ neg (sub f x y)
-sub-swap f x y h = sym (add-neg-l f x y) ∙ sym (sub-neg-r f (neg x) y) ∙ sub-neg-neg f x y h
 
 -- ---- a NaN as the second operand
 

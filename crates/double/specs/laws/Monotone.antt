@@ -20,10 +20,12 @@ use Rattle.double.specs.laws.Fraction.{rounds-mono, add-rounds, mul-roun
 
 -- ---- sums and differences
 
-add-cross : (px nx dx px' nx' dx' py ny dy py' ny' dy' : ℕ) → px * dx' + nx' * dx ≤ px' * dx + nx * dx' → py * dy' + ny' * dy ≤ py' * dy + ny * dy'
+add-cross : (px nx dx px' nx' dx' py ny dy py' ny' dy' : ℕ) → px * dx' + nx' * dx ≤ px' * dx + nx * dx'
+    → py * dy' + ny' * dy ≤ py' * dy + ny * dy'
     → (px * dy + py * dx) * (dx' * dy') + (nx' * dy' + ny' * dx') * (dx * dy) ≤ (px' * dy' + py' * dx') * (dx * dy) + (nx * dy + ny * dx) * (dx' * dy')
 add-cross px nx dx px' nx' dx' py ny dy py' ny' dy' h k =
-    combine ((px * dy + py * dx) * (dx' * dy')) ((nx' * dy' + ny' * dx') * (dx * dy)) ((px' * dy' + py' * dx') * (dx * dy)) ((nx * dy + ny * dx) * (dx' * dy'))
+    combine ((px * dy + py * dx) * (dx' * dy')) ((nx' * dy' + ny' * dx') * (dx * dy))
+    ((px' * dy' + py' * dx') * (dx * dy)) ((nx * dy + ny * dx) * (dx' * dy'))
     (px * dx' * (dy * dy')) (nx' * dx * (dy * dy')) (px' * dx * (dy * dy')) (nx * dx' * (dy * dy'))
     (py * dy' * (dx * dx')) (ny' * dy * (dx * dx')) (py' * dy * (dx * dx')) (ny * dy' * (dx * dx'))
     (expand px dy py dx dx' dy') (expand' nx' dy' ny' dx' dx dy) (expand' px' dy' py' dx' dx dy) (expand nx dy ny dx dx' dy')
@@ -43,7 +45,8 @@ add-cross px nx dx px' nx' dx' py ny dy py' ny' dy' h k =
 
 pub add-mono : (f : Format) (x x' y y' : Float) → Finite x → Finite x' → Finite y → Finite y' → x ≼ x' → y ≼ y' → add f x y ≼ add f x' y'
 add-mono f x x' y y' p p' q q' h k =
-    rounds-mono f (add f x y) (add f x' y') _ _ _ _ _ _ (mul-pos (den-pos x) (den-pos y)) (mul-pos (den-pos x') (den-pos y')) (add-rounds f x y p q) (add-rounds f x' y' p' q')
+    rounds-mono f (add f x y) (add f x' y') _ _ _ _ _ _ (mul-pos (den-pos x) (den-pos y))
+    (mul-pos (den-pos x') (den-pos y')) (add-rounds f x y p q) (add-rounds f x' y' p' q')
     (add-cross (plusPart x) (minusPart x) (den x) (plusPart x') (minusPart x') (den x') (plusPart y) (minusPart y) (den y) (plusPart y') (minusPart y') (den y') (le→below x x' p p' h) (le→below y y' q q' k))
 
 pub sub-mono : (f : Format) (x x' y y' : Float) → Finite x → Finite x' → Finite y → Finite y' → x ≼ x' → y' ≼ y → sub f x y ≼ sub f x' y'
@@ -74,18 +77,21 @@ module _ (f : Format) (n : ℕ) (d : ℤ) (x x' : Float) (p : Finite x) (p' : Fi
   unfolding isFinite
   mul-mono =
       let y = fin false n d in
-      rounds-mono f (mul f x y) (mul f x' y) _ _ _ _ _ _ (mul-pos (den-pos x) (den-pos y)) (mul-pos (den-pos x') (den-pos y)) (mul-rounds f x y p tt) (mul-rounds f x' y p' tt)
+      rounds-mono f (mul f x y) (mul f x' y) _ _ _ _ _ _ (mul-pos (den-pos x) (den-pos y))
+      (mul-pos (den-pos x') (den-pos y)) (mul-rounds f x y p tt) (mul-rounds f x' y p' tt)
       (mul-cross-plus (plusPart x) (minusPart x) (den x) (plusPart x') (minusPart x') (den x') (n * up d) (down d) (le→below x x' p p' h))
 
   mul-anti : mul f x' (fin true n d) ≼ mul f x (fin true n d)
   unfolding isFinite
   mul-anti =
       let y = fin true n d in
-      rounds-mono f (mul f x' y) (mul f x y) _ _ _ _ _ _ (mul-pos (den-pos x') (den-pos y)) (mul-pos (den-pos x) (den-pos y)) (mul-rounds f x' y p' tt) (mul-rounds f x y p tt)
+      rounds-mono f (mul f x' y) (mul f x y) _ _ _ _ _ _ (mul-pos (den-pos x') (den-pos y))
+      (mul-pos (den-pos x) (den-pos y)) (mul-rounds f x' y p' tt) (mul-rounds f x y p tt)
       (mul-cross-minus (plusPart x) (minusPart x) (den x) (plusPart x') (minusPart x') (den x') (n * up d) (down d) (le→below x x' p p' h))
 
 -- for x from a to b
-pub mul-amid : (f : Format) (a x b y : Float) → Finite a → Finite x → Finite b → Finite y → a ≼ x → x ≼ b → Amid (mul f a y) (mul f b y) (mul f x y)
+pub mul-amid : (f : Format) (a x b y : Float) → Finite a → Finite x → Finite b → Finite y → a ≼ x → x ≼ b
+    → Amid (mul f a y) (mul f b y) (mul f x y)
 unfolding isFinite
 mul-amid f a x b nan p q r s h k = absurd s
 mul-amid f a x b (inf t) p q r s h k = absurd s
@@ -100,15 +106,18 @@ num-pos (inf s) p = absurd p
 num-pos (fin true m e) p = absurd p
 num-pos (fin false m e) p = mul-pos (ltb→lt 0 m p) (up-pos e)
 
-div-cross : (px nx dx px' nx' dx' m dy : ℕ) → px * dx' + nx' * dx ≤ px' * dx + nx * dx' → px * dy * (m * dx') + nx' * dy * (m * dx) ≤ px' * dy * (m * dx) + nx * dy * (m * dx')
+div-cross : (px nx dx px' nx' dx' m dy : ℕ) → px * dx' + nx' * dx ≤ px' * dx + nx * dx'
+    → px * dy * (m * dx') + nx' * dy * (m * dx) ≤ px' * dy * (m * dx) + nx * dy * (m * dx')
 div-cross px nx dx px' nx' dx' m dy h = step (mul-le-mul-right (dy * m) h)
   where
-    step : (px * dx' + nx' * dx) * (dy * m) ≤ (px' * dx + nx * dx') * (dy * m) → px * dy * (m * dx') + nx' * dy * (m * dx) ≤ px' * dy * (m * dx) + nx * dy * (m * dx')
+    step : (px * dx' + nx' * dx) * (dy * m) ≤ (px' * dx + nx * dx') * (dy * m)
+        → px * dy * (m * dx') + nx' * dy * (m * dx) ≤ px' * dy * (m * dx) + nx * dy * (m * dx')
     step a = omega arith
 
 pub div-mono : (f : Format) (x x' y : Float) → Finite x → Finite x' → T (positive y) → x ≼ x' → div f x y ≼ div f x' y
 div-mono f x x' y p p' q h =
-    rounds-mono f (div f x y) (div f x' y) _ _ _ _ _ _ (mul-pos (num-pos y q) (den-pos x)) (mul-pos (num-pos y q) (den-pos x')) (div-rounds f x y p q) (div-rounds f x' y p' q)
+    rounds-mono f (div f x y) (div f x' y) _ _ _ _ _ _ (mul-pos (num-pos y q) (den-pos x))
+    (mul-pos (num-pos y q) (den-pos x')) (div-rounds f x y p q) (div-rounds f x' y p' q)
     (div-cross (plusPart x) (minusPart x) (den x) (plusPart x') (minusPart x') (den x') (num y) (den y) (le→below x x' p p' h))
 
 -- the larger divisor brings the quotient nearer to zero
@@ -123,18 +132,21 @@ module _ (f : Format) (m : ℕ) (e : ℤ) (c y : Float) (p : T (positive c)) (q 
   unfolding isFinite
   div-less =
       let x = fin false m e in
-      rounds-mono f (div f x y) (div f x c) _ _ _ _ _ _ (mul-pos (num-pos y q) (den-pos x)) (mul-pos (num-pos c p) (den-pos x)) (div-rounds f x y tt q) (div-rounds f x c tt p)
+      rounds-mono f (div f x y) (div f x c) _ _ _ _ _ _ (mul-pos (num-pos y q) (den-pos x))
+      (mul-pos (num-pos c p) (den-pos x)) (div-rounds f x y tt q) (div-rounds f x c tt p)
       (omega (arith, less-cross (m * up e) (down e) (num c) (den c) (num y) (den y) (le→cross c y p q h)))
 
   div-more : div f (fin true m e) c ≼ div f (fin true m e) y
   unfolding isFinite
   div-more =
       let x = fin true m e in
-      rounds-mono f (div f x c) (div f x y) _ _ _ _ _ _ (mul-pos (num-pos c p) (den-pos x)) (mul-pos (num-pos y q) (den-pos x)) (div-rounds f x c tt p) (div-rounds f x y tt q)
+      rounds-mono f (div f x c) (div f x y) _ _ _ _ _ _ (mul-pos (num-pos c p) (den-pos x))
+      (mul-pos (num-pos y q) (den-pos x)) (div-rounds f x c tt p) (div-rounds f x y tt q)
       (omega (arith, less-cross (m * up e) (down e) (num c) (den c) (num y) (den y) (le→cross c y p q h)))
 
 -- for y from c to d
-pub div-amid : (f : Format) (x c y d : Float) → Finite x → T (positive c) → T (positive y) → T (positive d) → c ≼ y → y ≼ d → Amid (div f x c) (div f x d) (div f x y)
+pub div-amid : (f : Format) (x c y d : Float) → Finite x → T (positive c) → T (positive y) → T (positive d) → c ≼ y
+    → y ≼ d → Amid (div f x c) (div f x d) (div f x y)
 unfolding isFinite
 div-amid f nan c y d p q r s h k = absurd p
 div-amid f (inf t) c y d p q r s h k = absurd p

@@ -63,7 +63,8 @@ scaled-value f s m (negsuc k) a b c =
         ∙ mul-comm (2 ^ suc (emax f)) (2 ^ low f)
         ∙ sym (pow-add 2 (low f) (suc (emax f)))
 
-pub own-value : (f : Format) (s : Bool) (m : ℕ) (e : ℤ) → T (fits f (fin s m e)) → HasValue (round f s (m * up e) (down e)) s (m * up e) (down e)
+pub own-value : (f : Format) (s : Bool) (m : ℕ) (e : ℤ) → T (fits f (fin s m e))
+    → HasValue (round f s (m * up e) (down e)) s (m * up e) (down e)
 unfolding fits
 own-value f s zero e t =
     subst (λ (n : ℕ). HasValue (round f s n (down e)) s n (down e)) (sym (zero-mul (up e)))
@@ -96,8 +97,11 @@ same-of-value (fin t n d) s m e h = subst (λ (u : Bool). Same (fin t n d) (fin 
     by-sign false q = record { finite = tt; to = below→le (fin false n d) (fin false m e) tt tt (omega arith); from = below→le (fin false m e) (fin false n d) tt tt (omega arith) }
     by-sign true q = record { finite = tt; to = below→le (fin true n d) (fin true m e) tt tt (omega arith); from = below→le (fin true m e) (fin true n d) tt tt (omega arith) }
 
-one-times-signed : (f : Format) (s : Bool) (m : ℕ) (e : ℤ) → T (fits f (fin s m e)) → Same (round f s (1 * (m * up e)) (1 * down e)) (fin s m e)
-one-times-signed f s m e t = rw (one-mul (m * up e), one-mul (down e)) (same-of-value (round f s (m * up e) (down e)) s m e (own-value f s m e t))
+one-times-signed : (f : Format) (s : Bool) (m : ℕ) (e : ℤ) → T (fits f (fin s m e))
+    → Same (round f s (1 * (m * up e)) (1 * down e)) (fin s m e)
+one-times-signed f s m e t =
+    rw (one-mul (m * up e), one-mul (down e))
+    (same-of-value (round f s (m * up e) (down e)) s m e (own-value f s m e t))
 
 one-times : (f : Format) (x : Float) → T (fits f x) → Finite x → Same (mul f one x) x
 unfolding mul isFinite ofBits
@@ -126,7 +130,8 @@ mul-shrinks f q p F Q P i =
 
 -- ---- and a fraction no larger than a value rounds to one no larger
 
-round-shrinks : (f : Format) (s : Bool) (a c n : ℕ) (d : ℤ) → T (fits f (fin false n d)) → 0 < c → a * down d ≤ n * up d * c → Between (fin true n d) (fin false n d) (round f s a c)
+round-shrinks : (f : Format) (s : Bool) (a c n : ℕ) (d : ℤ) → T (fits f (fin false n d)) → 0 < c
+    → a * down d ≤ n * up d * c → Between (fin true n d) (fin false n d) (round f s a c)
 unfolding isFinite neg
 round-shrinks f s a c n d F p h = by-sign s
   where
@@ -166,10 +171,12 @@ rem-between f (fin s m e) (fin false n d) F p q = by-case (eqb n 0) (eqb→eq n 
 
     less : m * up e * down d % b * down d ≤ n * up d * (down e * down d)
     less =
-        le-trans-ℕ (mul-le-mul-right (down d) (le-of-lt (mod-lt (m * up e * down d) (mul-pos (mul-pos (ltb→lt 0 n p) (up-pos d)) (down-pos e)))))
+        le-trans-ℕ
+        (mul-le-mul-right (down d) (le-of-lt (mod-lt (m * up e * down d) (mul-pos (mul-pos (ltb→lt 0 n p) (up-pos d)) (down-pos e)))))
         (le-of-eq (mul-assoc (n * up d) (down e) (down d)))
 
-    by-case : (t : Bool) → (T t → n ≡ 0) → Between (fin true n d) (fin false n d) (cond t nan (round f s (m * up e * down d % b) (down e * down d)))
+    by-case : (t : Bool) → (T t → n ≡ 0)
+        → Between (fin true n d) (fin false n d) (cond t nan (round f s (m * up e * down d % b) (down e * down d)))
     by-case true z = absurd (no n (ltb→lt 0 n p) (z tt))
     by-case false z = round-shrinks f s (m * up e * down d % b) (down e * down d) n d F (mul-pos (down-pos e) (down-pos d)) less
 
@@ -195,13 +202,15 @@ add-plus f (fin false m e) nan p q r h = absurd q
 add-plus f (fin false m e) (inf u) p q r h = absurd q
 add-plus f (fin false m e) (fin false n d) p q r h = round-plus f (m * up e * down d + n * up d * down e) (down e * down d)
 add-plus f (fin false m e) (fin true n d) p q r h =
-    by-case (ltb (m * up e * down d) (n * up d * down e)) (ltb→lt (m * up e * down d) (n * up d * down e)) (ltb (n * up d * down e) (m * up e * down d))
+    by-case (ltb (m * up e * down d) (n * up d * down e)) (ltb→lt (m * up e * down d) (n * up d * down e))
+    (ltb (n * up d * down e) (m * up e * down d))
   where
     small : n * up d * down e ≤ m * up e * down d
     small = omega (arith, le→below (fin true m e) (fin true n d) tt tt h)
 
     by-case : (b : Bool) → (T b → m * up e * down d < n * up d * down e) → (c : Bool)
-        → Plus (cond b (round f true (n * up d * down e - m * up e * down d) (down e * down d)) (round f (false && c) (m * up e * down d - n * up d * down e) (down e * down d)))
+        → Plus
+        (cond b (round f true (n * up d * down e - m * up e * down d) (down e * down d)) (round f (false && c) (m * up e * down d - n * up d * down e) (down e * down d)))
     by-case true k c = absurd (not-le-of-lt (k tt) small)
     by-case false k c = round-plus f (m * up e * down d - n * up d * down e) (down e * down d)
 
@@ -223,7 +232,8 @@ div-plus f (fin false m e) (fin false n d) p q r = by-case (eqb n 0) (eqb→eq n
     no : (n : ℕ) → 0 < n → n ≡ 0 → ⊥
     no n h z = omega arith
 
-    by-case : (b : Bool) → (T b → n ≡ 0) → Plus (cond b (cond (eqb m 0) nan (inf false)) (round f false (m * up e * down d) (n * up d * down e)))
+    by-case : (b : Bool) → (T b → n ≡ 0)
+        → Plus (cond b (cond (eqb m 0) nan (inf false)) (round f false (m * up e * down d) (n * up d * down e)))
     by-case true z = absurd (no n (ltb→lt 0 n r) (z tt))
     by-case false z = round-plus f (m * up e * down d) (n * up d * down e)
 
@@ -244,5 +254,6 @@ div-le-one f (fin false m e) (fin true n d) p q r h = absurd r
 div-le-one f (fin false m e) (fin false n d) p q r h =
     let x = fin false m e in
     let y = fin false n d in
-    rounds-mono f (div f x y) one (m * up e * down d) (0 * down d) (n * up d * down e) 1 0 1 (mul-pos (mul-pos (ltb→lt 0 n r) (up-pos d)) (down-pos e)) (pow-pos 0)
+    rounds-mono f (div f x y) one (m * up e * down d) (0 * down d) (n * up d * down e) 1 0 1
+    (mul-pos (mul-pos (ltb→lt 0 n r) (up-pos d)) (down-pos e)) (pow-pos 0)
     (div-rounds f x y tt r) (one-rounds f) (omega (arith, le→below x y tt tt h))

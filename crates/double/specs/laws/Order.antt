@@ -98,11 +98,13 @@ below→le (fin true m e) (fin true n d) p q h = of-ge (m * up e * down d) (n * 
 pub le-refl : (x : Float) → Finite x → x ≼ x
 le-refl x p = below→le x x p p (le-of-eq refl)
 
-chain : (px nx dx py ny dy pz nz dz : ℕ) → 0 < dy → px * dy + ny * dx ≤ py * dx + nx * dy → py * dz + nz * dy ≤ pz * dy + ny * dz → px * dz + nz * dx ≤ pz * dx + nx * dz
+chain : (px nx dx py ny dy pz nz dz : ℕ) → 0 < dy → px * dy + ny * dx ≤ py * dx + nx * dy
+    → py * dz + nz * dy ≤ pz * dy + ny * dz → px * dz + nz * dx ≤ pz * dx + nx * dz
 chain px nx dx py ny dy pz nz dz D h k =
     le-of-mul-le-mul-right (step (mul-le-mul-right dz h) (mul-le-mul-right dx k)) D
   where
-    step : (px * dy + ny * dx) * dz ≤ (py * dx + nx * dy) * dz → (py * dz + nz * dy) * dx ≤ (pz * dy + ny * dz) * dx → (px * dz + nz * dx) * dy ≤ (pz * dx + nx * dz) * dy
+    step : (px * dy + ny * dx) * dz ≤ (py * dx + nx * dy) * dz → (py * dz + nz * dy) * dx ≤ (pz * dy + ny * dz) * dx
+        → (px * dz + nz * dx) * dy ≤ (pz * dx + nx * dz) * dy
     step a b = omega arith
 
 le-trans-finite : (x y z : Float) → Finite x → Finite y → Finite z → x ≼ y → y ≼ z → x ≼ z
@@ -166,9 +168,11 @@ eq→le (inf s) y p q h = absurd p
 eq→le (fin s m e) nan p q h = absurd q
 eq→le (fin s m e) (inf t) p q h = absurd q
 eq→le (fin false m e) (fin false n d) p q h =
-    below→le (fin false n d) (fin false m e) tt tt (omega (arith, eqb→eq (m * up e * down d) (n * up d * down e) (and-l (eqb (m * up e * down d) (n * up d * down e)) true h)))
+    below→le (fin false n d) (fin false m e) tt tt
+    (omega (arith, eqb→eq (m * up e * down d) (n * up d * down e) (and-l (eqb (m * up e * down d) (n * up d * down e)) true h)))
 eq→le (fin true m e) (fin true n d) p q h =
-    below→le (fin true n d) (fin true m e) tt tt (omega (arith, eqb→eq (m * up e * down d) (n * up d * down e) (and-l (eqb (m * up e * down d) (n * up d * down e)) true h)))
+    below→le (fin true n d) (fin true m e) tt tt
+    (omega (arith, eqb→eq (m * up e * down d) (n * up d * down e) (and-l (eqb (m * up e * down d) (n * up d * down e)) true h)))
 eq→le (fin false m e) (fin true n d) p q h = below→le (fin true n d) (fin false m e) tt tt (omega arith)
 eq→le (fin true m e) (fin false n d) p q h =
     below→le (fin false n d) (fin true m e) tt tt (omega (arith, none-of (m * up e * down d) (n * up d * down e) h))
@@ -188,7 +192,8 @@ lt-or-le x y p q =
 pub le-of-not-lt : (x y : Float) → Finite x → Finite y → T (not (lt x y)) → y ≼ x
 le-of-not-lt x y p q h = elim (lt-or-le x y p q) [ inl t ↦ absurd (T-not (lt x y) h t) | inr t ↦ t ]
 
-lt→below : (x y : Float) → Finite x → Finite y → T (lt x y) → plusPart x * den y + minusPart y * den x < plusPart y * den x + minusPart x * den y
+lt→below : (x y : Float) → Finite x → Finite y → T (lt x y)
+    → plusPart x * den y + minusPart y * den x < plusPart y * den x + minusPart x * den y
 unfolding lt isFinite
 lt→below nan y p q h = absurd p
 lt→below (inf s) y p q h = absurd p
@@ -218,7 +223,9 @@ neg-le (fin s m e) nan h = absurd h
 neg-le (fin s m e) (inf true) h = absurd h
 neg-le (fin s m e) (inf false) h = tt
 neg-le (fin false m e) (fin false n d) h = of-ge (n * up d * down e) (m * up e * down d) (le-of (m * up e * down d) (n * up d * down e) h)
-neg-le (fin false m e) (fin true n d) h = of-none (n * up d * down e) (m * up e * down d) (turn (m * up e * down d) (n * up d * down e) (none-of (m * up e * down d) (n * up d * down e) h))
+neg-le (fin false m e) (fin true n d) h =
+    of-none (n * up d * down e) (m * up e * down d)
+    (turn (m * up e * down d) (n * up d * down e) (none-of (m * up e * down d) (n * up d * down e) h))
 neg-le (fin true m e) (fin false n d) h = across (n * up d * down e) (m * up e * down d)
 neg-le (fin true m e) (fin true n d) h = of-le (n * up d * down e) (m * up e * down d) (ge-of (m * up e * down d) (n * up d * down e) h)
 

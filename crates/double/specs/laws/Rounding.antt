@@ -22,7 +22,8 @@ units-neg : (f : Format) (s : Bool) (q k : ℕ) → units f (not s) q k ≡ neg 
 unfolding units neg
 units-neg f s q k = go (ltb (q * 2 ^ k) (2 ^ (low f + suc (emax f))))
   where
-    go : (b : Bool) → cond b (odd (suc (prec f)) (not s) q k (low f)) (inf (not s)) ≡ neg (cond b (odd (suc (prec f)) s q k (low f)) (inf s))
+    go : (b : Bool)
+        → cond b (odd (suc (prec f)) (not s) q k (low f)) (inf (not s)) ≡ neg (cond b (odd (suc (prec f)) s q k (low f)) (inf s))
     go true = odd-neg (suc (prec f)) s q k (low f)
     go false = refl
 

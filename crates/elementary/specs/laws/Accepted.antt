@@ -16,7 +16,7 @@ use Rattle.double.specs.laws.Fraction.{sub-rounds, rounds-not-nan}
 use Rattle.quantity.specs.declared.Rad.{Rad}
 use Rattle.quantity.specs.rules.Angle.{HALF}
 use Rattle.quantity.specs.rules.Answer.{Answer, answered, refused, unless}
-use Rattle.quantity.specs.rules.Refusal.{lower, numberRefusal, past, outside, epoch, daysAround, dayRefusal, farthest, steepest, angleRefusal, latitudeRefusal, steepRefusal, nearest, remotest, distanceRefusal, deepest, highest, heightRefusal}
+use Rattle.quantity.specs.rules.Refusal.{lower, numberRefusal, past, outside, epoch, daysAround, dayRefusal, farthest, steepest, angleRefusal, latitudeRefusal, steepRefusal, leastDistance, mostDistance, distanceRefusal, leastHeight, mostHeight, heightRefusal}
 
 -- ---- numbers
 
@@ -25,7 +25,8 @@ pub lower-none : (a b : ℕ) → lower a b ≡ 0 → (a ≡ 0) × (b ≡ 0)
 lower-none ℕ.zero b e = (refl, e)
 lower-none (suc a) b e = by-case (eqb b 0) (eqb→eq b 0) (eqb-false b 0) (leb (suc a) b) (rw (eqb·suc-zero a) at e)
   where
-    by-case : (t : Bool) → (T t → b ≡ 0) → (t ≡ false → b ≡ 0 → ⊥) → (u : Bool) → cond t (suc a) (cond u (suc a) b) ≡ 0 → (suc a ≡ 0) × (b ≡ 0)
+    by-case : (t : Bool) → (T t → b ≡ 0) → (t ≡ false → b ≡ 0 → ⊥) → (u : Bool) → cond t (suc a) (cond u (suc a) b) ≡ 0
+        → (suc a ≡ 0) × (b ≡ 0)
     by-case true p q u e = (e, p tt)
     by-case false p q true e = absurd (omega arith)
     by-case false p q false e = absurd (q refl e)
@@ -57,10 +58,12 @@ past-accepted x limit n p q e = by-case (isFinite x) (lt limit (size x)) (λ t. 
     by-case false c f l e = absurd (omega arith)
 
 -- between the two ends
-pub outside-accepted : (x least most : Float) (n : ℕ) → 0 < n → Finite least → Finite most → outside x least most n ≡ 0 → Between least most x
+pub outside-accepted : (x least most : Float) (n : ℕ) → 0 < n → Finite least → Finite most → outside x least most n ≡ 0
+    → Between least most x
 outside-accepted x least most n p q r e = by-case (isFinite x) (lt x least) (lt most x) (λ t. t) (λ t. t) (λ t. t) e
   where
-    by-case : (b c d : Bool) → (T b → Finite x) → (T (not c) → T (not (lt x least))) → (T (not d) → T (not (lt most x))) → cond b (cond c n (cond d n 0)) 1 ≡ 0 → Between least most x
+    by-case : (b c d : Bool) → (T b → Finite x) → (T (not c) → T (not (lt x least))) → (T (not d) → T (not (lt most x)))
+        → cond b (cond c n (cond d n 0)) 1 ≡ 0 → Between least most x
     by-case true true d f k l e = absurd (omega arith)
     by-case true false true f k l e = absurd (omega arith)
     by-case true false false f k l e = between q r (le-of-not-lt x least (f tt) q (k tt)) (le-of-not-lt most x r (f tt) (l tt))
@@ -78,13 +81,13 @@ pub steep-accepted : (x : Rad) → steepRefusal x ≡ 0 → size (x .0) ≼ stee
 unfolding steepRefusal isFinite ofBits
 steep-accepted x e = past-accepted (x .0) steepest 4 (lit< tt) tt (lower-none (latitudeRefusal x) (past (x .0) steepest 4) e .1)
 
-pub distance-accepted : (x : Float) → distanceRefusal x ≡ 0 → Between nearest remotest x
+pub distance-accepted : (x : Float) → distanceRefusal x ≡ 0 → Between leastDistance mostDistance x
 unfolding distanceRefusal isFinite ofBits
-distance-accepted x e = outside-accepted x nearest remotest 5 (lit< tt) tt tt e
+distance-accepted x e = outside-accepted x leastDistance mostDistance 5 (lit< tt) tt tt e
 
-pub height-accepted : (x : Float) → heightRefusal x ≡ 0 → Between deepest highest x
+pub height-accepted : (x : Float) → heightRefusal x ≡ 0 → Between leastHeight mostHeight x
 unfolding heightRefusal isFinite ofBits
-height-accepted x e = outside-accepted x deepest highest 5 (lit< tt) tt tt e
+height-accepted x e = outside-accepted x leastHeight mostHeight 5 (lit< tt) tt tt e
 
 -- a day's distance from the epoch is no NaN, and no infinity passes the test
 pub day-accepted : (day : Float) → dayRefusal day ≡ 0 → size (day ⊖ epoch) ≼ daysAround
@@ -96,7 +99,10 @@ day-accepted day e = by-case (isFinite day) (lt daysAround (size (day ⊖ epoch)
     from-epoch (inf s) n l = absurd (unfold lt size ofBits in l)
     from-epoch (fin s m e) n l = le-of-not-lt daysAround (size (fin s m e)) (unfold isFinite ofBits in tt) (unfold isFinite size in tt) l
 
-    by-case : (b c : Bool) → (T b → Finite day) → (T (not c) → T (not (lt daysAround (size (day ⊖ epoch))))) → _≡_ {A = ℕ} (cond b (cond c 2 0) 1) 0 → size (day ⊖ epoch) ≼ daysAround
+    by-case : (b c : Bool) → (T b → Finite day) → (T (not c) → T (not (lt daysAround (size (day ⊖ epoch)))))
+        → _≡_ {A = ℕ} (cond b (cond c 2 0) 1) 0 → size (day ⊖ epoch) ≼ daysAround
     by-case true true f l e = absurd (omega arith)
-    by-case true false f l e = from-epoch (day ⊖ epoch) (rounds-not-nan (sub-rounds binary64 day epoch (f tt) (unfold isFinite ofBits in tt))) (l tt)
+    by-case true false f l e =
+        from-epoch (day ⊖ epoch) (rounds-not-nan (sub-rounds binary64 day epoch (f tt) (unfold isFinite ofBits in tt)))
+        (l tt)
     by-case false c f l e = absurd (omega arith)

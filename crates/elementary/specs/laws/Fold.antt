@@ -130,14 +130,17 @@ module _ (m : ℕ) (e : ℤ) (n : ℕ) (small : n ≤ 254648) (F : Finite (fin f
           let u = over-grid binary64 20 k q (omega arith) (lit≤ tt) F t in
           let t' : s ≼ grid binary64 20 (k + 2 ^ 20) = grid-over binary64 20 (k + 2 ^ 20) s _ _ _ (mul-pos (den-pos q) (pow-pos 1)) (add-rounds binary64 q half F tt) (half-over k (plusPart q) (minusPart q) (den q) u) in
           let u' = over-grid binary64 20 (k + 2 ^ 20) s (omega arith) (lit≤ tt) (w .finite) t' in
-          low-end n (k + 2 ^ 20) (den s) (plusPart s) (minusPart s) (minus-none s (w .plus)) (den-pos s) (omega arith) u' (rw (plus-all s (w .plus)) (w .under))
+          low-end n (k + 2 ^ 20) (den s) (plusPart s) (minusPart s) (minus-none s (w .plus)) (den-pos s) (omega arith)
+          u' (rw (plus-all s (w .plus)) (w .under))
 
 -- ---- k·P1 is exact
 
-prod-under : (n pk nk dk : ℕ) → pk * 1 ≡ n * dk → nk ≡ 0 → n * 1686629713 * (dk * 2 ^ 30) + (pk * 0 + nk * 1686629713) * 2 ^ 30 ≤ (pk * 1686629713 + nk * 0) * 2 ^ 30
+prod-under : (n pk nk dk : ℕ) → pk * 1 ≡ n * dk → nk ≡ 0
+    → n * 1686629713 * (dk * 2 ^ 30) + (pk * 0 + nk * 1686629713) * 2 ^ 30 ≤ (pk * 1686629713 + nk * 0) * 2 ^ 30
 prod-under n pk nk dk e z = omega arith
 
-prod-over : (n pk nk dk : ℕ) → pk * 1 ≡ n * dk → nk ≡ 0 → (pk * 1686629713 + nk * 0) * 2 ^ 30 ≤ n * 1686629713 * (dk * 2 ^ 30) + (pk * 0 + nk * 1686629713) * 2 ^ 30
+prod-over : (n pk nk dk : ℕ) → pk * 1 ≡ n * dk → nk ≡ 0
+    → (pk * 1686629713 + nk * 0) * 2 ^ 30 ≤ n * 1686629713 * (dk * 2 ^ 30) + (pk * 0 + nk * 1686629713) * 2 ^ 30
 prod-over n pk nk dk e z = omega arith
 
 record Product (n : ℕ) (y : Float) : Type 0 where
@@ -181,10 +184,12 @@ by-part x d k h = le-of-mul-le-mul-right (step h) (lit< {m = 0} {n = 57341611392
     step : k * 2 ^ 53 * d < x * 5734161139222659 * 2 ^ 21 → k * 103993 * d * 5734161139222659 ≤ x * 2 ^ 21 * 66204 * 5734161139222659
     step h = omega arith
 
-low-fraction : (x d n k : ℕ) → n ≤ 254648 → k + 2 ^ 20 + 1 ≡ n * 2 ^ 21 → k * 103993 * d ≤ x * 2 ^ 21 * 66204 → 8 * n * 1686629713 * d ≤ x * 2 ^ 33 + 7 * 2 ^ 30 * d
+low-fraction : (x d n k : ℕ) → n ≤ 254648 → k + 2 ^ 20 + 1 ≡ n * 2 ^ 21 → k * 103993 * d ≤ x * 2 ^ 21 * 66204
+    → 8 * n * 1686629713 * d ≤ x * 2 ^ 33 + 7 * 2 ^ 30 * d
 low-fraction x d n k h e l = omega (arith, mul-le-mul-right d h, ap (λ (z : ℕ). z * d) e)
 
-high-difference : (x d n py ny dy : ℕ) → py * 2 ^ 30 ≡ n * 1686629713 * dy + ny * 2 ^ 30 → x * 2 ^ 33 ≤ (7 * 2 ^ 30 + 8 * n * 1686629713) * d
+high-difference : (x d n py ny dy : ℕ) → py * 2 ^ 30 ≡ n * 1686629713 * dy + ny * 2 ^ 30
+    → x * 2 ^ 33 ≤ (7 * 2 ^ 30 + 8 * n * 1686629713) * d
     → (x * dy + ny * d) * 2 ^ 3 ≤ 7 * (d * dy) + (0 * dy + py * d) * 2 ^ 3
 high-difference x d n py ny dy e h = le-of-mul-le-mul-right (step (mul-le-mul-right dy h) (ap (λ (z : ℕ). z * d) e)) (pow-pos 30)
   where
@@ -192,7 +197,8 @@ high-difference x d n py ny dy e h = le-of-mul-le-mul-right (step (mul-le-mul-ri
         → (x * dy + ny * d) * 2 ^ 3 * 2 ^ 30 ≤ (7 * (d * dy) + (0 * dy + py * d) * 2 ^ 3) * 2 ^ 30
     step a b = omega arith
 
-low-difference : (x d n py ny dy : ℕ) → py * 2 ^ 30 ≡ n * 1686629713 * dy + ny * 2 ^ 30 → 8 * n * 1686629713 * d ≤ x * 2 ^ 33 + 7 * 2 ^ 30 * d
+low-difference : (x d n py ny dy : ℕ) → py * 2 ^ 30 ≡ n * 1686629713 * dy + ny * 2 ^ 30
+    → 8 * n * 1686629713 * d ≤ x * 2 ^ 33 + 7 * 2 ^ 30 * d
     → 0 * (d * dy) + (0 * dy + py * d) * 2 ^ 3 ≤ (x * dy + ny * d) * 2 ^ 3 + 7 * (d * dy)
 low-difference x d n py ny dy e h = le-of-mul-le-mul-right (step (mul-le-mul-right dy h) (ap (λ (z : ℕ). z * d) e)) (pow-pos 30)
   where
@@ -200,7 +206,8 @@ low-difference x d n py ny dy e h = le-of-mul-le-mul-right (step (mul-le-mul-rig
         → (0 * (d * dy) + (0 * dy + py * d) * 2 ^ 3) * 2 ^ 30 ≤ ((x * dy + ny * d) * 2 ^ 3 + 7 * (d * dy)) * 2 ^ 30
     step a b = omega arith
 
-first-rest : (m : ℕ) (e : ℤ) → Between zero farthestAlone (fin false m e) → Between (minusOver 7 8) (over 7 8) (fin false m e ⊖ fromWhole (quarters (fin false m e)) ⊗ P1)
+first-rest : (m : ℕ) (e : ℤ) → Between zero farthestAlone (fin false m e)
+    → Between (minusOver 7 8) (over 7 8) (fin false m e ⊖ fromWhole (quarters (fin false m e)) ⊗ P1)
 unfolding isFinite
 first-rest m e i =
     let a = fin false m e in
@@ -220,7 +227,8 @@ first-rest m e i =
     (high-difference (m * up e) (down e) n (plusPart y) (minusPart y) (den y) (p .is)
     (high-fraction (m * up e) (down e) n small (by-ratio (m * up e) (down e) n (fold-high m e n small F w))))))
   where
-    over-difference : (x d py ny dy : ℕ) → (x * dy + ny * d) * 2 ^ 3 ≤ 7 * (d * dy) + (0 * dy + py * d) * 2 ^ 3 → (x * dy + ny * d) * 8 + 0 * (d * dy) ≤ 7 * (d * dy) + (0 * dy + py * d) * 8
+    over-difference : (x d py ny dy : ℕ) → (x * dy + ny * d) * 2 ^ 3 ≤ 7 * (d * dy) + (0 * dy + py * d) * 2 ^ 3
+        → (x * dy + ny * d) * 8 + 0 * (d * dy) ≤ 7 * (d * dy) + (0 * dy + py * d) * 8
     over-difference x d py ny dy h = omega arith
 
     none : (x d n : ℕ) → n ≤ 0 → 8 * n * 1686629713 * d ≤ x * 2 ^ 33 + 7 * 2 ^ 30 * d
@@ -235,7 +243,8 @@ first-rest m e i =
 
 -- ---- what the fold leaves
 
-last-rest : (z : Float) (n : ℕ) → n ≤ 254648 → Between (minusOver 7 8) (over 7 8) z → Between (neg one) one ((z ⊖ fromWhole n ⊗ P2) ⊖ fromWhole n ⊗ P3)
+last-rest : (z : Float) (n : ℕ) → n ≤ 254648 → Between (minusOver 7 8) (over 7 8) z
+    → Between (neg one) one ((z ⊖ fromWhole n ⊗ P2) ⊖ fromWhole n ⊗ P3)
 unfolding isFinite le neg add sub mul ofBits ofInt round
 last-rest z n h i =
     let k = known (from-whole-between n 254648 h (lit≤ tt)) in
@@ -276,7 +285,8 @@ steep-quarters a i = quarters-up-to a (over 3 2) 1 (steep-sum a i) (unfold round
 early-quarters : (a : Float) → Between zero early a → quarters a ≤ 0
 unfolding isFinite le mul add ofBits round
 early-quarters a i =
-    quarters-up-to a (over 16383 16384) 0 (bounded binary64 half (over 16383 16384) (known i ⊠ con I ⊞ con half) tt) tt (unfold toUnsigned in lit≤ tt)
+    quarters-up-to a (over 16383 16384) 0 (bounded binary64 half (over 16383 16384) (known i ⊠ con I ⊞ con half) tt) tt
+    (unfold toUnsigned in lit≤ tt)
 
 one-whole : 1 ≤ wholePart one
 unfolding toUnsigned ofBits
@@ -307,7 +317,8 @@ rest-first a i =
 
 -- an angle up to 1.57 folds into none and a rest up to π/4, or into one quarter and a rest below zero
 pub fold-steep : (a : Float) → Between zero steepest a
-    → ((quarters a ≡ 0) × Between zero (over 1609 2048) (rest a)) ⊎ ((quarters a ≡ 1) × Between (minusOver 405 512) (minusOver 3 4096) (rest a))
+    → ((quarters a ≡ 0) × Between zero (over 1609 2048) (rest a)) ⊎
+    ((quarters a ≡ 1) × Between (minusOver 405 512) (minusOver 3 4096) (rest a))
 fold-steep a i = by-number (quarters a) refl (steep-quarters a i)
   where
     finite-late : Finite late
@@ -316,7 +327,8 @@ fold-steep a i = by-number (quarters a) refl (steep-quarters a i)
     finite-early : Finite early
     finite-early = unfold isFinite round in tt
 
-    by-number : (n : ℕ) → quarters a ≡ n → n ≤ 1 → ((n ≡ 0) × Between zero late (restAt a n)) ⊎ ((n ≡ 1) × Between (minusOver 405 512) (minusOver 3 4096) (restAt a n))
+    by-number : (n : ℕ) → quarters a ≡ n → n ≤ 1
+        → ((n ≡ 0) × Between zero late (restAt a n)) ⊎ ((n ≡ 1) × Between (minusOver 405 512) (minusOver 3 4096) (restAt a n))
     by-number ℕ.zero e h =
         elim (between-cut late finite-late i) [
           | inl j ↦ inl (refl, rest-none a j)

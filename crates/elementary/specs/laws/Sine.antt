@@ -97,7 +97,8 @@ pub sine-between : (x : Rad) → size (x .0) ≼ farthestAlone → Between (neg 
 unfolding fold foldedSine
 sine-between x h =
     let a = size (x .0) in
-    negated-one (bearsMinus (x .0)) (sineQuarter (quarters a % 4) (rest a)) (sine-quarter-one (quarters a % 4) (rest a) (rest-at-most-one (x .0) h))
+    negated-one (bearsMinus (x .0)) (sineQuarter (quarters a % 4) (rest a))
+    (sine-quarter-one (quarters a % 4) (rest a) (rest-at-most-one (x .0) h))
 
 pub cosine-between : (x : Rad) → size (x .0) ≼ farthestAlone → Between (neg one) one (cosineOf x)
 unfolding fold foldedCosine

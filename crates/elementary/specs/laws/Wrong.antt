@@ -5,10 +5,9 @@ use std.Logic.{_≢_}
 use Rattle.double.specs.rules.Operations.{bits, zero, one, two}
 use Rattle.double.specs.laws.Apart.{apart}
 use Rattle.quantity.specs.declared.EqPoint.{EqPoint}
-use Rattle.quantity.specs.rules.Angle.{PI}
+use Rattle.quantity.specs.rules.Angle.{PI, rad}
 use Rattle.quantity.specs.notions.Code.{ofFloat, ofAnswer}
 use Rattle.quantity.specs.notions.Varies.{Varies}
-use Rattle.quantity.specs.notions.Stated.{rad}
 use Rattle.elementary.specs.declared.Turn.{Turn}
 use Rattle.elementary.specs.declared.Direction.{Direction}
 use Rattle.elementary.specs.rules.Sine.{turnOf, sineRule, cosineRule, tangentRule}
@@ -23,7 +22,8 @@ unfolding computed
 sine-varies = record { here = refl; there = refl; apart = apart (ofAnswer ofFloat) refl }
 
 -- the next double above 400000.0
-pub alone-limit-off-by-one-double-excluded : aloneLimitOffByOneDouble (rad (bits 0x41186a0000000001)) ≢ sineRule (rad (bits 0x41186a0000000001))
+pub alone-limit-off-by-one-double-excluded : aloneLimitOffByOneDouble (rad (bits 0x41186a0000000001))
+    ≢ sineRule (rad (bits 0x41186a0000000001))
 unfolding computed
 alone-limit-off-by-one-double-excluded = apart (ofAnswer ofFloat) refl
 

@@ -1,5 +1,7 @@
 -- `elementary_arc::arctangent_of` meets its contract. Assumes nothing.
+use mathlib.Core.Path.{ap}
 use Rattle.double.specs.laws.Calls.{asks-nothing}
+use Rattle.quantity.specs.rules.Angle.{rad}
 use Rattle.elementary_arc.specs.rules.Arctangent.{arctangentOf}
 use Rattle.elementary_arc.proofs.arctangent_of.Statement.{statement}
 use Rattle.elementary_arc.proofs.arctangent_of.Tie as tie
@@ -14,7 +16,7 @@ returns c =
     let c5 = c4 .before in
     let c6 = c5 .before in
     let c7 = c6 .before in
-    rw (c1 .size3 .ensures, c2 .bears-minus2 .ensures, c3 .turned .ensures, c4 .base .ensures, c5 .size2 .ensures, c6 .size .ensures, c7 .bears-minus .ensures) at (c .negated-if .ensures)
+    ap rad (rw (c1 .size3 .ensures, c2 .bears-minus2 .ensures, c3 .turned .ensures, c4 .base .ensures, c5 .size2 .ensures, c6 .size .ensures, c7 .bears-minus .ensures) at (c .negated-if .ensures))
 
 pub arctangent-of-spec : {M : Type 1} → statement M
 arctangent-of-spec = tie.close (tie.spec asks-nothing asks-nothing asks-nothing asks-nothing asks-nothing asks-nothing asks-nothing asks-nothing returns)

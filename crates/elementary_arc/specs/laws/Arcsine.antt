@@ -16,10 +16,11 @@ use Rattle.double.specs.notions.Range.{known, con, _⊞_, _⊟_, _⊠_}
 use Rattle.double.specs.laws.Tests.{holds, fails}
 use Rattle.double.specs.laws.Sign.{finite-size, no-minus-of-plus}
 use Rattle.double.specs.laws.Order.{le-of-not-lt, not-lt-of-le}
-use Rattle.double.specs.laws.Between.{size→between}
+use Rattle.double.specs.laws.Between.{finite-one, size→between}
 use Rattle.double.specs.laws.Interval.{bounded}
 use Rattle.double.specs.laws.NearZero.{mul-plus, add-plus, sub-plus}
 use Rattle.quantity.specs.rules.Angle.{HALF}
+use Rattle.quantity.specs.declared.Rad.{Rad}
 use Rattle.quantity.specs.rules.Answer.{answered, refused, then}
 use Rattle.root.specs.rules.Count.{IsFromZero}
 use Rattle.root.specs.rules.Root.{rootOf}
@@ -32,12 +33,8 @@ use Rattle.elementary_arc.specs.laws.Arctangent.{arctangent-sign, arctan
 abbrev square : Float → Float
 square s = (one ⊖ s) ⊗ (one ⊕ s)
 
-abbrev arcsineOf : Float → Float
+abbrev arcsineOf : Float → Rad
 arcsineOf s = arctangentOf s (rootOf (square s))
-
-finite-one : Finite one
-unfolding isFinite ofBits
-finite-one = tt
 
 module _ (s : Float) (h : size s ≼ one) where
   place : Between (neg one) one s
@@ -99,7 +96,7 @@ module _ (s : Float) (p : Finite s) where
           let z : _≡_ {A = ℕ} 0 1 = cc in
           absurd (omega arith)
 
-  module _ (v : Float) (e : arcsineIn s ≡ answered v) where
+  module _ (v : Rad) (e : arcsineIn s ≡ answered v) where
     within-one : size s ≼ one
     within-one = by-case (lt one (size s)) refl
       where
@@ -114,14 +111,14 @@ module _ (s : Float) (p : Finite s) where
     is-arcsine = cc (arcsine-answered s within-one)
 
     -- the answer bears s's sign
-    pub arcsine-sign : bearsMinus v ≡ bearsMinus s
+    pub arcsine-sign : bearsMinus (v .0) ≡ bearsMinus s
     arcsine-sign = rw is-arcsine (arctangent-sign s (rootOf (square s)) p (root-finite s within-one))
 
-    pub arcsine-finite : Finite v
+    pub arcsine-finite : Finite (v .0)
     arcsine-finite = rw is-arcsine (arctangent-finite s (rootOf (square s)) p (root-finite s within-one))
 
     -- a quarter turn at most
-    pub arcsine-at-most-half : size v ≼ HALF
+    pub arcsine-at-most-half : size (v .0) ≼ HALF
     arcsine-at-most-half =
         rw is-arcsine
         (arctangent-at-most-half s (rootOf (square s)) p (root-finite s within-one)

@@ -24,11 +24,13 @@ use Rattle.double.specs.laws.Between.{between, zero-le-plus, finite-of-plus, pl
 use Rattle.double.specs.laws.Interval.{bounded}
 use Rattle.double.specs.laws.NearZero.{mul-shrinks, mul-plus, add-plus, sub-plus, div-plus, div-le-one}
 use Rattle.quantity.specs.rules.Angle.{PI, HALF, QUARTER}
+use Rattle.quantity.specs.declared.Rad.{Rad}
 use Rattle.quantity.specs.rules.Answer.{answered}
 use Rattle.elementary.specs.rules.Series.{horner}
 use Rattle.elementary_arc.specs.rules.Series.{arctangentLast, arctangentEntries, arctangentSeries}
 use Rattle.elementary_arc.specs.rules.Arctangent.{near, atn, bothZero, base, turned, arctangentOf, arctangentIn}
 use Rattle.elementary_arc.specs.laws.Mirror.{base-nan}
+use Rattle.elementary_arc.specs.notions.UpToHalf.{UpToHalf}
 
 -- ---- the series
 
@@ -65,10 +67,6 @@ series-plus v F P i =
     add-plus binary64 v (q ⊗ p) (i .finite) (it .finite) P (le-trans (neg v) (neg q) (q ⊗ p) (neg-le q v (iq .to)) (it .from))
 
 -- ---- Atn of a number from 0 to 1, and base, lie from 0 to HALF and bear no minus sign
-
-record UpToHalf (b : Float) : Type 0 where
-  plus : Plus b
-  place : Between zero HALF b
 
 atn-near : (v : Float) → T (fits binary64 v) → Plus v → Between zero near v → UpToHalf (arctangentSeries v)
 unfolding isFinite le neg ofBits round
@@ -132,7 +130,8 @@ larger-positive (fin false m e) (fin false n d) p q r s h k = by-case (ltb 0 n) 
         let M : m * up e * down d ≤ 0 = none-left (m * up e) (n * up d) (down d) (down e) B (le→below (fin false m e) (fin false n d) tt tt h) in
         let A : m * up e ≡ 0 = factor (m * up e) (down d) (down-pos d) M in
         let Z : m ≡ 0 = factor m (up e) (up-pos e) (omega arith) in
-        absurd (T-not (bothZero (fin false m e) (fin false n d)) k (and-i (isZero (fin false m e)) (isZero (fin false n d)) (zero-of m e Z) (zero-of n d N)))
+        absurd
+        (T-not (bothZero (fin false m e) (fin false n d)) k (and-i (isZero (fin false m e)) (isZero (fin false n d)) (zero-of m e Z) (zero-of n d N)))
 
 swapped : (a b : Bool) → T (not (a && b)) → T (not (b && a))
 swapped true true t = t
@@ -176,35 +175,39 @@ turned-plus false b i = i .plus
 
 module _ (y x : Float) (p : Finite y) (q : Finite x) where
   turned-size : size (turned (bearsMinus x) (base (size y) (size x))) ≡ turned (bearsMinus x) (base (size y) (size x))
-  turned-size = size-plus (turned (bearsMinus x) (base (size y) (size x))) (turned-plus (bearsMinus x) (base (size y) (size x)) (base-of y x p q))
+  turned-size =
+      size-plus (turned (bearsMinus x) (base (size y) (size x)))
+      (turned-plus (bearsMinus x) (base (size y) (size x)) (base-of y x p q))
 
   -- its size is base, turned where x bears a minus sign
-  pub arctangent-size : size (arctangentOf y x) ≡ turned (bearsMinus x) (base (size y) (size x))
+  pub arctangent-size : size (arctangentOf y x .0) ≡ turned (bearsMinus x) (base (size y) (size x))
   unfolding arctangentOf
   arctangent-size = rw (turned-size) (size-negated (bearsMinus y) (turned (bearsMinus x) (base (size y) (size x))) ∙ turned-size)
 
   -- it bears y's sign
-  pub arctangent-sign : bearsMinus (arctangentOf y x) ≡ bearsMinus y
+  pub arctangent-sign : bearsMinus (arctangentOf y x .0) ≡ bearsMinus y
   unfolding arctangentOf
-  arctangent-sign = rw (turned-size) (minus-negated (bearsMinus y) (turned (bearsMinus x) (base (size y) (size x))) (turned-plus (bearsMinus x) (base (size y) (size x)) (base-of y x p q)))
+  arctangent-sign =
+      rw (turned-size)
+      (minus-negated (bearsMinus y) (turned (bearsMinus x) (base (size y) (size x))) (turned-plus (bearsMinus x) (base (size y) (size x)) (base-of y x p q)))
 
-  pub arctangent-finite : Finite (arctangentOf y x)
-  arctangent-finite = rw (← finite-size (arctangentOf y x), arctangent-size) (by-sign (bearsMinus x))
+  pub arctangent-finite : Finite (arctangentOf y x .0)
+  arctangent-finite = rw (← finite-size (arctangentOf y x .0), arctangent-size) (by-sign (bearsMinus x))
     where
       by-sign : (s : Bool) → Finite (turned s (base (size y) (size x)))
       by-sign true = behind (base (size y) (size x)) (base-of y x p q) .finite
       by-sign false = base-of y x p q .place .finite
 
   -- a quarter turn at most, where x bears no minus sign
-  pub arctangent-at-most-half : bearsMinus x ≡ false → size (arctangentOf y x) ≼ HALF
+  pub arctangent-at-most-half : bearsMinus x ≡ false → size (arctangentOf y x .0) ≼ HALF
   arctangent-at-most-half h = rw (arctangent-size, h) (base-of y x p q .place .to)
 
   -- a quarter turn at least, where x bears one
-  pub arctangent-at-least-half : bearsMinus x ≡ true → HALF ≼ size (arctangentOf y x)
+  pub arctangent-at-least-half : bearsMinus x ≡ true → HALF ≼ size (arctangentOf y x .0)
   arctangent-at-least-half h = rw (arctangent-size, h) (behind (base (size y) (size x)) (base-of y x p q) .from)
 
   -- and half a turn at most in any case
-  pub arctangent-at-most-pi : size (arctangentOf y x) ≼ PI
+  pub arctangent-at-most-pi : size (arctangentOf y x .0) ≼ PI
   arctangent-at-most-pi = rw arctangent-size (by-sign (bearsMinus x))
     where
       by-sign : (s : Bool) → turned s (base (size y) (size x)) ≼ PI
@@ -234,22 +237,23 @@ turned-less : (b : Float) → (b ≡ nan) ⊎ UpToHalf b → size (PI ⊖ b) ≡
 turned-less b (inl e) = rw (e, sub-nan binary64 PI) (unfold size in sym (sub-nan binary64 PI))
 turned-less b (inr i) = size-plus (PI ⊖ b) (turned-plus true b i) ∙ ap (λ (z : Float). PI ⊖ z) (sym (size-plus b (i .plus)))
 
-size-turned : (y x : Float) → size (arctangentOf y x) ≡ size (turned (bearsMinus x) (base (size y) (size x)))
+size-turned : (y x : Float) → size (arctangentOf y x .0) ≡ size (turned (bearsMinus x) (base (size y) (size x)))
 unfolding arctangentOf
 size-turned y x =
     let t = turned (bearsMinus x) (base (size y) (size x)) in
     size-negated (bearsMinus y) (size t) ∙ size-size t
 
-size-nan : (y : Float) → size (arctangentOf y nan) ≡ nan
+size-nan : (y : Float) → size (arctangentOf y nan .0) ≡ nan
 unfolding size bearsMinus
 size-nan y = size-turned y nan ∙ ap size (base-nan-r y)
 
-opposite-signs : (y x : Float) → bearsMinus x ≡ false → bearsMinus (neg x) ≡ true → size (arctangentOf y (neg x)) ≡ PI ⊖ size (arctangentOf y x)
+opposite-signs : (y x : Float) → bearsMinus x ≡ false → bearsMinus (neg x) ≡ true
+    → size (arctangentOf y (neg x) .0) ≡ PI ⊖ size (arctangentOf y x .0)
 opposite-signs y x h k =
     rw (size-turned y (neg x), size-turned y x, size-neg x, h, k) (turned-less (base (size y) (size x)) (base-cases y x))
 
 -- where x bears no minus sign, the size at −x is PI less the size at x, rounded once
-pub arctangent-behind : (y x : Float) → bearsMinus x ≡ false → size (arctangentOf y (neg x)) ≡ PI ⊖ size (arctangentOf y x)
+pub arctangent-behind : (y x : Float) → bearsMinus x ≡ false → size (arctangentOf y (neg x) .0) ≡ PI ⊖ size (arctangentOf y x .0)
 unfolding neg bearsMinus
 arctangent-behind y nan h = rw (size-nan y) (sym (sub-nan binary64 PI))
 arctangent-behind y (inf s) h = opposite-signs y (inf s) h (rw h)
@@ -257,30 +261,30 @@ arctangent-behind y (fin s m e) h = opposite-signs y (fin s m e) h (rw h)
 
 -- ---- the same of what callers bind
 
-module _ (y x v : Float) (e : arctangentIn y x ≡ answered v) where
+module _ (y x : Float) (v : Rad) (e : arctangentIn y x ≡ answered v) where
   is-arctangent : v ≡ arctangentOf y x
   unfolding arctangentIn
   is-arctangent = cc
 
   module _ (p : Finite y) (q : Finite x) where
-    pub arctangent-in-sign : bearsMinus v ≡ bearsMinus y
+    pub arctangent-in-sign : bearsMinus (v .0) ≡ bearsMinus y
     arctangent-in-sign = rw is-arctangent (arctangent-sign y x p q)
 
-    pub arctangent-in-finite : Finite v
+    pub arctangent-in-finite : Finite (v .0)
     arctangent-in-finite = rw is-arctangent (arctangent-finite y x p q)
 
-    pub arctangent-in-at-most-half : bearsMinus x ≡ false → size v ≼ HALF
+    pub arctangent-in-at-most-half : bearsMinus x ≡ false → size (v .0) ≼ HALF
     arctangent-in-at-most-half h = rw is-arctangent (arctangent-at-most-half y x p q h)
 
-    pub arctangent-in-at-least-half : bearsMinus x ≡ true → HALF ≼ size v
+    pub arctangent-in-at-least-half : bearsMinus x ≡ true → HALF ≼ size (v .0)
     arctangent-in-at-least-half h = rw is-arctangent (arctangent-at-least-half y x p q h)
 
-    pub arctangent-in-at-most-pi : size v ≼ PI
+    pub arctangent-in-at-most-pi : size (v .0) ≼ PI
     arctangent-in-at-most-pi = rw is-arctangent (arctangent-at-most-pi y x p q)
 
-  pub arctangent-in-behind : (w : Float) → arctangentIn y (neg x) ≡ answered w → bearsMinus x ≡ false → size w ≡ PI ⊖ size v
+  pub arctangent-in-behind : (w : Rad) → arctangentIn y (neg x) ≡ answered w → bearsMinus x ≡ false → size (w .0) ≡ PI ⊖ size (v .0)
   unfolding arctangentIn
-  arctangent-in-behind w e' h = rw is-arctangent (ap size (same w e') ∙ arctangent-behind y x h)
+  arctangent-in-behind w e' h = rw is-arctangent (ap (λ (z : Rad). size (z .0)) (same w e') ∙ arctangent-behind y x h)
     where
-      same : (w : Float) → answered (arctangentOf y (neg x)) ≡ answered w → w ≡ arctangentOf y (neg x)
+      same : (w : Rad) → answered (arctangentOf y (neg x)) ≡ answered w → w ≡ arctangentOf y (neg x)
       same w e = cc

@@ -1,17 +1,12 @@
 -- Each constant of the rules is the decimal, or each entry of a series the fraction, that the paper gives, rounded once.
 -- Assumes nothing.
-use Prim.Native.Nat.{ℕ, _%_}
 use mathlib.Core.Path.{refl}
 use mathlib.Core.List.{List, [], _∷_, map}
-use lib.Dec.{eqb}
-use lib.Ieee.{Float, binary64, ofBits, round}
+use lib.Ieee.{Float, ofBits, round}
 use Rattle.double.specs.rules.Table.{Row, _is_, Agrees, decimal}
+use Rattle.elementary.specs.notions.Series.{entry}
 use Rattle.elementary_arc.specs.rules.Series.{arctangentLast, arctangentEntries}
 use Rattle.elementary_arc.specs.rules.Arctangent.{near}
-
--- 1/d, minus where n mod 4 = k
-abbrev entry : ℕ → ℕ → ℕ → Float
-entry k n d = round binary64 (eqb (n % 4) k) 1 d
 
 abbrev rows : List (Row (List Float))
 rows =

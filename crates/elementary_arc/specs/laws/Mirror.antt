@@ -6,7 +6,7 @@ use Rattle.double.specs.rules.Operations.{one, _⊕_, _⊖_, _⊗_}
 use Rattle.double.specs.rules.Sign.{bearsMinus, size}
 use Rattle.double.specs.laws.Sign.{size-neg, sign-neg}
 use Rattle.double.specs.laws.Mirror.{mul-comm, sub-neg-r, add-neg-r, sub-nan, div-nan}
-use Rattle.quantity.specs.rules.Angle.{PI, HALF}
+use Rattle.quantity.specs.rules.Angle.{rad, PI, HALF, opposite}
 use Rattle.quantity.specs.rules.Answer.{Answer, answered, refused, with, then}
 use Rattle.root.specs.rules.Root.{rootRule}
 use Rattle.elementary_arc.specs.rules.Arctangent.{atn, base, turned, arctangentOf, arctangentIn}
@@ -28,28 +28,28 @@ turned-nan false = refl
 
 -- ---- the mirrors
 
-pub arctangent-odd : (y x : Float) → arctangentOf (neg y) x ≡ neg (arctangentOf y x)
+pub arctangent-odd : (y x : Float) → arctangentOf (neg y) x ≡ opposite (arctangentOf y x)
 unfolding arctangentOf size
 arctangent-odd y x =
-    rw (size-neg y)
+    rw (size-neg y) (ap rad
     (sign-neg y (size (turned (bearsMinus x) (base (size y) (size x))))
-    (λ e. rw (e, base-nan (size x), turned-nan (bearsMinus x))))
+    (λ e. rw (e, base-nan (size x), turned-nan (bearsMinus x)))))
 
-pub arctangent-in-odd : (y x : Float) → arctangentIn (neg y) x ≡ with neg (arctangentIn y x)
+pub arctangent-in-odd : (y x : Float) → arctangentIn (neg y) x ≡ with opposite (arctangentIn y x)
 unfolding arctangentIn
 arctangent-in-odd y x = ap answered (arctangent-odd y x)
 
-pub arcsine-in-odd : (s : Float) → arcsineIn (neg s) ≡ with neg (arcsineIn s)
+pub arcsine-in-odd : (s : Float) → arcsineIn (neg s) ≡ with opposite (arcsineIn s)
 unfolding arcsineIn then
 arcsine-in-odd s =
     rw (size-neg s, sub-neg-r binary64 one s, add-neg-r binary64 one s, mul-comm binary64 (one ⊕ s) (one ⊖ s))
     (by-case (lt one (size s)))
   where
-    by-root : (a : Answer Float) → then a (λ (r : Float). arctangentIn (neg s) r) ≡ with neg (then a (λ (r : Float). arctangentIn s r))
+    by-root : (a : Answer Float) → then a (λ (r : Float). arctangentIn (neg s) r) ≡ with opposite (then a (λ (r : Float). arctangentIn s r))
     by-root (answered r) = arctangent-in-odd s r
     by-root (refused n) = refl
 
     by-case : (b : Bool)
-        → cond b (refused 7) (then (rootRule ((one ⊖ s) ⊗ (one ⊕ s))) (λ (r : Float). arctangentIn (neg s) r)) ≡ with neg (cond b (refused 7) (then (rootRule ((one ⊖ s) ⊗ (one ⊕ s))) (λ (r : Float). arctangentIn s r)))
+        → cond b (refused 7) (then (rootRule ((one ⊖ s) ⊗ (one ⊕ s))) (λ (r : Float). arctangentIn (neg s) r)) ≡ with opposite (cond b (refused 7) (then (rootRule ((one ⊖ s) ⊗ (one ⊕ s))) (λ (r : Float). arctangentIn s r)))
     by-case true = refl
     by-case false = by-root (rootRule ((one ⊖ s) ⊗ (one ⊕ s)))

@@ -3,62 +3,58 @@
 use mathlib.Core.Path.{refl}
 use mathlib.Core.Bool.{false}
 use std.Logic.{_≢_}
-use lib.Ieee.{Float, inf, neg}
+use lib.Ieee.{inf, neg}
 use Rattle.double.specs.rules.Operations.{bits, zero, half, one}
-use Rattle.double.specs.notions.Stated.{minusZero}
+use Rattle.double.specs.notions.Stated.{minusZero, pastOne}
 use Rattle.double.specs.laws.Apart.{apart}
-use Rattle.quantity.specs.notions.Code.{ofFloat, ofAnswer}
+use Rattle.quantity.specs.notions.Code.{ofRad, ofAnswer}
 use Rattle.quantity.specs.notions.Varies.{Varies}
 use Rattle.elementary_arc.specs.rules.Arctangent.{arctangentRule}
 use Rattle.elementary_arc.specs.rules.Arcsine.{arcsineRule}
 use Rattle.elementary_arc.specs.notions.Computed.{computed}
 use Rattle.elementary_arc.specs.notions.Wrong.{oneArgument, minusZeroIsPlus, behindIsAhead, arctangentLetsInfinityIn, arcsineClamped, arcsineLimitOff, arcsineRootRegrouped, arcsineLetsInfinityIn}
 
--- the next double above 1.0
-abbrev pastOne : Float
-pastOne = bits 0x3ff0000000000001
-
 -- ---- arctangent
 
 pub arctangent-varies : Varies (arctangentRule one one) (arctangentRule zero one)
 unfolding computed
-arctangent-varies = record { here = refl; there = refl; apart = apart (ofAnswer ofFloat) refl }
+arctangent-varies = record { here = refl; there = refl; apart = apart (ofAnswer ofRad) refl }
 
 pub one-argument-excluded : oneArgument one (neg one) ≢ arctangentRule one (neg one)
 unfolding computed
-one-argument-excluded = apart (ofAnswer ofFloat) refl
+one-argument-excluded = apart (ofAnswer ofRad) refl
 
 pub minus-zero-is-plus-excluded : minusZeroIsPlus zero minusZero ≢ arctangentRule zero minusZero
 unfolding computed
-minus-zero-is-plus-excluded = apart (ofAnswer ofFloat) refl
+minus-zero-is-plus-excluded = apart (ofAnswer ofRad) refl
 
 pub behind-is-ahead-excluded : behindIsAhead one (neg one) ≢ arctangentRule one (neg one)
 unfolding computed
-behind-is-ahead-excluded = apart (ofAnswer ofFloat) refl
+behind-is-ahead-excluded = apart (ofAnswer ofRad) refl
 
 pub arctangent-lets-infinity-in-excluded : arctangentLetsInfinityIn one (inf false) ≢ arctangentRule one (inf false)
 unfolding computed
-arctangent-lets-infinity-in-excluded = apart (ofAnswer ofFloat) refl
+arctangent-lets-infinity-in-excluded = apart (ofAnswer ofRad) refl
 
 -- ---- arcsine
 
 pub arcsine-varies : Varies (arcsineRule half) (arcsineRule zero)
 unfolding computed
-arcsine-varies = record { here = refl; there = refl; apart = apart (ofAnswer ofFloat) refl }
+arcsine-varies = record { here = refl; there = refl; apart = apart (ofAnswer ofRad) refl }
 
 pub arcsine-clamped-excluded : arcsineClamped pastOne ≢ arcsineRule pastOne
 unfolding computed
-arcsine-clamped-excluded = apart (ofAnswer ofFloat) refl
+arcsine-clamped-excluded = apart (ofAnswer ofRad) refl
 
 pub arcsine-limit-off-excluded : arcsineLimitOff pastOne ≢ arcsineRule pastOne
 unfolding computed
-arcsine-limit-off-excluded = apart (ofAnswer ofFloat) refl
+arcsine-limit-off-excluded = apart (ofAnswer ofRad) refl
 
 pub arcsine-lets-infinity-in-excluded : arcsineLetsInfinityIn (inf false) ≢ arcsineRule (inf false)
 unfolding computed
-arcsine-lets-infinity-in-excluded = apart (ofAnswer ofFloat) refl
+arcsine-lets-infinity-in-excluded = apart (ofAnswer ofRad) refl
 
 -- 0.11
 pub arcsine-root-regrouped-excluded : arcsineRootRegrouped (bits 0x3fbc28f5c28f5c29) ≢ arcsineRule (bits 0x3fbc28f5c28f5c29)
 unfolding computed
-arcsine-root-regrouped-excluded = apart (ofAnswer ofFloat) refl
+arcsine-root-regrouped-excluded = apart (ofAnswer ofRad) refl

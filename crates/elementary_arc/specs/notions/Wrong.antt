@@ -3,7 +3,8 @@ use lib.Ieee.{Float, lt}
 use mathlib.Core.Bool.{cond}
 use Rattle.double.specs.rules.Operations.{bits, zero, one, _⊕_, _⊖_, _⊗_, _⊘_}
 use Rattle.double.specs.rules.Sign.{bearsMinus, negatedIf, size}
-use Rattle.quantity.specs.rules.Angle.{HALF}
+use Rattle.quantity.specs.declared.Rad.{Rad}
+use Rattle.quantity.specs.rules.Angle.{rad, HALF}
 use Rattle.quantity.specs.rules.Answer.{Answer, answered, refused, unless, then}
 use Rattle.quantity.specs.rules.Refusal.{numberRefusal}
 use Rattle.root.specs.rules.Root.{rootRule}
@@ -11,45 +12,45 @@ use Rattle.elementary_arc.specs.rules.Arctangent.{base, turned, arctange
 use Rattle.elementary_arc.specs.rules.Arcsine.{arcsineIn}
 
 -- called alone, with another angle
-abbrev alone : (Float → Float → Float) → Float → Float → Answer Float
-alone angle y x = unless (arctangentRefusal y x) (answered (angle y x))
+abbrev alone : (Float → Float → Float) → Float → Float → Answer Rad
+alone angle y x = unless (arctangentRefusal y x) (answered (rad (angle y x)))
 
 -- of the ratio: the quadrant is lost
-abbrev pub oneArgument : Float → Float → Answer Float
+abbrev pub oneArgument : Float → Float → Answer Rad
 oneArgument = alone (λ (y x : Float). negatedIf (bearsMinus (y ⊘ x)) (base (size y) (size x)))
 
 -- −0 taken as +0
-abbrev pub minusZeroIsPlus : Float → Float → Answer Float
+abbrev pub minusZeroIsPlus : Float → Float → Answer Rad
 minusZeroIsPlus = alone (λ (y x : Float). negatedIf (bearsMinus y) (size (turned (lt x zero) (base (size y) (size x)))))
 
 -- not turned where x bears a minus sign
-abbrev pub behindIsAhead : Float → Float → Answer Float
+abbrev pub behindIsAhead : Float → Float → Answer Rad
 behindIsAhead = alone (λ (y x : Float). negatedIf (bearsMinus y) (base (size y) (size x)))
 
 -- the second argument not tested
-abbrev pub arctangentLetsInfinityIn : Float → Float → Answer Float
+abbrev pub arctangentLetsInfinityIn : Float → Float → Answer Rad
 arctangentLetsInfinityIn y x = unless (numberRefusal y) (arctangentIn y x)
 
 -- the arctangent of (s, root of r)
-abbrev withRoot : Float → Float → Answer Float
+abbrev withRoot : Float → Float → Answer Rad
 withRoot s r = then (rootRule r) (λ (c : Float). arctangentIn s c)
 
 -- clamped where s exceeds 1
-abbrev pub arcsineClamped : Float → Answer Float
+abbrev pub arcsineClamped : Float → Answer Rad
 arcsineClamped s =
-    unless (numberRefusal s) (cond (lt one (size s)) (answered HALF) (withRoot s ((one ⊖ s) ⊗ (one ⊕ s))))
+    unless (numberRefusal s) (cond (lt one (size s)) (answered (rad HALF)) (withRoot s ((one ⊖ s) ⊗ (one ⊕ s))))
 
 -- 7 from one double further on
-abbrev pub arcsineLimitOff : Float → Answer Float
+abbrev pub arcsineLimitOff : Float → Answer Rad
 arcsineLimitOff s =
     unless (numberRefusal s)
     (cond (lt (bits 0x3ff0000000000001) (size s)) (refused 7) (withRoot s ((one ⊖ s) ⊗ (one ⊕ s))))
 
 -- 1 − s·s
-abbrev pub arcsineRootRegrouped : Float → Answer Float
+abbrev pub arcsineRootRegrouped : Float → Answer Rad
 arcsineRootRegrouped s =
     unless (numberRefusal s) (cond (lt one (size s)) (refused 7) (withRoot s (one ⊖ s ⊗ s)))
 
 -- not tested
-abbrev pub arcsineLetsInfinityIn : Float → Answer Float
+abbrev pub arcsineLetsInfinityIn : Float → Answer Rad
 arcsineLetsInfinityIn s = arcsineIn s

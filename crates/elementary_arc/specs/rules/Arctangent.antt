@@ -4,7 +4,8 @@ use mathlib.Core.Bool.{Bool, cond, _&&_}
 use lib.Ieee.{Float, eq, le}
 use Rattle.double.specs.rules.Operations.{bits, zero, one, _⊕_, _⊖_, _⊘_}
 use Rattle.double.specs.rules.Sign.{bearsMinus, negatedIf, size}
-use Rattle.quantity.specs.rules.Angle.{PI, HALF, QUARTER}
+use Rattle.quantity.specs.declared.Rad.{Rad}
+use Rattle.quantity.specs.rules.Angle.{rad, PI, HALF, QUARTER}
 use Rattle.quantity.specs.rules.Answer.{Answer, answered, unless}
 use Rattle.quantity.specs.rules.Refusal.{lower, numberRefusal}
 use Rattle.elementary_arc.specs.rules.Series.{arctangentSeries}
@@ -29,16 +30,16 @@ abbrev pub turned : Bool → Float → Float
 turned minus b = cond minus (PI ⊖ b) b
 
 -- base's size and y's sign
-unfoldable pub arctangentOf : Float → Float → Float
-arctangentOf y x = negatedIf (bearsMinus y) (size (turned (bearsMinus x) (base (size y) (size x))))
+unfoldable pub arctangentOf : Float → Float → Rad
+arctangentOf y x = rad (negatedIf (bearsMinus y) (size (turned (bearsMinus x) (base (size y) (size x)))))
 
 -- as other rules use it: what it refuses they refuse
-unfoldable pub arctangentIn : Float → Float → Answer Float
+unfoldable pub arctangentIn : Float → Float → Answer Rad
 arctangentIn y x = answered (arctangentOf y x)
 
 -- called alone: 1
 abbrev pub arctangentRefusal : Float → Float → ℕ
 arctangentRefusal y x = lower (numberRefusal y) (numberRefusal x)
 
-unfoldable pub arctangentRule : Float → Float → Answer Float
+unfoldable pub arctangentRule : Float → Float → Answer Rad
 arctangentRule y x = unless (arctangentRefusal y x) (arctangentIn y x)

@@ -1,5 +1,5 @@
 -- Each constant of the rules is the decimal or the quotient that the paper gives, rounded once. Assumes nothing.
-use mathlib.Core.Path.{_≡_, refl}
+use mathlib.Core.Path.{refl}
 use mathlib.Core.List.{List, [], _∷_}
 use lib.Ieee.{Float, ofBits, round, add, div}
 use Rattle.double.specs.rules.Operations.{_⊕_, _⊘_}

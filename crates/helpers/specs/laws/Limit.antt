@@ -1,5 +1,4 @@
 -- Folded into one turn, an angle lies from 0 to a full turn. Assumes nothing.
-use mathlib.Core.Path.{_≡_}
 use lib.Dec.{T}
 use lib.Ieee.{Float, binary64, neg, add, le, lt, fits, ofBits}
 use lib.Ieee.Positive.{positive}

@@ -2,35 +2,27 @@
 -- answers a constant, does not meet it. Assumes nothing.
 use mathlib.Core.Path.{refl}
 use std.Logic.{_≢_}
-use lib.Ieee.{Float, neg}
+use lib.Ieee.{neg}
 use Rattle.double.specs.rules.Operations.{bits, zero, half, one}
 use Rattle.double.specs.laws.Apart.{apart}
-use Rattle.quantity.specs.declared.Deg.{Deg}
-use Rattle.quantity.specs.rules.Angle.{PI}
-use Rattle.quantity.specs.rules.Refusal.{epoch, remotest}
+use Rattle.quantity.specs.rules.Angle.{PI, deg, rad}
+use Rattle.quantity.specs.rules.Refusal.{epoch}
 use Rattle.quantity.specs.notions.Code.{ofFloat, ofDeg, ofRad, ofPair, ofAnswer}
 use Rattle.quantity.specs.notions.Varies.{Varies}
-use Rattle.quantity.specs.notions.Stated.{rad}
+use Rattle.quantity.specs.notions.Stated.{later}
 use Rattle.helpers.specs.rules.Time.{julianCentRule}
 use Rattle.helpers.specs.rules.Angle.{degFrmDmsRule, degFrmHmsRule, toRadiansRule, turnInDegrees, limitTo360Rule, limitToTwoPIRule}
 use Rattle.helpers.specs.rules.Earth.{rhoSinCosPhiRule}
 use Rattle.helpers.specs.notions.Computed.{computed}
 use Rattle.helpers.specs.notions.Wrong.{anotherCentury, centuryOfAnyDay, arcIsTime, timeRegrouped, radiansOfNothing, anotherTurn, remainderNotLifted, halfATurn, heightNotOverRadius, roundEarth, latitudeNotReduced, heightNotRefused}
 
-abbrev deg : Float → Deg
-deg x = record { 0 = x }
-
 -- ---- time
 
--- 2488070.0, a century on
-abbrev nextCentury : Float
-nextCentury = bits 0x4142fb8300000000
-
-pub julian-cent-varies : Varies (julianCentRule nextCentury) (julianCentRule epoch)
+pub julian-cent-varies : Varies (julianCentRule later) (julianCentRule epoch)
 unfolding computed
 julian-cent-varies = record { here = refl; there = refl; apart = apart (ofAnswer ofFloat) refl }
 
-pub another-century-excluded : anotherCentury nextCentury ≢ julianCentRule nextCentury
+pub another-century-excluded : anotherCentury later ≢ julianCentRule later
 unfolding computed
 another-century-excluded = apart (ofAnswer ofFloat) refl
 
@@ -106,6 +98,8 @@ unfolding computed
 latitude-not-reduced-excluded = apart (ofAnswer ofPair) refl
 
 -- 1000000.0 metres
-pub height-not-refused-excluded : heightNotRefused (rad zero) remotest ≢ rhoSinCosPhiRule (rad zero) remotest
+-- a height of 1000000.0
+pub height-not-refused-excluded : heightNotRefused (rad zero) (bits 0x412e848000000000)
+    ≢ rhoSinCosPhiRule (rad zero) (bits 0x412e848000000000)
 unfolding computed
 height-not-refused-excluded = apart (ofAnswer ofPair) refl

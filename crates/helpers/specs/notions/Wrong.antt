@@ -3,7 +3,7 @@ use lib.Ieee.{Float}
 use Rattle.double.specs.rules.Operations.{bits, zero, one, _⊕_, _⊖_, _⊗_, _⊘_}
 use Rattle.quantity.specs.declared.Deg.{Deg}
 use Rattle.quantity.specs.declared.Rad.{Rad}
-use Rattle.quantity.specs.rules.Angle.{PI}
+use Rattle.quantity.specs.rules.Angle.{deg, rad, PI}
 use Rattle.quantity.specs.rules.Answer.{Answer, answered, Pair, pair, unless, then}
 use Rattle.quantity.specs.rules.Refusal.{epoch, numberRefusal, dayRefusal, lower, steepRefusal}
 use Rattle.elementary.specs.declared.Folded.{Folded}
@@ -27,20 +27,20 @@ centuryOfAnyDay day = answered (centuryOf day)
 -- ---- degrees, radians and seconds
 
 abbrev pub arcIsTime : Float → Answer Deg
-arcIsTime s = unless (numberRefusal s) (answered (record { 0 = hourArc s }))
+arcIsTime s = unless (numberRefusal s) (answered (deg (hourArc s)))
 
 -- (15·s)/3600
 abbrev pub timeRegrouped : Float → Answer Deg
-timeRegrouped s = unless (numberRefusal s) (answered (record { 0 = degreesOfHour ⊗ s ⊘ secondsOfDegree }))
+timeRegrouped s = unless (numberRefusal s) (answered (deg (degreesOfHour ⊗ s ⊘ secondsOfDegree)))
 
 abbrev pub radiansOfNothing : Deg → Answer Rad
-radiansOfNothing x = unless (numberRefusal (x .0)) (answered (radiansOf (record { 0 = zero })))
+radiansOfNothing x = unless (numberRefusal (x .0)) (answered (radiansOf (deg zero)))
 
 -- ---- one turn
 
 -- degrees folded in another way
 abbrev folded : (Float → Float) → Deg → Answer Deg
-folded fold x = unless (numberRefusal (x .0)) (answered (record { 0 = fold (x .0) }))
+folded fold x = unless (numberRefusal (x .0)) (answered (deg (fold (x .0))))
 
 -- of 400 degrees
 abbrev pub anotherTurn : Deg → Answer Deg
@@ -51,12 +51,12 @@ abbrev pub remainderNotLifted : Deg → Answer Deg
 remainderNotLifted = folded (λ (x : Float). remainder x turnInDegrees)
 
 abbrev pub halfATurn : Rad → Answer Rad
-halfATurn x = unless (numberRefusal (x .0)) (answered (record { 0 = limited (x .0) PI }))
+halfATurn x = unless (numberRefusal (x .0)) (answered (rad (limited (x .0) PI)))
 
 -- ---- the figure of the Earth
 
 -- the reduced latitude, by the ratio of the axes
-abbrev reduced : Float → Rad → (Float → Answer Pair) → Answer Pair
+abbrev reduced : Float → Rad → (Rad → Answer Pair) → Answer Pair
 reduced axes lat = then (arctangentIn (axes ⊗ tangentOf lat) one)
 
 -- both at a place, by the ratio of the axes and the height over the radius in each
@@ -68,14 +68,14 @@ placed axes up out u p =
 abbrev pub heightNotOverRadius : Rad → Float → Answer Pair
 heightNotOverRadius lat height =
     unless (rhoRefusal lat height)
-    (reduced ratio lat (λ (u : Float). placed ratio height (height ⊘ radius) (fold (record { 0 = u })) (fold lat)))
+    (reduced ratio lat (λ (u : Rad). placed ratio height (height ⊘ radius) (fold u) (fold lat)))
 
 -- the axes equal
 abbrev pub roundEarth : Rad → Float → Answer Pair
 roundEarth lat height =
     unless (rhoRefusal lat height)
     (reduced one lat
-    (λ (u : Float). placed one (height ⊘ radius) (height ⊘ radius) (fold (record { 0 = u })) (fold lat)))
+    (λ (u : Rad). placed one (height ⊘ radius) (height ⊘ radius) (fold u) (fold lat)))
 
 -- the latitude itself for u
 abbrev pub latitudeNotReduced : Rad → Float → Answer Pair

@@ -4,6 +4,7 @@ use lib.Ieee.{Float, binary64, rem, lt}
 use Rattle.double.specs.rules.Operations.{bits, zero, _⊕_, _⊗_, _⊘_}
 use Rattle.quantity.specs.declared.Deg.{Deg}
 use Rattle.quantity.specs.declared.Rad.{Rad}
+use Rattle.quantity.specs.rules.Angle.{deg, rad}
 use Rattle.quantity.specs.rules.Answer.{Answer, answered, unless}
 use Rattle.quantity.specs.rules.Refusal.{numberRefusal}
 
@@ -24,10 +25,10 @@ abbrev pub hourArc : Float → Float
 hourArc s = degreesOfHour ⊗ arc s
 
 abbrev pub degFrmDmsRule : Float → Answer Deg
-degFrmDmsRule s = unless (numberRefusal s) (answered (record { 0 = arc s }))
+degFrmDmsRule s = unless (numberRefusal s) (answered (deg (arc s)))
 
 abbrev pub degFrmHmsRule : Float → Answer Deg
-degFrmHmsRule s = unless (numberRefusal s) (answered (record { 0 = hourArc s }))
+degFrmHmsRule s = unless (numberRefusal s) (answered (deg (hourArc s)))
 
 -- PI/180
 abbrev pub degree : Float
@@ -35,7 +36,7 @@ degree = bits 0x3f91df46a2529d39
 
 -- the only way from degrees to radians
 abbrev pub radiansOf : Deg → Rad
-radiansOf x = record { 0 = (x .0) ⊗ degree }
+radiansOf x = rad (x .0 ⊗ degree)
 
 abbrev pub toRadiansRule : Deg → Answer Rad
 toRadiansRule x = unless (numberRefusal (x .0)) (answered (radiansOf x))
@@ -57,10 +58,10 @@ abbrev pub turnInRadians : Float
 turnInRadians = bits 0x401921fb54442d18
 
 abbrev pub within360 : Deg → Deg
-within360 x = record { 0 = limited (x .0) turnInDegrees }
+within360 x = deg (limited (x .0) turnInDegrees)
 
 abbrev pub withinTwoPI : Rad → Rad
-withinTwoPI x = record { 0 = limited (x .0) turnInRadians }
+withinTwoPI x = rad (limited (x .0) turnInRadians)
 
 abbrev pub limitTo360Rule : Deg → Answer Deg
 limitTo360Rule x = unless (numberRefusal (x .0)) (answered (within360 x))

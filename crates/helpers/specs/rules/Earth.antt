@@ -27,7 +27,7 @@ rhoAt u p height =
 -- u = arctangent of (0.99664719·tan φ, 1)
 unfoldable pub rhoIn : Rad → Float → Answer Pair
 rhoIn lat height =
-    then (arctangentIn (ratio ⊗ tangentOf lat) one) (λ (u : Float). rhoAt (fold (record { 0 = u })) (fold lat) height)
+    then (arctangentIn (ratio ⊗ tangentOf lat) one) (λ (u : Rad). rhoAt (fold u) (fold lat) height)
 
 abbrev pub rhoRefusal : Rad → Float → ℕ
 rhoRefusal lat height = lower (steepRefusal lat) (heightRefusal height)

@@ -7,15 +7,11 @@ use native.Mathlib.Numerals.{add-one}
 use native.Mathlib.Omega.{arith}
 use lib.ListN.{length, take, drop, getD, set, length-set}
 use lib.Seq.{take-length}
-
--- after i stores of n: `cur` is the first i of `new`, and `old` from there on
-pub record Row {A : Type 0} (new old cur : List A) (n i : ℕ) : Type 0 where
-  pub room : n ≤ length old
-  pub long : length cur ≡ length old
-  pub is : cur ≡ take i new ++ drop i old
+use Rattle.lent.specs.notions.Rows.{Row}
 
 module _ {A : Type 0} where
-  put : (new old : List A) (i : ℕ) (d : A) → i < length new → i < length old → set (take i new ++ drop i old) i (getD new i d) ≡ take (suc i) new ++ drop (suc i) old
+  put : (new old : List A) (i : ℕ) (d : A) → i < length new → i < length old
+      → set (take i new ++ drop i old) i (getD new i d) ≡ take (suc i) new ++ drop (suc i) old
   put [] old i d h k = absurd (not-suc-le-zero h)
   put (x ∷ xs) [] i d h k = absurd (not-suc-le-zero k)
   put (x ∷ xs) (y ∷ ys) zero d h k = refl
@@ -25,7 +21,8 @@ module _ {A : Type 0} where
     pub start : n ≤ length old → Row new old old n 0
     start h = record { room = h; long = refl; is = refl }
 
-    pub store : (cur : List A) (i : ℕ) (v d : A) → i < n → Row new old cur n i → v ≡ getD new i d → Row new old (set cur i v) n (i + 1)
+    pub store : (cur : List A) (i : ℕ) (v d : A) → i < n → Row new old cur n i → v ≡ getD new i d
+        → Row new old (set cur i v) n (i + 1)
     store cur i v d h r e =
         record {
           room = r .room;
@@ -39,4 +36,6 @@ module _ {A : Type 0} where
 
     pub finish : (cur : List A) (i : ℕ) → i ≡ n → Row new old cur n i → cur ≡ new ++ drop (length new) old
     finish cur i h r =
-        r .is ∙ ap (λ (k : ℕ). take k new ++ drop k old) (h ∙ sym all) ∙ ap (λ (l : List A). l ++ drop (length new) old) (take-length new)
+        r .is
+        ∙ ap (λ (k : ℕ). take k new ++ drop k old) (h ∙ sym all)
+        ∙ ap (λ (l : List A). l ++ drop (length new) old) (take-length new)

@@ -22,9 +22,13 @@ module _ {A : Type 0} where
   upto-same (suc n) f g h = λ i. h zero i ∷ upto-same n (λ (k : ℕ). f (suc k)) (λ (k : ℕ). g (suc k)) (λ (k : ℕ). h (suc k)) i
 
   -- g differs from f at k alone
-  pub set-upto : (n : ℕ) (f g : ℕ → A) (k : ℕ) → k < n → ((j : ℕ) → (j ≡ k → ⊥) → f j ≡ g j) → set (upto n f) k (g k) ≡ upto n g
+  pub set-upto : (n : ℕ) (f g : ℕ → A) (k : ℕ) → k < n → ((j : ℕ) → (j ≡ k → ⊥) → f j ≡ g j)
+      → set (upto n f) k (g k) ≡ upto n g
   set-upto zero f g k h same = absurd (not-suc-le-zero h)
   set-upto (suc n) f g zero h same =
-      ap (λ (l : List A). g zero ∷ l) (upto-same n (λ (j : ℕ). f (suc j)) (λ (j : ℕ). g (suc j)) (λ (j : ℕ). same (suc j) (λ e. omega arith)))
+      ap (λ (l : List A). g zero ∷ l)
+      (upto-same n (λ (j : ℕ). f (suc j)) (λ (j : ℕ). g (suc j)) (λ (j : ℕ). same (suc j) (λ e. omega arith)))
   set-upto (suc n) f g (suc k) h same =
-      λ i. same zero (λ e. omega arith) i ∷ set-upto n (λ (j : ℕ). f (suc j)) (λ (j : ℕ). g (suc j)) k (le-of-suc-le-suc h) (λ (j : ℕ) d. same (suc j) (λ e. d (omega arith))) i
+      let rest =
+      set-upto n (λ (j : ℕ). f (suc j)) (λ (j : ℕ). g (suc j)) k (le-of-suc-le-suc h) (λ (j : ℕ) d. same (suc j) (λ e. d (omega arith))) in
+      λ i. same zero (λ e. omega arith) i ∷ rest i

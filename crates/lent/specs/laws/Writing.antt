@@ -16,7 +16,8 @@ module _ {A : Type 0} where
   length-written (x ∷ old) zero [] = refl
   length-written (x ∷ old) zero (b ∷ t) = ap suc (length-written old zero t)
 
-  joined : (old : List A) (at : ℕ) (t u : List A) (n : ℕ) → n ≡ placeAfter old at t → written (written old at t) n u ≡ written old at (t ++ u)
+  joined : (old : List A) (at : ℕ) (t u : List A) (n : ℕ) → n ≡ placeAfter old at t
+      → written (written old at t) n u ≡ written old at (t ++ u)
   unfolding written
   joined [] at t u n e = refl
   joined (x ∷ old) (suc at) t u zero e = absurd (omega arith)
@@ -71,18 +72,21 @@ module _ {A : Type 0} where
   kept {old} {t} {new} {at} w = ap length (w .text) ∙ length-written old at t
 
   -- a text that has room
-  pub whole : (old : List A) (at : ℕ) (t : List A) → at + length t ≤ length old → written old at t ≡ take at old ++ t ++ drop (at + length t) old
+  pub whole : (old : List A) (at : ℕ) (t : List A) → at + length t ≤ length old
+      → written old at t ≡ take at old ++ t ++ drop (at + length t) old
   unfolding written
   whole [] at [] h = simp (take-nil, drop-nil)
   whole [] at (b ∷ t) h = absurd (omega arith)
   whole (x ∷ old) (suc at) t h =
       ap (λ (l : List A). x ∷ l) (whole old at t (omega arith))
-      ∙ ap (λ (n : ℕ). x ∷ (take at old ++ t ++ drop n (x ∷ old))) (let e : suc (at + length t) ≡ suc at + length t = omega arith in e)
+      ∙ ap (λ (n : ℕ). x ∷ (take at old ++ t ++ drop n (x ∷ old)))
+      (let e : suc (at + length t) ≡ suc at + length t = omega arith in e)
   whole (x ∷ old) zero [] h = refl
   whole (x ∷ old) zero (b ∷ t) h =
       ap (λ (l : List A). b ∷ l) (whole old zero t (omega arith))
       ∙ ap (λ (n : ℕ). b ∷ (t ++ drop n (x ∷ old))) (let e : suc (0 + length t) ≡ 0 + suc (length t) = omega arith in e)
 
   -- a writer's promise fixes what it leaves and the place that it answers
-  pub one-written : {old t new new′ : List A} {at next next′ : ℕ} → Wrote old at t new next → Wrote old at t new′ next′ → (new ≡ new′) × (next ≡ next′)
+  pub one-written : {old t new new′ : List A} {at next next′ : ℕ} → Wrote old at t new next → Wrote old at t new′ next′
+      → (new ≡ new′) × (next ≡ next′)
   one-written w v = (w .text ∙ sym (v .text), w .place ∙ sym (v .place))

@@ -18,7 +18,12 @@ module _ (s : List ℕ) (t : isList s ≡ true) where
   unfolding readRule isPlace
   shows-star i h =
       let p = inside s i h in
-      simp (t, le-leb (i * width) (length s) (omega arith), eq-eqb (i * width % width) 0 (omega arith), lt-ltb (i * width) (length s) (omega arith))
+      simp (
+        t,
+        le-leb (i * width) (length s) (omega arith),
+        eq-eqb (i * width % width) 0 (omega arith),
+        lt-ltb (i * width) (length s) (omega arith),
+      )
       (ap (λ (r : Star). answered (sight r (i * width + width))) (sym (nth-is s i h)))
 
   pub shows-none : readRule s (countOf s * width) ≡ answered none
@@ -26,4 +31,10 @@ module _ (s : List ℕ) (t : isList s ≡ true) where
   shows-none =
       let p = whole s t in
       let end : length s / width * width ≡ length s = omega arith in
-      simp (end, t, le-leb (length s) (length s) (omega arith), eq-eqb (length s % width) 0 (p .1), le-ltb (length s) (length s) (omega arith))
+      simp (
+        end,
+        t,
+        le-leb (length s) (length s) (omega arith),
+        eq-eqb (length s % width) 0 (p .1),
+        le-ltb (length s) (length s) (omega arith),
+      )

@@ -7,8 +7,8 @@ use native.Mathlib.Omega.{arith}
 use lib.ListN.{length, drop, getD}
 use lib.Seq.{getD-drop, drop-cons}
 use native.Mathlib.Numerals.{add-one}
-use Rattle.signed.specs.rules.Signed.{wordOf, signedOf}
-use Rattle.signed.specs.laws.Signed.{signed-word, word-signed, word-small, has-word}
+use Rattle.list_words.specs.rules.Signed.{wordOf, signedOf}
+use Rattle.list_words.specs.laws.Signed.{signed-word, word-signed, word-small, has-word}
 use Rattle.list.specs.rules.Record.{width, wordAt, starAt, wordBytes, wordsBytes, starBytes, Fitting}
 use Rattle.list.specs.rules.Stars.{Bytes}
 use Rattle.list.specs.declared.Star.{Star}
@@ -60,21 +60,28 @@ module _ (a b c d : ℕ) (ha : a < 256) (hb : b < 256) (hc : c < 256) (hd : d < 
 module _ (s : List ℕ) (y : Bytes s) where
   small : (at : ℕ) → wordAt s at < 4294967296
   unfolding wordAt
-  small at = four-small (getD s at 0) (getD s (at + 1) 0) (getD s (at + 2) 0) (getD s (at + 3) 0) (y at) (y (at + 1)) (y (at + 2)) (y (at + 3))
+  small at =
+      four-small (getD s at 0) (getD s (at + 1) 0) (getD s (at + 2) 0) (getD s (at + 3) 0)
+      (y at) (y (at + 1)) (y (at + 2)) (y (at + 3))
 
   next : (at k : ℕ) → at + k < length s → drop (at + k) s ≡ getD s (at + k) 0 ∷ drop (at + (k + 1)) s
-  next at k h = drop-cons s (at + k) 0 h ∙ ap (λ (n : ℕ). getD s (at + k) 0 ∷ drop n s) (let q : suc (at + k) ≡ at + (k + 1) = omega arith in q)
+  next at k h =
+      drop-cons s (at + k) 0 h
+      ∙ ap (λ (n : ℕ). getD s (at + k) 0 ∷ drop n s) (let q : suc (at + k) ≡ at + (k + 1) = omega arith in q)
 
   word-here : (at : ℕ) → at + 4 ≤ length s → wordBytes (wordAt s at) ++ drop (at + 4) s ≡ drop at s
   unfolding wordAt
   word-here at h =
-      four-back (getD s at 0) (getD s (at + 1) 0) (getD s (at + 2) 0) (getD s (at + 3) 0) (y at) (y (at + 1)) (y (at + 2)) (y (at + 3)) (drop (at + 4) s)
+      four-back (getD s at 0) (getD s (at + 1) 0) (getD s (at + 2) 0) (getD s (at + 3) 0)
+      (y at) (y (at + 1)) (y (at + 2)) (y (at + 3)) (drop (at + 4) s)
       ∙ sym
       (drop-cons s at 0 (omega arith)
       ∙ ap (λ (l : List ℕ). getD s at 0 ∷ l)
       (ap (λ (n : ℕ). drop n s) (sym (add-one at))
       ∙ next at 1 (omega arith)
-      ∙ ap (λ (l : List ℕ). getD s (at + 1) 0 ∷ l) (next at 2 (omega arith) ∙ ap (λ (l : List ℕ). getD s (at + 2) 0 ∷ l) (next at 3 (omega arith)))))
+      ∙ ap (λ (l : List ℕ). getD s (at + 1) 0 ∷ l)
+      (next at 2 (omega arith)
+      ∙ ap (λ (l : List ℕ). getD s (at + 2) 0 ∷ l) (next at 3 (omega arith)))))
 
   abbrev wordsFrom : ℕ → ℕ → List ℕ
   wordsFrom zero at = []
@@ -103,7 +110,15 @@ module _ (s : List ℕ) (y : Bytes s) where
 word-drop : (k at : ℕ) (s : List ℕ) → wordAt (drop k s) at ≡ wordAt s (k + at)
 unfolding wordAt
 word-drop k at s =
-    rw (getD-drop k s at 0, getD-drop k s (at + 1) 0, getD-drop k s (at + 2) 0, getD-drop k s (at + 3) 0, ← add-assoc k at 1, ← add-assoc k at 2, ← add-assoc k at 3)
+    rw (
+      getD-drop k s at 0,
+      getD-drop k s (at + 1) 0,
+      getD-drop k s (at + 2) 0,
+      getD-drop k s (at + 3) 0,
+      ← add-assoc k at 1,
+      ← add-assoc k at 2,
+      ← add-assoc k at 3,
+    )
 
 pub star-drop : (k at : ℕ) (s : List ℕ) → starAt (drop k s) at ≡ starAt s (k + at)
 unfolding starAt

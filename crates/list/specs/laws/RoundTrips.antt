@@ -1,5 +1,5 @@
 -- A stored list and its stars say the same: either is had back from the other. Assumes nothing.
-use mathlib.Core.Path.{_≡_, refl, sym, ap, _∙_, subst}
+use mathlib.Core.Path.{_≡_, sym, ap, _∙_, subst}
 use mathlib.Core.List.{List, [], _∷_, _++_}
 use Prim.Native.Nat.{ℕ, zero, suc, _+_, _*_, _/_, _%_, _≤_, _<_}
 use native.Mathlib.Omega.{arith}
@@ -9,6 +9,7 @@ use Rattle.lent.specs.rules.Rows.{upto}
 use Rattle.lent.specs.laws.Upto.{upto-same}
 use Rattle.list.specs.rules.Record.{width, starAt, starBytes}
 use Rattle.list.specs.rules.Stars.{countOf, stars, listBytes, AllFitting, Bytes}
+use Rattle.list.specs.notions.Whole.{Whole}
 use Rattle.list.specs.laws.Record.{length-star, star-back, star-fits, record-here, star-drop}
 use Rattle.list.specs.declared.Star.{Star}
 
@@ -17,7 +18,8 @@ pub stars-cons : (s : List ℕ) → width ≤ length s → stars s ≡ starAt s 
 unfolding stars countOf
 stars-cons s h =
     ap (λ (n : ℕ). upto n (λ (i : ℕ). starAt s (i * width))) more
-    ∙ ap (λ (l : List Star). starAt s 0 ∷ l) (upto-same (countOf (drop width s)) (λ (i : ℕ). starAt s (suc i * width)) (λ (i : ℕ). starAt (drop width s) (i * width)) same)
+    ∙ ap (λ (l : List Star). starAt s 0 ∷ l)
+    (upto-same (countOf (drop width s)) (λ (i : ℕ). starAt s (suc i * width)) (λ (i : ℕ). starAt (drop width s) (i * width)) same)
   where
     more : countOf s ≡ suc (countOf (drop width s))
     more = simp length-drop (omega arith)
@@ -29,29 +31,25 @@ pub stars-nil : (s : List ℕ) → length s < width → stars s ≡ []
 unfolding stars countOf
 stars-nil s h = ap (λ (n : ℕ). upto n (λ (i : ℕ). starAt s (i * width))) (let e : length s / width ≡ 0 = omega arith in e)
 
-pub length-list : (rs : List Star) → length (listBytes rs) ≡ width * length rs
-length-list [] = refl
-length-list (r ∷ rs) = length-append (starBytes r) (listBytes rs) ∙ ap (λ (n : ℕ). n + length (listBytes rs)) (length-star r) ∙ omega (arith, length-list rs)
+length-cons : (r : Star) (rs : List Star) → length (listBytes (r ∷ rs)) ≡ width + length (listBytes rs)
+length-cons r rs = length-append (starBytes r) (listBytes rs) ∙ ap (λ (n : ℕ). n + length (listBytes rs)) (length-star r)
 
 -- stars written are read back
 pub stars-back : (rs : List Star) → AllFitting rs → stars (listBytes rs) ≡ rs
 stars-back [] f = stars-nil [] (omega arith)
 stars-back (r ∷ rs) f =
-    let long : length (starBytes r ++ listBytes rs) ≡ width + length (listBytes rs) = length-append (starBytes r) (listBytes rs) ∙ ap (λ (n : ℕ). n + length (listBytes rs)) (length-star r) in
+    let long = length-cons r rs in
     stars-cons (starBytes r ++ listBytes rs) (omega arith)
     ∙ (λ i. star-back r (listBytes rs) (f .0) i ∷ stars (drop-at (starBytes r) (listBytes rs) width (length-star r) i))
     ∙ ap (λ (l : List Star). r ∷ l) (stars-back rs (f .1))
-
--- bytes read, whole records of them, are written back
-pub record Whole (s : List ℕ) : Type 0 where
-  pub bytes : listBytes (stars s) ≡ s
-  pub fitting : AllFitting (stars s)
 
 bytes-drop : (k : ℕ) (s : List ℕ) → Bytes s → Bytes (drop k s)
 bytes-drop k s y i = rw (getD-drop k s i 0) (y (k + i))
 
 whole-of : (n : ℕ) (s : List ℕ) → length s ≡ n * width → Bytes s → Whole s
-whole-of zero [] h y = record { bytes = ap listBytes (stars-nil [] (omega arith)); fitting = subst AllFitting (sym (stars-nil [] (omega arith))) tt }
+whole-of zero [] h y =
+    let none = stars-nil [] (omega arith) in
+    record { bytes = ap listBytes none; fitting = subst AllFitting (sym none) tt }
 whole-of zero (b ∷ s) h y = absurd (omega arith)
 whole-of (suc n) s h y =
     let e = stars-cons s (omega arith) in
@@ -61,5 +59,6 @@ whole-of (suc n) s h y =
       fitting = subst AllFitting (sym e) (star-fits s y 0, w .fitting);
     }
 
+-- bytes read, whole records of them, are written back
 pub bytes-back : (s : List ℕ) → length s % width ≡ 0 → Bytes s → Whole s
 bytes-back s h y = whole-of (length s / width) s (omega arith) y

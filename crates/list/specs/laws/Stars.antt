@@ -1,6 +1,6 @@
 -- The stars of a stored list: how many, each by its index, and where its record lies. Assumes nothing.
-use mathlib.Core.Path.{_≡_, refl, sym, ap, _∙_}
-use mathlib.Core.Bool.{Bool, true, false, _&&_}
+use mathlib.Core.Path.{_≡_, sym, ap, _∙_}
+use mathlib.Core.Bool.{true}
 use mathlib.Core.List.{List, [], _∷_, _++_}
 use Prim.Native.Nat.{ℕ, _+_, _*_, _%_, _≤_, _<_}
 use native.Mathlib.Numerals.{add-one}
@@ -9,19 +9,16 @@ use lib.Dec.{leb, eqb}
 use lib.ListN.{length, drop, take, List·getD-eq-default}
 use lib.Seq.{drop-cons, take-suc, take-length}
 use borrow.Author.Tests.{leb-true, eqb-true}
+use Rattle.lent.specs.laws.Flags.{both-hold}
 use Rattle.lent.specs.laws.Upto.{length-upto, getD-upto}
 use Rattle.list.specs.rules.Record.{width, starAt}
 use Rattle.list.specs.rules.Stars.{mostStars, isList, countOf, stars, nought, nth}
-
-both : (a b : Bool) → (a && b) ≡ true → (a ≡ true) × (b ≡ true)
-both true b h = (refl, h)
-both false b h = absurd (let z : _≡_ {A = ℕ} 0 1 = cc in omega arith)
 
 -- what a list is
 pub whole : (s : List ℕ) → isList s ≡ true → (length s ≤ width * mostStars) × (length s % width ≡ 0)
 unfolding isList
 whole s h =
-    let p = both (leb (length s) (width * mostStars)) (eqb (length s % width) 0) h in
+    let p = both-hold (leb (length s) (width * mostStars)) (eqb (length s % width) 0) h in
     (leb-true (length s) (width * mostStars) (p .0), eqb-true (length s % width) 0 (p .1))
 
 module _ (s : List ℕ) where

@@ -1,6 +1,6 @@
 -- Wrong variants are excluded: each differs from the rule at the input stated. A rule varies: a library that refuses everything, or
 -- answers a constant, does not meet it. Assumes nothing.
-use Prim.Native.Nat.{ℕ, suc, _+_, _*_}
+use Prim.Native.Nat.{ℕ, suc, _*_}
 use mathlib.Core.Path.{_≡_, refl}
 use mathlib.Core.List.{List, [], _∷_, _++_}
 use std.Logic.{_≢_}
@@ -14,17 +14,11 @@ use Rattle.lent.specs.rules.Rows.{upto}
 use Rattle.list.specs.declared.Star.{Star}
 use Rattle.list.specs.rules.Record.{width, turn, inRange}
 use Rattle.list.specs.rules.Stars.{mostStars, isList, countOf}
-use Rattle.list.specs.rules.Reader.{Sight, sight, none, readRule}
-use Rattle.list.specs.rules.Find.{Entry, findRule}
+use Rattle.list.specs.rules.Reader.{readRule}
+use Rattle.list.specs.rules.Find.{findRule}
+use Rattle.list.specs.notions.Code.{ofSight, ofEntry}
 use Rattle.list.specs.notions.Computed.{computed}
 use Rattle.list.specs.notions.Wrong.{wholeTurnInRange, oneStarTooMany, partRecordsCounted, endRefused, bigEndianRead, lastNumberFound, nineBeforeTen}
-
-abbrev ofSight : Sight → ℕ
-ofSight (sight r next) = next + 65536 * suc (r .number)
-ofSight none = 0
-
-abbrev ofEntry : Entry → ℕ
-ofEntry e = e .index
 
 -- records of zeros, and the record of a star with the number 1
 abbrev zeros : ℕ → List ℕ

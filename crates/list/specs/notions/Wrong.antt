@@ -6,7 +6,7 @@ use lib.Dec.{eqb, leb, ltb}
 use lib.IntN.{natAbs}
 use lib.ListN.{length, getD}
 use Rattle.quantity.specs.rules.Answer.{Answer, answered, refused}
-use Rattle.signed.specs.rules.Signed.{signedOf}
+use Rattle.list_words.specs.rules.Signed.{signedOf}
 use Rattle.list.specs.declared.Star.{Star}
 use Rattle.list.specs.rules.Record.{width, starAt, turn, quarter}
 use Rattle.list.specs.rules.Stars.{mostStars, isList, stars, nth}

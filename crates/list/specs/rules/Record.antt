@@ -5,7 +5,7 @@ use mathlib.Core.List.{List, [], _∷_, _++_}
 use lib.Dec.{ltb, leb}
 use lib.IntN.{natAbs}
 use lib.ListN.{getD}
-use Rattle.signed.specs.rules.Signed.{wordOf, signedOf, HasWord}
+use Rattle.list_words.specs.rules.Signed.{wordOf, signedOf, HasWord}
 use Rattle.list.specs.declared.Star.{Star}
 
 -- bytes of a record

@@ -4,8 +4,8 @@ use mathlib.Core.Path.{sym, subst}
 use Prim.Native.Nat.{_≤_}
 use lib.ListN.{length}
 use lib.Seq.{length-take-le}
-use Rattle.sheet.specs.rules.Render.{bytesOf}
-use Rattle.sheet.specs.declared.Written.{Written}
+use Rattle.text_sheet.specs.rules.Render.{bytesOf}
+use Rattle.text_sheet.specs.declared.Written.{Written}
 use Rattle.double.specs.laws.Calls.{asks-nothing}
 use Rattle.listcases.proofs.sheet_case.Statement.{statement}
 use Rattle.listcases.proofs.sheet_case.Tie as tie

@@ -2,6 +2,7 @@
 use lib.Ieee.{Float}
 use Rattle.quantity.specs.declared.Rad.{Rad}
 use Rattle.quantity.specs.declared.EqPoint.{EqPoint}
+use Rattle.quantity.specs.rules.Angle.{rad}
 use Rattle.quantity.specs.rules.Answer.{Answer, answered, Pair, pair, unless}
 use Rattle.quantity.specs.rules.Refusal.{lower, angleRefusal, latitudeRefusal}
 use Rattle.nutation_table.specs.rules.Day.{nutationOf}
@@ -9,12 +10,12 @@ use Rattle.nutation.specs.rules.Point.{nutationInEqCoordsIn}
 
 -- the day not tested
 abbrev pub anyDayAnswered : Float → Answer Pair
-anyDayAnswered day = answered (pair (nutationOf day .long) (nutationOf day .oblq))
+anyDayAnswered day = answered (pair (nutationOf day .long .0) (nutationOf day .oblq .0))
 
 -- tested as a latitude only
 abbrev pub declinationNotSteep : EqPoint → Rad → Rad → Rad → Answer Pair
 declinationNotSteep p long oblq tru =
     unless
-    (lower (lower (angleRefusal (record { 0 = p .asc })) (latitudeRefusal (record { 0 = p .dec })))
+    (lower (lower (angleRefusal (rad (p .asc))) (latitudeRefusal (rad (p .dec))))
     (lower (angleRefusal long) (lower (angleRefusal oblq) (angleRefusal tru))))
-    (answered (pair (nutationInEqCoordsIn p long oblq tru .asc) (nutationInEqCoordsIn p long oblq tru .dec)))
+    (answered (pair (nutationInEqCoordsIn p long oblq tru .asc .0) (nutationInEqCoordsIn p long oblq tru .dec .0)))

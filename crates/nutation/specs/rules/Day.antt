@@ -5,4 +5,4 @@ use Rattle.quantity.specs.rules.Refusal.{dayRefusal}
 use Rattle.nutation_table.specs.rules.Day.{nutationOf}
 
 unfoldable pub nutationRule : Float → Answer Pair
-nutationRule day = unless (dayRefusal day) (answered (pair (nutationOf day .long) (nutationOf day .oblq)))
+nutationRule day = unless (dayRefusal day) (answered (pair (nutationOf day .long .0) (nutationOf day .oblq .0)))

@@ -1,10 +1,10 @@
 -- `nutation_table::nutation_on` meets its contract. Assumes nothing.
 use Rattle.double.specs.laws.Calls.{asks-nothing}
 use mathlib.Core.Path.{ap, _∙_}
-use Rattle.nutation_rows.specs.declared.Moon.{Moon}
-use Rattle.nutation_rows.specs.rules.Arguments.{moonOf}
+use Rattle.nutation_args.specs.declared.Moon.{Moon}
+use Rattle.nutation_args.specs.rules.Arguments.{moonOf}
 use Rattle.nutation_table.specs.rules.Rows.{rows}
-use Rattle.nutation_rows.specs.rules.Sum.{summed, none, converted}
+use Rattle.nutation_args.specs.rules.Sum.{summed, none, converted}
 use Rattle.nutation_table.specs.rules.Day.{nutationOf}
 use Rattle.nutation_table.proofs.nutation_on.Statement.{statement}
 use Rattle.nutation_table.proofs.nutation_on.Tie as tie

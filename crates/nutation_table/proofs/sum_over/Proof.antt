@@ -8,15 +8,15 @@ use native.Mathlib.Omega.{arith}
 use native.Mathlib.Numerals.{add-one}
 use lib.ListN.{length, getD, drop}
 use lib.Seq.{drop-cons, drop-length}
-use Rattle.nutation_rows.specs.declared.Row.{Row}
-use Rattle.nutation_rows.specs.declared.Moon.{Moon}
-use Rattle.nutation_rows.specs.declared.Nutations.{Nutations}
-use Rattle.nutation_rows.specs.rules.Sum.{summed, withRow}
+use Rattle.nutation_args.specs.declared.Row.{Row}
+use Rattle.nutation_args.specs.declared.Moon.{Moon}
+use Rattle.nutation_args.specs.declared.Sums.{Sums}
+use Rattle.nutation_args.specs.rules.Sum.{summed, withRow}
 use Rattle.nutation_table.proofs.sum_over.Statement.{statement}
 use Rattle.nutation_table.proofs.sum_over.Tie as tie
 
 -- one row more
-next : (xs : List Row) (i : ℕ) (d : Row) (a : Moon) (s : Nutations) → i < length xs → summed (drop (i + 1) xs) a (withRow (getD xs i d) a s) ≡ summed (drop i xs) a s
+next : (xs : List Row) (i : ℕ) (d : Row) (a : Moon) (s : Sums) → i < length xs → summed (drop (i + 1) xs) a (withRow (getD xs i d) a s) ≡ summed (drop i xs) a s
 unfolding summed
 next xs i d a s h = rw (drop-cons xs i d, add-one)
 

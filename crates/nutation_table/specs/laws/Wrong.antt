@@ -5,14 +5,14 @@ use std.Logic.{_≢_}
 use lib.Ieee.{Float}
 use Rattle.double.specs.rules.Operations.{bits}
 use Rattle.double.specs.laws.Apart.{apart}
-use Rattle.quantity.specs.notions.Code.{ofFloat}
-use Rattle.nutation_rows.specs.declared.Nutations.{Nutations}
-use Rattle.nutation_rows.specs.notions.Computed.{computed}
+use Rattle.quantity.specs.notions.Code.{ofRad}
+use Rattle.nutation_args.specs.declared.Nutations.{Nutations}
+use Rattle.nutation_args.specs.notions.Computed.{computed}
 use Rattle.nutation_table.specs.rules.Day.{nutationOf}
 use Rattle.nutation_table.specs.notions.Wrong.{oneCoefficientChanged, twoRowsTraded}
 
 abbrev ofLong : Nutations → ℕ
-ofLong n = ofFloat (n .long)
+ofLong n = ofRad (n .long)
 
 -- 2451977.0, one of the few days on which the order of two rows counts
 abbrev day : Float

@@ -4,10 +4,10 @@ use lib.IntN.{pos, negℤ}
 use lib.Ieee.{Float}
 use lib.ListN.{take, drop}
 use Rattle.helpers.specs.rules.Time.{centuryOf}
-use Rattle.nutation_rows.specs.declared.Row.{Row}
-use Rattle.nutation_rows.specs.declared.Nutations.{Nutations}
-use Rattle.nutation_rows.specs.rules.Arguments.{moonOf}
-use Rattle.nutation_rows.specs.rules.Sum.{summed, none, converted}
+use Rattle.nutation_args.specs.declared.Row.{Row}
+use Rattle.nutation_args.specs.declared.Nutations.{Nutations}
+use Rattle.nutation_args.specs.rules.Arguments.{moonOf}
+use Rattle.nutation_args.specs.rules.Sum.{summed, none, converted}
 use Rattle.nutation_table.specs.rules.Rows.{rows}
 
 abbrev over : List Row → Float → Nutations

@@ -3,7 +3,7 @@
 use mathlib.Core.List.{List, [], _∷_}
 use Prim.Native.Nat.{ℕ}
 use lib.IntN.{ℤ, pos, negℤ}
-use Rattle.nutation_rows.specs.declared.Row.{Row}
+use Rattle.nutation_args.specs.declared.Row.{Row}
 
 abbrev p : ℕ → ℤ
 p n = pos n

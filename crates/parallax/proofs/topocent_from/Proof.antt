@@ -2,7 +2,7 @@
 use borrow.Author.Needs.{needs}
 use Rattle.double.specs.laws.Calls.{asks-nothing}
 use mathlib.Core.Path.{refl}
-use Rattle.quantity.specs.laws.Answer.{then-answered, then-refused}
+use Rattle.quantity.specs.laws.Answer.{then-radians-answered, then-radians-refused}
 use Rattle.parallax.specs.rules.Equatorial.{topocentFrom}
 use Rattle.parallax.proofs.topocent_from.Statement.{statement}
 use Rattle.parallax.proofs.topocent_from.Tie as tie
@@ -15,11 +15,13 @@ enum-known-n c = search needs
 
 returns : tie.Need-returns
 unfolding topocentFrom
-returns c = then-answered _ (c .before .before .before .topocent-dec .ensures) (c .before .dec .given .1) refl
+returns c =
+    let dec = c .before .before .before in
+    then-radians-answered _ (dec .before .before .topocent-dec .ensures) (dec .dec .given .1) refl
 
 returns-2 : tie.Need-returns-2
 unfolding topocentFrom
-returns-2 c = then-refused _ (c .before .before .before .topocent-dec .ensures) (c .before .n .given .1)
+returns-2 c = then-radians-refused _ (c .before .before .before .topocent-dec .ensures) (c .before .n .given .1)
 
 pub topocent-from-spec : {M : Type 1} → statement M
 topocent-from-spec = tie.close (tie.spec asks-nothing enum-known-dec enum-known-n returns returns-2)

@@ -1,5 +1,5 @@
 -- Each number of the rules is the decimal that its name spells, rounded once. Assumes nothing.
-use mathlib.Core.Path.{_≡_, refl}
+use mathlib.Core.Path.{refl}
 use mathlib.Core.List.{List, [], _∷_}
 use lib.Ieee.{Float, ofBits, round}
 use Rattle.double.specs.rules.Table.{Row, _is_, Agrees, decimal}

@@ -6,13 +6,12 @@ use lib.Ieee.{neg}
 use Rattle.double.specs.rules.Operations.{zero, half, one, two}
 use Rattle.double.specs.laws.Apart.{apart}
 use Rattle.quantity.specs.declared.EqPoint.{EqPoint}
-use Rattle.quantity.specs.declared.GeographPoint.{GeographPoint}
-use Rattle.quantity.specs.rules.Angle.{HALF}
-use Rattle.quantity.specs.notions.Code.{ofFloat, ofPoint, ofAnswer}
+use Rattle.quantity.specs.notions.Code.{ofRad, ofPoint, ofAnswer}
 use Rattle.quantity.specs.notions.Varies.{Varies}
-use Rattle.quantity.specs.notions.Stated.{r0, r½}
+use Rattle.quantity.specs.notions.Stated.{r0, r½, origin}
 use Rattle.parallax.specs.rules.Horizontal.{eqHzParallaxRule}
 use Rattle.parallax.specs.rules.Equatorial.{topocentEqCoordsRule}
+use Rattle.parallax.specs.notions.Stated.{equator, polar}
 use Rattle.parallax.specs.notions.Computed.{computed}
 use Rattle.parallax.specs.notions.Wrong.{anotherParallax, distanceMultiplies, distanceNotRefused, changeNotAdded, sineOfParallaxIsCosine, observerNotSteep}
 
@@ -20,37 +19,27 @@ use Rattle.parallax.specs.notions.Wrong.{anotherParallax, distanceMultip
 
 pub eq-hz-parallax-varies : Varies (eqHzParallaxRule one) (eqHzParallaxRule two)
 unfolding computed
-eq-hz-parallax-varies = record { here = refl; there = refl; apart = apart (ofAnswer ofFloat) refl }
+eq-hz-parallax-varies = record { here = refl; there = refl; apart = apart (ofAnswer ofRad) refl }
 
 pub another-parallax-excluded : anotherParallax one ≢ eqHzParallaxRule one
 unfolding computed
-another-parallax-excluded = apart (ofAnswer ofFloat) refl
+another-parallax-excluded = apart (ofAnswer ofRad) refl
 
 pub distance-multiplies-excluded : distanceMultiplies two ≢ eqHzParallaxRule two
 unfolding computed
-distance-multiplies-excluded = apart (ofAnswer ofFloat) refl
+distance-multiplies-excluded = apart (ofAnswer ofRad) refl
 
 pub distance-not-refused-excluded : distanceNotRefused (neg one) ≢ eqHzParallaxRule (neg one)
 unfolding computed
-distance-not-refused-excluded = apart (ofAnswer ofFloat) refl
+distance-not-refused-excluded = apart (ofAnswer ofRad) refl
 
 -- ---- equatorial coordinates
 
--- on the equator, right ascension 0.0 and 0.5
-abbrev p0 : EqPoint
-p0 = record { asc = zero; dec = zero }
-
+-- on the equator, right ascension 0.5
 abbrev p½ : EqPoint
 p½ = record { asc = half; dec = zero }
 
--- longitude 0.0, on the equator and at the pole
-abbrev equator : GeographPoint
-equator = record { long = zero; lat = zero }
-
-abbrev northPole : GeographPoint
-northPole = record { long = zero; lat = HALF }
-
-pub topocent-eq-coords-varies : Varies (topocentEqCoordsRule p½ r½ equator zero r0) (topocentEqCoordsRule p0 r½ equator zero r0)
+pub topocent-eq-coords-varies : Varies (topocentEqCoordsRule p½ r½ equator zero r0) (topocentEqCoordsRule origin r½ equator zero r0)
 unfolding computed
 topocent-eq-coords-varies = record { here = refl; there = refl; apart = apart (ofAnswer ofPoint) refl }
 
@@ -62,6 +51,6 @@ pub sine-of-parallax-is-cosine-excluded : sineOfParallaxIsCosine p½ r0 equator 
 unfolding computed
 sine-of-parallax-is-cosine-excluded = apart (ofAnswer ofPoint) refl
 
-pub observer-not-steep-excluded : observerNotSteep p0 r0 northPole zero r0 ≢ topocentEqCoordsRule p0 r0 northPole zero r0
+pub observer-not-steep-excluded : observerNotSteep origin r0 polar zero r0 ≢ topocentEqCoordsRule origin r0 polar zero r0
 unfolding computed
 observer-not-steep-excluded = apart (ofAnswer ofPoint) refl

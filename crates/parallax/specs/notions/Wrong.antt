@@ -4,6 +4,7 @@ use Rattle.double.specs.rules.Operations.{bits, zero, _⊗_, _⊘_}
 use Rattle.quantity.specs.declared.Rad.{Rad}
 use Rattle.quantity.specs.declared.EqPoint.{EqPoint}
 use Rattle.quantity.specs.declared.GeographPoint.{GeographPoint}
+use Rattle.quantity.specs.rules.Angle.{deg, rad}
 use Rattle.quantity.specs.rules.Answer.{Answer, Pair, first, second, unless, with, then}
 use Rattle.quantity.specs.rules.Refusal.{lower, latitudeRefusal, distanceRefusal}
 use Rattle.elementary.specs.rules.Fold.{fold}
@@ -18,15 +19,15 @@ use Rattle.parallax.specs.rules.Equatorial.{topocentAt, topocentIn, topo
 -- ---- horizontal parallax
 
 -- 8.8 for 8.794
-abbrev pub anotherParallax : Float → Answer Float
+abbrev pub anotherParallax : Float → Answer Rad
 anotherParallax dist =
     unless (distanceRefusal dist)
-    (arcsineIn (sineOf (radiansOf (record { 0 = arc (bits 0x402199999999999a) })) ⊘ dist))
+    (arcsineIn (sineOf (radiansOf (deg (arc (bits 0x402199999999999a)))) ⊘ dist))
 
-abbrev pub distanceMultiplies : Float → Answer Float
+abbrev pub distanceMultiplies : Float → Answer Rad
 distanceMultiplies dist = unless (distanceRefusal dist) (arcsineIn (sunParallax ⊗ dist))
 
-abbrev pub distanceNotRefused : Float → Answer Float
+abbrev pub distanceNotRefused : Float → Answer Rad
 distanceNotRefused dist = eqHzParallaxIn dist
 
 -- ---- equatorial coordinates
@@ -39,13 +40,13 @@ changeNotAdded p parallax place height sidereal =
 abbrev pub sineOfParallaxIsCosine : EqPoint → Rad → GeographPoint → Float → Rad → Answer EqPoint
 sineOfParallaxIsCosine p parallax place height sidereal =
     unless (topocentRefusal p parallax place height sidereal)
-    (then (rhoIn (record { 0 = place .lat }) height)
+    (then (rhoIn (rad (place .lat)) height)
     (λ (rho : Pair). topocentAt (record { «rho_sin» = first rho; «rho_cos» = second rho; parallax = cosineOf parallax })
-    (fold (hrAnglFrmObserverLong sidereal (record { 0 = place .long }) (record { 0 = p .asc })))
-    (fold (record { 0 = p .dec })) (p .asc)))
+    (fold (hrAnglFrmObserverLong sidereal (rad (place .long)) (rad (p .asc))))
+    (fold (rad (p .dec))) (rad (p .asc))))
 
 -- his latitude tested as a declination
 abbrev pub observerNotSteep : EqPoint → Rad → GeographPoint → Float → Rad → Answer EqPoint
 observerNotSteep p parallax place height sidereal =
     let rest = topocentRefusal p parallax (record { long = place .long; lat = zero }) height sidereal in
-    unless (lower rest (latitudeRefusal (record { 0 = place .lat }))) (topocentIn p parallax place height sidereal)
+    unless (lower rest (latitudeRefusal (rad (place .lat)))) (topocentIn p parallax place height sidereal)

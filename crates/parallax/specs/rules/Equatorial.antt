@@ -6,6 +6,7 @@ use Rattle.double.specs.rules.Operations.{_⊕_, _⊖_, _⊗_}
 use Rattle.quantity.specs.declared.Rad.{Rad}
 use Rattle.quantity.specs.declared.EqPoint.{EqPoint}
 use Rattle.quantity.specs.declared.GeographPoint.{GeographPoint}
+use Rattle.quantity.specs.rules.Angle.{rad}
 use Rattle.quantity.specs.rules.Answer.{Answer, answered, Pair, first, second, unless, then}
 use Rattle.quantity.specs.rules.Refusal.{lower, angleRefusal, latitudeRefusal}
 use Rattle.elementary.specs.declared.Folded.{Folded}
@@ -24,29 +25,29 @@ unfoldable pub ahead : Centre → Folded → Folded → Float
 ahead c h d = foldedCosine d ⊖ c .«rho_cos» ⊗ c .parallax ⊗ foldedCosine h
 
 -- x is the second argument of both arctangents
-unfoldable pub topocentDec : Centre → Folded → Float → Float → Answer Float
+unfoldable pub topocentDec : Centre → Folded → Rad → Float → Answer Rad
 topocentDec c d change x =
-    arctangentIn ((foldedSine d ⊖ c .«rho_sin» ⊗ c .parallax) ⊗ cosineOf (record { 0 = change })) x
+    arctangentIn ((foldedSine d ⊖ c .«rho_sin» ⊗ c .parallax) ⊗ cosineOf change) x
 
-unfoldable pub topocentFrom : Centre → Folded → Float → Float → Float → Answer EqPoint
+unfoldable pub topocentFrom : Centre → Folded → Rad → Rad → Float → Answer EqPoint
 topocentFrom c d asc change x =
-    then (topocentDec c d change x) (λ (dec : Float). answered (record { asc = asc ⊕ change; dec = dec }))
+    then (topocentDec c d change x) (λ (dec : Rad). answered (record { asc = asc .0 ⊕ change .0; dec = dec .0 }))
 
-unfoldable pub topocentAt : Centre → Folded → Folded → Float → Answer EqPoint
+unfoldable pub topocentAt : Centre → Folded → Folded → Rad → Answer EqPoint
 topocentAt c h d asc =
     let x = ahead c h d in
-    then (arctangentIn (eastward c h) x) (λ (change : Float). topocentFrom c d asc change x)
+    then (arctangentIn (eastward c h) x) (λ (change : Rad). topocentFrom c d asc change x)
 
 unfoldable pub topocentIn : EqPoint → Rad → GeographPoint → Float → Rad → Answer EqPoint
 topocentIn p parallax place height sidereal =
-    then (rhoIn (record { 0 = place .lat }) height)
+    then (rhoIn (rad (place .lat)) height)
     (λ (rho : Pair). topocentAt (centreOf (first rho) (second rho) parallax)
-    (fold (hrAnglFrmObserverLong sidereal (record { 0 = place .long }) (record { 0 = p .asc })))
-    (fold (record { 0 = p .dec })) (p .asc))
+    (fold (hrAnglFrmObserverLong sidereal (rad (place .long)) (rad (p .asc))))
+    (fold (rad (p .dec))) (rad (p .asc)))
 
 abbrev pub topocentRefusal : EqPoint → Rad → GeographPoint → Float → Rad → ℕ
 topocentRefusal p parallax place height sidereal =
-    lower (lower (angleRefusal (record { 0 = p .asc })) (latitudeRefusal (record { 0 = p .dec })))
+    lower (lower (angleRefusal (rad (p .asc))) (latitudeRefusal (rad (p .dec))))
     (observerRefusal parallax place height sidereal)
 
 abbrev pub topocentEqCoordsRule : EqPoint → Rad → GeographPoint → Float → Rad → Answer EqPoint

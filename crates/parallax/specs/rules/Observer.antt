@@ -3,6 +3,7 @@ use Prim.Native.Nat.{ℕ}
 use lib.Ieee.{Float}
 use Rattle.quantity.specs.declared.Rad.{Rad}
 use Rattle.quantity.specs.declared.GeographPoint.{GeographPoint}
+use Rattle.quantity.specs.rules.Angle.{rad}
 use Rattle.quantity.specs.rules.Refusal.{lower, angleRefusal, steepRefusal, heightRefusal}
 use Rattle.elementary.specs.rules.Sine.{sineOf}
 use Rattle.parallax.specs.declared.Centre.{Centre}
@@ -15,4 +16,4 @@ centreOf rhoSin rhoCos parallax = record { «rho_sin» = rhoSin; «rho_cos» = r
 unfoldable pub observerRefusal : Rad → GeographPoint → Float → Rad → ℕ
 observerRefusal parallax place height sidereal =
     lower (lower (angleRefusal parallax) (angleRefusal sidereal))
-    (lower (lower (angleRefusal (record { 0 = place .long })) (steepRefusal (record { 0 = place .lat }))) (heightRefusal height))
+    (lower (lower (angleRefusal (rad (place .long))) (steepRefusal (rad (place .lat)))) (heightRefusal height))

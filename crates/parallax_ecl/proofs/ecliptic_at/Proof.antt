@@ -1,7 +1,7 @@
 -- `parallax_ecl::ecliptic_at` meets its contract. Assumes nothing.
 use borrow.Author.Needs.{needs}
 use Rattle.double.specs.laws.Calls.{asks-nothing}
-use Rattle.quantity.specs.laws.Answer.{then-answered, then-refused}
+use Rattle.quantity.specs.laws.Answer.{then-radians-answered, then-radians-refused}
 use Rattle.parallax_ecl.specs.rules.Ecliptic.{eclipticAt}
 use Rattle.parallax_ecl.proofs.ecliptic_at.Statement.{statement}
 use Rattle.parallax_ecl.proofs.ecliptic_at.Tie as tie
@@ -21,14 +21,14 @@ unfolding eclipticAt
 returns-2 c =
     let long = c .before .before .before .before in
     rw (← long .before .before .nearby .ensures, long .before .if1 .left)
-    (then-answered _ (long .long-top .ensures) (c .before .before .long .given .1) (c .ecliptic-along .ensures))
+    (then-radians-answered _ (long .long-top .ensures) (c .before .before .long .given .1) (c .ecliptic-along .ensures))
 
 returns-3 : tie.Need-returns-3
 unfolding eclipticAt
 returns-3 c =
     let long = c .before .before .before in
     rw (← long .before .before .nearby .ensures, long .before .if1 .left)
-    (then-refused _ (long .long-top .ensures) (c .before .k .given .1))
+    (then-radians-refused _ (long .long-top .ensures) (c .before .k .given .1))
 
 pub ecliptic-at-spec : {M : Type 1} → statement M
 ecliptic-at-spec = tie.close (tie.spec asks-nothing returns asks-nothing enum-known-long asks-nothing enum-known-k returns-2 returns-3)

@@ -1,7 +1,7 @@
 -- `parallax_ecl::ecliptic_from` meets its contract. Assumes nothing.
 use borrow.Author.Needs.{needs}
 use Rattle.double.specs.laws.Calls.{asks-nothing}
-use Rattle.quantity.specs.laws.Answer.{then-answered, then-refused}
+use Rattle.quantity.specs.laws.Answer.{then-radians-answered, then-radians-refused}
 use Rattle.parallax_ecl.specs.rules.Ecliptic.{eclipticFrom}
 use Rattle.parallax_ecl.proofs.ecliptic_from.Statement.{statement}
 use Rattle.parallax_ecl.proofs.ecliptic_from.Tie as tie
@@ -14,11 +14,11 @@ enum-known-k c = search needs
 
 returns : tie.Need-returns
 unfolding eclipticFrom
-returns c = then-answered _ (c .before .before .before .before .semidiameter-in .ensures) (c .before .before .s .given .1) (rw (c .within-two-PI .ensures))
+returns c = then-radians-answered _ (c .before .before .before .before .semidiameter-in .ensures) (c .before .before .s .given .1) (rw (c .within-two-PI .ensures))
 
 returns-2 : tie.Need-returns-2
 unfolding eclipticFrom
-returns-2 c = then-refused _ (c .before .before .before .semidiameter-in .ensures) (c .before .k .given .1)
+returns-2 c = then-radians-refused _ (c .before .before .before .semidiameter-in .ensures) (c .before .k .given .1)
 
 pub ecliptic-from-spec : {M : Type 1} → statement M
 ecliptic-from-spec = tie.close (tie.spec asks-nothing enum-known-s asks-nothing enum-known-k returns returns-2)

@@ -5,10 +5,10 @@ use std.Logic.{_≢_}
 use Rattle.double.specs.rules.Operations.{zero, half}
 use Rattle.double.specs.laws.Apart.{apart}
 use Rattle.quantity.specs.declared.EclPoint.{EclPoint}
-use Rattle.quantity.specs.declared.GeographPoint.{GeographPoint}
 use Rattle.quantity.specs.notions.Code.{ofTriple, ofAnswer}
 use Rattle.quantity.specs.notions.Varies.{Varies}
 use Rattle.quantity.specs.notions.Stated.{r0}
+use Rattle.parallax.specs.notions.Stated.{equator}
 use Rattle.parallax_ecl.specs.rules.Ecliptic.{topopcentEclCoordsRule}
 use Rattle.parallax_ecl.specs.notions.Computed.{computed}
 use Rattle.parallax_ecl.specs.notions.Wrong.{longitudeIsLatitude}
@@ -19,9 +19,6 @@ p0 = record { long = zero; lat = zero }
 
 abbrev p½ : EclPoint
 p½ = record { long = half; lat = zero }
-
-abbrev equator : GeographPoint
-equator = record { long = zero; lat = zero }
 
 pub topopcent-ecl-coords-varies : Varies (topopcentEclCoordsRule p½ r0 equator zero r0 r0 r0) (topopcentEclCoordsRule p0 r0 equator zero r0 r0 r0)
 unfolding computed

@@ -7,6 +7,7 @@ use Rattle.double.specs.rules.Operations.{zero, _⊕_, _⊖_, _⊗_, _⊘_}
 use Rattle.quantity.specs.declared.Rad.{Rad}
 use Rattle.quantity.specs.declared.EclPoint.{EclPoint}
 use Rattle.quantity.specs.declared.GeographPoint.{GeographPoint}
+use Rattle.quantity.specs.rules.Angle.{rad}
 use Rattle.quantity.specs.rules.Answer.{Answer, answered, refused, Pair, first, second, Triple, triple, unless, then}
 use Rattle.quantity.specs.rules.Refusal.{lower, angleRefusal, latitudeRefusal}
 use Rattle.elementary.specs.declared.Folded.{Folded}
@@ -23,47 +24,47 @@ use Rattle.parallax.specs.rules.Observer.{centreOf, observerRefusal}
 unfoldable pub nearby : Centre → Folded → Folded → Folded → Float
 nearby c l b s = foldedCosine l ⊗ foldedCosine b ⊖ c .«rho_cos» ⊗ c .parallax ⊗ foldedCosine s
 
-unfoldable pub longTop : Centre → Folded → Folded → Folded → Folded → Float → Answer Float
+unfoldable pub longTop : Centre → Folded → Folded → Folded → Folded → Float → Answer Rad
 longTop c l b s e n =
     arctangentIn
     (foldedSine l ⊗ foldedCosine b ⊖ c .parallax ⊗ (c .«rho_sin» ⊗ foldedSine e ⊕ c .«rho_cos» ⊗ foldedCosine e ⊗ foldedSine s)) n
 
-unfoldable pub latTop : Centre → Folded → Folded → Folded → Float → Float → Answer Float
+unfoldable pub latTop : Centre → Folded → Folded → Folded → Float → Float → Answer Rad
 latTop c b s e cosLong n =
     arctangentIn
     (cosLong ⊗ (foldedSine b ⊖ c .parallax ⊗ (c .«rho_sin» ⊗ foldedCosine e ⊖ c .«rho_cos» ⊗ foldedSine e ⊗ foldedSine s))) n
 
-unfoldable pub semidiameterIn : Float → Float → Rad → Float → Answer Float
+unfoldable pub semidiameterIn : Float → Rad → Rad → Float → Answer Rad
 semidiameterIn cosLong lat semidiameter n =
-    arcsineIn (cosLong ⊗ cosineOf (record { 0 = lat }) ⊗ sineOf semidiameter ⊘ n)
+    arcsineIn (cosLong ⊗ cosineOf lat ⊗ sineOf semidiameter ⊘ n)
 
-unfoldable pub eclipticFrom : Float → Float → Float → Rad → Float → Answer Triple
+unfoldable pub eclipticFrom : Rad → Float → Rad → Rad → Float → Answer Triple
 eclipticFrom long cosLong lat semidiameter n =
     then (semidiameterIn cosLong lat semidiameter n)
-    (λ (s : Float). answered (triple (withinTwoPI (record { 0 = long }) .0) lat s))
+    (λ (s : Rad). answered (triple (withinTwoPI long .0) (lat .0) (s .0)))
 
-unfoldable pub eclipticAlong : Centre → Folded → Folded → Folded → Float → Rad → Float → Answer Triple
+unfoldable pub eclipticAlong : Centre → Folded → Folded → Folded → Rad → Rad → Float → Answer Triple
 eclipticAlong c b s e long semidiameter n =
-    let cosLong = cosineOf (record { 0 = long }) in
-    then (latTop c b s e cosLong n) (λ (lat : Float). eclipticFrom long cosLong lat semidiameter n)
+    let cosLong = cosineOf long in
+    then (latTop c b s e cosLong n) (λ (lat : Rad). eclipticFrom long cosLong lat semidiameter n)
 
 -- 6 where N is zero, as soon as it is worked out
 unfoldable pub eclipticAt : Centre → Folded → Folded → Folded → Folded → Rad → Answer Triple
 eclipticAt c l b s e semidiameter =
     let n = nearby c l b s in
     cond (eq n zero) (refused 6)
-    (then (longTop c l b s e n) (λ (long : Float). eclipticAlong c b s e long semidiameter n))
+    (then (longTop c l b s e n) (λ (long : Rad). eclipticAlong c b s e long semidiameter n))
 
 unfoldable pub eclipticIn : EclPoint → Rad → GeographPoint → Float → Rad → Rad → Rad → Answer Triple
 eclipticIn p parallax place height sidereal oblq semidiameter =
-    then (rhoIn (record { 0 = place .lat }) height)
+    then (rhoIn (rad (place .lat)) height)
     (λ (rho : Pair). eclipticAt (centreOf (first rho) (second rho) parallax)
-    (fold (record { 0 = p .long })) (fold (record { 0 = p .lat })) (fold sidereal) (fold oblq) semidiameter)
+    (fold (rad (p .long))) (fold (rad (p .lat))) (fold sidereal) (fold oblq) semidiameter)
 
 abbrev pub topopcentRefusal : EclPoint → Rad → GeographPoint → Float → Rad → Rad → Rad → ℕ
 topopcentRefusal p parallax place height sidereal oblq semidiameter =
     lower
-    (lower (lower (angleRefusal (record { 0 = p .long })) (latitudeRefusal (record { 0 = p .lat })))
+    (lower (lower (angleRefusal (rad (p .long))) (latitudeRefusal (rad (p .lat))))
     (lower (angleRefusal oblq) (angleRefusal semidiameter)))
     (observerRefusal parallax place height sidereal)
 

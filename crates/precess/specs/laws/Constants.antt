@@ -1,14 +1,13 @@
 -- Each number of the rules is the decimal that its name spells, rounded once. Assumes nothing.
-use mathlib.Core.Path.{_≡_, refl}
+use mathlib.Core.Path.{refl}
 use mathlib.Core.List.{List, [], _∷_}
 use lib.Ieee.{Float, ofBits, round}
 use Rattle.double.specs.rules.Table.{Row, _is_, Agrees, decimal}
-use Rattle.precess.specs.rules.Numbers.{n36525, n3·07496, n0·00186, n1·33621, n0·00057, n2306·2181, n1·39656, n0·000139, n0·30188, n0·000344, n0·017998, n1·09468, n0·000066, n0·018203, n0·000217, n2004·3109, n0·8533, n0·42665, n0·041833, n2415020·3135, n36524·2199, n2304·25, n1·396, n0·302, n0·018, n0·791, n0·001, n2004·682, n0·853, n0·426, n0·042}
+use Rattle.precess.specs.rules.Numbers.{n3·07496, n0·00186, n1·33621, n0·00057, n2306·2181, n1·39656, n0·000139, n0·30188, n0·000344, n0·017998, n1·09468, n0·000066, n0·018203, n0·000217, n2004·3109, n0·8533, n0·42665, n0·041833, n2415020·3135, n36524·2199, n2304·25, n1·396, n0·302, n0·018, n0·791, n0·001, n2004·682, n0·853, n0·426, n0·042}
 
 abbrev rows : List (Row Float)
 rows =
-    (n36525 is decimal 36525 0)
-    ∷ (n3·07496 is decimal 307496 5)
+    (n3·07496 is decimal 307496 5)
     ∷ (n0·00186 is decimal 186 5)
     ∷ (n1·33621 is decimal 133621 5)
     ∷ (n0·00057 is decimal 57 5)

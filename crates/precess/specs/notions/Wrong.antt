@@ -60,7 +60,7 @@ abbrev pub xiTakenAway : Rad → Rad → Float → Float → Answer Pair
 xiTakenAway asc dec day1 day2 =
     let turns = eqTurnsOf day1 day2 in
     unless (placeRefusal asc dec day1 day2)
-    (placed (directionOf (record { asc = asc .0 ⊖ turns .xi; dec = dec .0 })) turns)
+    (placed (directionOf (record { asc = asc .0 ⊖ turns .xi .0; dec = dec .0 })) turns)
 
 -- the second day not tested
 abbrev pub daysInAnyOrder : Rad → Rad → Float → Float → Answer Pair

@@ -4,6 +4,7 @@ use lib.Ieee.{Float}
 use Rattle.double.specs.rules.Operations.{_⊕_, _⊖_, _⊗_}
 use Rattle.quantity.specs.declared.Deg.{Deg}
 use Rattle.quantity.specs.declared.Rad.{Rad}
+use Rattle.quantity.specs.rules.Angle.{deg}
 use Rattle.quantity.specs.rules.Answer.{Answer, answered, Pair, pair, unless}
 use Rattle.quantity.specs.rules.Refusal.{lower, dayRefusal, angleRefusal, steepRefusal}
 use Rattle.elementary.specs.declared.Folded.{Folded}
@@ -14,10 +15,10 @@ use Rattle.helpers.specs.rules.Time.{centuryOf}
 use Rattle.precess.specs.rules.Numbers.{n3·07496, n0·00186, n1·33621, n0·00057}
 
 unfoldable pub annualM : Float → Deg
-annualM c = record { 0 = hourArc n3·07496 ⊕ hourArc n0·00186 ⊗ c }
+annualM c = deg (hourArc n3·07496 ⊕ hourArc n0·00186 ⊗ c)
 
 unfoldable pub annualN : Float → Deg
-annualN c = record { 0 = hourArc n1·33621 ⊖ hourArc n0·00057 ⊗ c }
+annualN c = deg (hourArc n1·33621 ⊖ hourArc n0·00057 ⊗ c)
 
 -- m + n·sin a·tan d, and n·cos a
 unfoldable pub annualAt : Rad → Rad → Folded → Folded → Answer Pair

@@ -4,11 +4,11 @@ use lib.Ieee.{Float}
 use Rattle.double.specs.rules.Operations.{_⊖_, _⊘_}
 use Rattle.quantity.specs.declared.Rad.{Rad}
 use Rattle.quantity.specs.rules.Refusal.{lower, dayRefusal, angleRefusal, latitudeRefusal}
-use Rattle.precess.specs.rules.Numbers.{n36525}
+use Rattle.helpers.specs.rules.Time.{daysOfCentury}
 
 -- (JD2 − JD1)/36525.0
 abbrev pub spanOf : Float → Float → Float
-spanOf day1 day2 = (day2 ⊖ day1) ⊘ n36525
+spanOf day1 day2 = (day2 ⊖ day1) ⊘ daysOfCentury
 
 unfoldable pub daysRefusal : Float → Float → ℕ
 daysRefusal day1 day2 = lower (dayRefusal day1) (dayRefusal day2)

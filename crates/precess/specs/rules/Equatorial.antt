@@ -4,6 +4,7 @@ use lib.Ieee.{Float}
 use Rattle.double.specs.rules.Operations.{_⊕_, _⊖_, _⊗_}
 use Rattle.quantity.specs.declared.Deg.{Deg}
 use Rattle.quantity.specs.declared.Rad.{Rad}
+use Rattle.quantity.specs.rules.Angle.{deg}
 use Rattle.quantity.specs.rules.Answer.{Answer, Pair, unless, plus, both}
 use Rattle.elementary.specs.declared.Direction.{Direction}
 use Rattle.elementary.specs.rules.Direction.{directionOf}
@@ -21,22 +22,21 @@ abbrev pub eqShared : Float → Float → Float
 eqShared c t = t ⊗ (arc n2306·2181 ⊕ c ⊗ (arc n1·39656 ⊖ c ⊗ arc n0·000139))
 
 unfoldable pub eqXi : Float → Float → Deg
-eqXi c t = record { 0 = eqShared c t ⊕ t ⊗ t ⊗ ((arc n0·30188 ⊖ c ⊗ arc n0·000344) ⊕ t ⊗ arc n0·017998) }
+eqXi c t = deg (eqShared c t ⊕ t ⊗ t ⊗ ((arc n0·30188 ⊖ c ⊗ arc n0·000344) ⊕ t ⊗ arc n0·017998))
 
 -- −0.000066 where Meeus has +0.000066
 unfoldable pub eqZeta : Float → Float → Deg
-eqZeta c t = record { 0 = eqShared c t ⊕ t ⊗ t ⊗ ((arc n1·09468 ⊖ c ⊗ arc n0·000066) ⊕ t ⊗ arc n0·018203) }
+eqZeta c t = deg (eqShared c t ⊕ t ⊗ t ⊗ ((arc n1·09468 ⊖ c ⊗ arc n0·000066) ⊕ t ⊗ arc n0·018203))
 
 -- +0.8533 where Meeus has −0.85330
 unfoldable pub eqTheta : Float → Float → Deg
 eqTheta c t =
     let y = c ⊗ arc n0·000217 in
-    record
-    { 0 = t ⊗ (arc n2004·3109 ⊕ c ⊗ (arc n0·8533 ⊖ y) ⊖ t ⊗ ((arc n0·42665 ⊕ y) ⊕ t ⊗ arc n0·041833)) }
+    deg (t ⊗ (arc n2004·3109 ⊕ c ⊗ (arc n0·8533 ⊖ y) ⊖ t ⊗ ((arc n0·42665 ⊕ y) ⊕ t ⊗ arc n0·041833)))
 
 -- what two days fix, from the three angles
 unfoldable pub turnsOf : Rad → Rad → Rad → EqTurns
-turnsOf xi zeta theta = record { xi = xi .0; zeta = zeta .0; sine = sineOf theta; cosine = cosineOf theta }
+turnsOf xi zeta theta = record { xi = xi; zeta = zeta; sine = sineOf theta; cosine = cosineOf theta }
 
 unfoldable pub eqTurnsOf : Float → Float → EqTurns
 eqTurnsOf day1 day2 =
@@ -56,7 +56,7 @@ placed d turns =
     (arcsineIn (turns .sine ⊗ cd ⊗ ca ⊕ turns .cosine ⊗ sd))
 
 unfoldable pub turnedIn : Rad → Rad → EqTurns → Answer Pair
-turnedIn asc dec turns = placed (directionOf (record { asc = asc .0 ⊕ turns .xi; dec = dec .0 })) turns
+turnedIn asc dec turns = placed (directionOf (record { asc = asc .0 ⊕ turns .xi .0; dec = dec .0 })) turns
 
 abbrev pub precessEqCoordsRule : Rad → Rad → Float → Float → Answer Pair
 precessEqCoordsRule asc dec day1 day2 =

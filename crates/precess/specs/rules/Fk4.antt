@@ -4,6 +4,7 @@ use lib.Ieee.{Float}
 use Rattle.double.specs.rules.Operations.{_⊕_, _⊖_, _⊗_, _⊘_}
 use Rattle.quantity.specs.declared.Deg.{Deg}
 use Rattle.quantity.specs.declared.Rad.{Rad}
+use Rattle.quantity.specs.rules.Angle.{deg, rad}
 use Rattle.quantity.specs.rules.Answer.{Answer, Pair, unless}
 use Rattle.helpers.specs.rules.Angle.{arc}
 use Rattle.precess.specs.declared.EqTurns.{EqTurns}
@@ -19,18 +20,18 @@ fk4Span day1 day2 = (day2 ⊖ day1) ⊘ n36524·2199
 
 unfoldable pub fk4Xi : Float → Float → Deg
 fk4Xi c t =
-    record { 0 = t ⊗ (arc n2304·25 ⊕ c ⊗ arc n1·396 ⊕ t ⊗ (arc n0·302 ⊕ t ⊗ arc n0·018)) }
+    deg (t ⊗ (arc n2304·25 ⊕ c ⊗ arc n1·396 ⊕ t ⊗ (arc n0·302 ⊕ t ⊗ arc n0·018)))
 
 unfoldable pub fk4Zeta : Deg → Float → Deg
-fk4Zeta xi t = record { 0 = xi .0 ⊕ t ⊗ t ⊗ (arc n0·791 ⊕ t ⊗ arc n0·001) }
+fk4Zeta xi t = deg (xi .0 ⊕ t ⊗ t ⊗ (arc n0·791 ⊕ t ⊗ arc n0·001))
 
 unfoldable pub fk4Theta : Float → Float → Deg
 fk4Theta c t =
-    record { 0 = t ⊗ (arc n2004·682 ⊖ c ⊗ arc n0·853 ⊖ t ⊗ (arc n0·426 ⊕ t ⊗ arc n0·042)) }
+    deg (t ⊗ (arc n2004·682 ⊖ c ⊗ arc n0·853 ⊖ t ⊗ (arc n0·426 ⊕ t ⊗ arc n0·042)))
 
 -- a count of degrees taken for radians: here and nowhere else
 unfoldable pub degreesAsRadians : Deg → Rad
-degreesAsRadians x = record { 0 = x .0 }
+degreesAsRadians x = rad (x .0)
 
 unfoldable pub fk4TurnsOf : Float → Float → EqTurns
 fk4TurnsOf day1 day2 =

@@ -2,9 +2,6 @@
 use lib.Ieee.{Float}
 use Rattle.double.specs.rules.Operations.{bits}
 
-abbrev pub n36525 : Float
-n36525 = bits 0x40e1d5a000000000
-
 abbrev pub n3·07496 : Float
 n3·07496 = bits 0x40089984a0e410b6
 

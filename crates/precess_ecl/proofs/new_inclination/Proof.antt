@@ -8,7 +8,7 @@ use Rattle.precess_ecl.proofs.new_inclination.Tie as tie
 
 returns : tie.Need-returns
 unfolding newInclination
-returns c = rw (c .if1 .taken)
+returns c = rw (c .before .if1 .taken)
 
 enum-known-s : tie.Need-enum-known-s
 enum-known-s c = search needs

@@ -1,7 +1,7 @@
 -- `precess_ecl::orbit_in` meets its contract. Assumes nothing.
 use borrow.Author.Needs.{needs}
 use Rattle.double.specs.laws.Calls.{asks-nothing}
-use Rattle.quantity.specs.laws.Answer.{then-answered, then-refused}
+use Rattle.quantity.specs.laws.Answer.{then-radians-answered, then-radians-refused}
 use Rattle.precess_ecl.specs.rules.Orbit.{orbitIn}
 use Rattle.precess_ecl.proofs.orbit_in.Statement.{statement}
 use Rattle.precess_ecl.proofs.orbit_in.Tie as tie
@@ -21,7 +21,7 @@ returns c =
     let c6 = c5 .before in
     let c7 = c6 .before in
     let c8 = c7 .before in
-    then-answered _ (rw (c6 .lean .ensures, c7 .fold2 .ensures, c8 .fold .ensures) at (c5 .new-inclination .ensures)) (c3 .i .given .1) (rw (c1 .new-node .ensures, c6 .lean .ensures, c7 .fold2 .ensures, c8 .fold .ensures) at (c .orbit-from .ensures))
+    then-radians-answered _ (rw (c6 .lean .ensures, c7 .fold2 .ensures, c8 .fold .ensures) at (c5 .new-inclination .ensures)) (c3 .i .given .1) (rw (c1 .new-node .ensures, c6 .lean .ensures, c7 .fold2 .ensures, c8 .fold .ensures) at (c .orbit-from .ensures))
 
 returns-2 : tie.Need-returns-2
 unfolding orbitIn
@@ -31,7 +31,7 @@ returns-2 c =
     let c4 = c3 .before in
     let c5 = c4 .before in
     let c6 = c5 .before in
-    then-refused _ (rw (c4 .lean .ensures, c5 .fold2 .ensures, c6 .fold .ensures) at (c3 .new-inclination .ensures)) (c1 .k .given .1)
+    then-radians-refused _ (rw (c4 .lean .ensures, c5 .fold2 .ensures, c6 .fold .ensures) at (c3 .new-inclination .ensures)) (c1 .k .given .1)
 
 pub orbit-in-spec : {M : Type 1} → statement M
 orbit-in-spec = tie.close (tie.spec asks-nothing asks-nothing asks-nothing asks-nothing enum-known-i asks-nothing asks-nothing enum-known-k returns returns-2)

@@ -3,6 +3,7 @@ use mathlib.Core.Bool.{cond}
 use lib.Ieee.{Float, eq}
 use Rattle.double.specs.rules.Operations.{zero, _⊕_, _⊖_}
 use Rattle.quantity.specs.declared.Rad.{Rad}
+use Rattle.quantity.specs.rules.Angle.{rad}
 use Rattle.quantity.specs.rules.Answer.{Answer, answered, Pair, Triple, triple, unless, with, then}
 use Rattle.elementary.specs.rules.Fold.{fold}
 use Rattle.precess.specs.rules.Days.{placeRefusal}
@@ -24,11 +25,11 @@ eclipticLongitudeWithoutRho long lat day1 day2 =
 abbrev pub nodeWithoutHalfATurn : Rad → Rad → Rad → Float → Float → Answer Triple
 nodeWithoutHalfATurn inc perih node day1 day2 =
     let turns = eclTurnsOf day1 day2 in
-    let n = fold (record { 0 = node .0 ⊖ turns .pi }) in
+    let n = fold (rad (node .0 ⊖ turns .pi .0)) in
     let l = leanedOf (fold inc) n turns in
-    let new = cond (eq (inc .0) zero) (answered (turns .pi ⊕ turns .rho)) (newNode inc l turns) in
+    let new = cond (eq (inc .0) zero) (answered (rad (turns .pi .0 ⊕ turns .rho .0))) (newNode inc l turns) in
     unless (orbitRefusal inc perih node day1 day2)
-    (then (newInclination inc l turns) (λ (i : Float). orbitFrom i new perih n turns))
+    (then (newInclination inc l turns) (λ (i : Rad). orbitFrom i new perih n turns))
 
 abbrev traded : Triple → Triple
 traded (triple i w x) = triple i x w

@@ -4,6 +4,7 @@ use lib.Ieee.{Float}
 use Rattle.double.specs.rules.Operations.{_⊕_, _⊖_, _⊗_}
 use Rattle.quantity.specs.declared.Deg.{Deg}
 use Rattle.quantity.specs.declared.Rad.{Rad}
+use Rattle.quantity.specs.rules.Angle.{deg, rad}
 use Rattle.quantity.specs.rules.Answer.{Answer, Pair, unless, takenFrom, both}
 use Rattle.elementary.specs.declared.Folded.{Folded}
 use Rattle.elementary.specs.rules.Fold.{fold}
@@ -19,23 +20,20 @@ use Rattle.precess.specs.rules.Days.{spanOf, placeRefusal}
 unfoldable pub eclNu : Float → Float → Deg
 eclNu c t =
     let x = c ⊗ arc n0·000598 in
-    record
-    { 0 = t ⊗ (arc n47·0029 ⊖ c ⊗ (arc n0·06603 ⊖ x) ⊕ t ⊗ ((arc m0·03302 ⊕ x) ⊕ t ⊗ arc n0·00006)) }
+    deg (t ⊗ (arc n47·0029 ⊖ c ⊗ (arc n0·06603 ⊖ x) ⊕ t ⊗ ((arc m0·03302 ⊕ x) ⊕ t ⊗ arc n0·00006)))
 
 unfoldable pub eclPi : Float → Float → Deg
 eclPi c t =
-    record
-    { 0 = n174·876384 ⊕ c ⊗ (arc n3289·4789 ⊕ c ⊗ arc n0·60622) ⊖ t ⊗ ((arc n869·8089 ⊕ c ⊗ arc n0·50491) ⊖ t ⊗ arc n0·03536) }
+    deg (n174·876384 ⊕ c ⊗ (arc n3289·4789 ⊕ c ⊗ arc n0·60622) ⊖ t ⊗ ((arc n869·8089 ⊕ c ⊗ arc n0·50491) ⊖ t ⊗ arc n0·03536))
 
 unfoldable pub eclRho : Float → Float → Deg
 eclRho c t =
     let y = c ⊗ arc n0·000042 in
-    record
-    { 0 = t ⊗ (arc n5029·0966 ⊕ c ⊗ (arc n2·22226 ⊖ y) ⊕ t ⊗ ((arc n1·11113 ⊖ y) ⊖ t ⊗ arc n0·000006)) }
+    deg (t ⊗ (arc n5029·0966 ⊕ c ⊗ (arc n2·22226 ⊖ y) ⊕ t ⊗ ((arc n1·11113 ⊖ y) ⊖ t ⊗ arc n0·000006)))
 
 -- what two days fix, from the three angles
 unfoldable pub eclTurned : Rad → Rad → Rad → EclTurns
-eclTurned nu pi rho = record { nu = nu .0; sine = sineOf nu; cosine = cosineOf nu; pi = pi .0; rho = rho .0 }
+eclTurned nu pi rho = record { nu = nu; sine = sineOf nu; cosine = cosineOf nu; pi = pi; rho = rho }
 
 unfoldable pub eclTurnsOf : Float → Float → EclTurns
 eclTurnsOf day1 day2 =
@@ -51,11 +49,11 @@ eclPlaced p b turns =
     let sb = foldedSine b in
     let cb = foldedCosine b in
     both
-    (takenFrom (turns .rho ⊕ turns .pi) (arctangentIn (turns .cosine ⊗ cb ⊗ sp ⊖ turns .sine ⊗ sb) (cb ⊗ cp)))
+    (takenFrom (rad (turns .rho .0 ⊕ turns .pi .0)) (arctangentIn (turns .cosine ⊗ cb ⊗ sp ⊖ turns .sine ⊗ sb) (cb ⊗ cp)))
     (arcsineIn (turns .cosine ⊗ sb ⊕ turns .sine ⊗ cb ⊗ sp))
 
 unfoldable pub eclTurnedIn : Rad → Rad → EclTurns → Answer Pair
-eclTurnedIn long lat turns = eclPlaced (fold (record { 0 = turns .pi ⊖ long .0 })) (fold lat) turns
+eclTurnedIn long lat turns = eclPlaced (fold (rad (turns .pi .0 ⊖ long .0))) (fold lat) turns
 
 abbrev pub precessEclCoordsRule : Rad → Rad → Float → Float → Answer Pair
 precessEclCoordsRule long lat day1 day2 =

@@ -4,7 +4,7 @@ use mathlib.Core.Bool.{cond}
 use lib.Ieee.{Float, neg, eq}
 use Rattle.double.specs.rules.Operations.{zero, _⊕_, _⊖_, _⊗_, _⊘_}
 use Rattle.quantity.specs.declared.Rad.{Rad}
-use Rattle.quantity.specs.rules.Angle.{PI}
+use Rattle.quantity.specs.rules.Angle.{rad, PI}
 use Rattle.quantity.specs.rules.Answer.{Answer, answered, refused, Pair, first, second, Triple, triple, unless, then, addedTo, both}
 use Rattle.quantity.specs.rules.Refusal.{lower, angleRefusal}
 use Rattle.root.specs.rules.Root.{rootRule}
@@ -27,33 +27,33 @@ leanedOf i n turns =
     }
 
 -- nu where the old inclination is zero, else the arcsine of the root of A·A + B·B
-unfoldable pub newInclination : Rad → Leaned → EclTurns → Answer Float
+unfoldable pub newInclination : Rad → Leaned → EclTurns → Answer Rad
 newInclination inc l turns =
     cond (eq (inc .0) zero) (answered (turns .nu)) (then (rootRule (l .a ⊗ l .a ⊕ l .b ⊗ l .b)) arcsineIn)
 
 -- phi + PI where the old inclination is zero, else phi + the arctangent of (A, B)
-unfoldable pub newNode : Rad → Leaned → EclTurns → Answer Float
+unfoldable pub newNode : Rad → Leaned → EclTurns → Answer Rad
 newNode inc l turns =
-    let phi = turns .pi ⊕ turns .rho in
-    cond (eq (inc .0) zero) (answered (phi ⊕ PI)) (addedTo phi (arctangentIn (l .a) (l .b)))
+    let phi = turns .pi .0 ⊕ turns .rho .0 in
+    cond (eq (inc .0) zero) (answered (rad (phi ⊕ PI))) (addedTo (rad phi) (arctangentIn (l .a) (l .b)))
 
 -- s is the sine of the new inclination
-unfoldable pub nodeAndPerihelion : Float → Answer Float → Rad → Folded → EclTurns → Answer Pair
+unfoldable pub nodeAndPerihelion : Float → Answer Rad → Rad → Folded → EclTurns → Answer Pair
 nodeAndPerihelion s node perih n turns =
-    both node (addedTo (perih .0) (arcsineIn (neg (turns .sine) ⊗ foldedSine n ⊘ s)))
+    both node (addedTo perih (arcsineIn (neg (turns .sine) ⊗ foldedSine n ⊘ s)))
 
 -- 6 where the sine of the new inclination i is zero
-unfoldable pub orbitFrom : Float → Answer Float → Rad → Folded → EclTurns → Answer Triple
+unfoldable pub orbitFrom : Rad → Answer Rad → Rad → Folded → EclTurns → Answer Triple
 orbitFrom i node perih n turns =
-    let s = sineOf (record { 0 = i }) in
+    let s = sineOf i in
     cond (eq s zero) (refused 6)
-    (then (nodeAndPerihelion s node perih n turns) (λ (p : Pair). answered (triple i (second p) (first p))))
+    (then (nodeAndPerihelion s node perih n turns) (λ (p : Pair). answered (triple (i .0) (second p) (first p))))
 
 unfoldable pub orbitIn : Rad → Rad → Rad → EclTurns → Answer Triple
 orbitIn inc perih node turns =
-    let n = fold (record { 0 = node .0 ⊖ turns .pi }) in
+    let n = fold (rad (node .0 ⊖ turns .pi .0)) in
     let l = leanedOf (fold inc) n turns in
-    then (newInclination inc l turns) (λ (i : Float). orbitFrom i (newNode inc l turns) perih n turns)
+    then (newInclination inc l turns) (λ (i : Rad). orbitFrom i (newNode inc l turns) perih n turns)
 
 abbrev pub orbitRefusal : Rad → Rad → Rad → Float → Float → ℕ
 orbitRefusal inc perih node day1 day2 =

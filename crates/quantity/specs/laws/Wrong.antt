@@ -3,32 +3,33 @@ use mathlib.Core.Path.{refl}
 use mathlib.Core.Bool.{false}
 use std.Logic.{_≢_}
 use lib.Ieee.{inf}
-use Rattle.double.specs.rules.Operations.{bits, one, two}
+use Rattle.double.specs.rules.Operations.{bits, one}
 use Rattle.double.specs.rules.Table.{decimal}
 use Rattle.double.specs.notions.Code.{ofNumber}
 use Rattle.double.specs.laws.Apart.{apart}
+use Rattle.quantity.specs.rules.Angle.{rad}
 use Rattle.quantity.specs.rules.Answer.{answered, plus, addedTo, takenFrom, both}
-use Rattle.quantity.specs.rules.Refusal.{lower, past, numberRefusal, dayRefusal, angleRefusal, latitudeRefusal, steepRefusal, distanceRefusal, heightRefusal, nearest}
+use Rattle.quantity.specs.rules.Refusal.{lower, past, numberRefusal, dayRefusal, angleRefusal, latitudeRefusal, steepRefusal, distanceRefusal, heightRefusal, leastDistance}
 use Rattle.quantity.specs.notions.Computed.{computed}
-use Rattle.quantity.specs.notions.Code.{ofFloat, ofPair, ofAnswer}
-use Rattle.quantity.specs.notions.Wrong.{plusTakesAway, addedToDropsTheNumber, takenFromTheOtherWay, bothTraded, lowerIsHigher, numberLetsInfinityIn, pastTakesTheLimitIn, dayLimitOff, angleLimitOff, steepestOff, steepLimitOff, distanceLimitOff, everyAngleRefused, latitudeLimitIsAnAngles, heightFromTheSea}
-use Rattle.quantity.specs.notions.Stated.{rad}
+use Rattle.quantity.specs.notions.Code.{ofFloat, ofRad, ofPair, ofAnswer}
+use Rattle.quantity.specs.notions.Wrong.{plusTakesAway, addedToDropsTheAngle, takenFromTheOtherWay, bothTraded, lowerIsHigher, numberLetsInfinityIn, pastTakesTheLimitIn, dayLimitOff, angleLimitOff, steepestOff, steepLimitOff, distanceLimitOff, everyAngleRefused, latitudeLimitIsAnAngles, heightFromTheSea}
+use Rattle.quantity.specs.notions.Stated.{r1, r2}
 
 -- ---- what is done with answers
 
-pub plus-takes-away-excluded : plusTakesAway (answered one) one ≢ plus (answered one) one
+pub plus-takes-away-excluded : plusTakesAway (answered r1) r1 ≢ plus (answered r1) r1
 unfolding computed
-plus-takes-away-excluded = apart (ofAnswer ofFloat) refl
+plus-takes-away-excluded = apart (ofAnswer ofRad) refl
 
-pub added-to-drops-the-number-excluded : addedToDropsTheNumber one (answered one) ≢ addedTo one (answered one)
+pub added-to-drops-the-angle-excluded : addedToDropsTheAngle r1 (answered r1) ≢ addedTo r1 (answered r1)
 unfolding computed
-added-to-drops-the-number-excluded = apart (ofAnswer ofFloat) refl
+added-to-drops-the-angle-excluded = apart (ofAnswer ofRad) refl
 
-pub taken-from-the-other-way-excluded : takenFromTheOtherWay one (answered two) ≢ takenFrom one (answered two)
+pub taken-from-the-other-way-excluded : takenFromTheOtherWay r1 (answered r2) ≢ takenFrom r1 (answered r2)
 unfolding computed
-taken-from-the-other-way-excluded = apart (ofAnswer ofFloat) refl
+taken-from-the-other-way-excluded = apart (ofAnswer ofRad) refl
 
-pub both-traded-excluded : bothTraded (answered one) (answered two) ≢ both (answered one) (answered two)
+pub both-traded-excluded : bothTraded (answered r1) (answered r2) ≢ both (answered r1) (answered r2)
 unfolding computed
 both-traded-excluded = apart (ofAnswer ofPair) refl
 
@@ -64,15 +65,15 @@ pub steepest-off-excluded : steepestOff ≢ decimal 157 2
 unfolding computed
 steepest-off-excluded = apart ofFloat refl
 
-pub distance-limit-off-excluded : distanceLimitOff nearest ≢ distanceRefusal nearest
+pub distance-limit-off-excluded : distanceLimitOff leastDistance ≢ distanceRefusal leastDistance
 unfolding computed
 distance-limit-off-excluded = apart ofNumber refl
 
-pub every-angle-refused-excluded : everyAngleRefused (rad one) ≢ angleRefusal (rad one)
+pub every-angle-refused-excluded : everyAngleRefused r1 ≢ angleRefusal r1
 unfolding computed
 every-angle-refused-excluded = apart ofNumber refl
 
-pub latitude-limit-is-an-angles-excluded : latitudeLimitIsAnAngles (rad two) ≢ latitudeRefusal (rad two)
+pub latitude-limit-is-an-angles-excluded : latitudeLimitIsAnAngles r2 ≢ latitudeRefusal r2
 unfolding computed
 latitude-limit-is-an-angles-excluded = apart ofNumber refl
 

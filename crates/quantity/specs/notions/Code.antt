@@ -28,6 +28,10 @@ ofTriple (triple x y z) = 2 ^ 64 * (2 ^ 64 * ofFloat x + ofFloat y) + ofFloat z
 abbrev pub ofPoint : EqPoint → ℕ
 ofPoint p = 2 ^ 64 * ofFloat (p .asc) + ofFloat (p .dec)
 
+-- nothing of the values: whether there is an answer, and which refusal
+abbrev pub unread : {A : Type 0} → A → ℕ
+unread x = 0
+
 -- a refusal is its number, and an answer more than any
 abbrev pub ofAnswer : {A : Type 0} → (A → ℕ) → Answer A → ℕ
 ofAnswer code (answered x) = 256 * suc (code x)

@@ -2,9 +2,8 @@
 use lib.Ieee.{Float}
 use Rattle.double.specs.rules.Operations.{bits, zero, half, one, two}
 use Rattle.quantity.specs.declared.Rad.{Rad}
-
-abbrev pub rad : Float → Rad
-rad x = record { 0 = x }
+use Rattle.quantity.specs.declared.EqPoint.{EqPoint}
+use Rattle.quantity.specs.rules.Angle.{rad, HALF}
 
 -- 0.0, 0.5, 1.0 and 2.0 radians
 abbrev pub r0 : Rad
@@ -22,3 +21,14 @@ r2 = rad two
 -- 2415020.0, a century before the epoch
 abbrev pub earlier : Float
 earlier = bits 0x41426cd600000000
+
+-- 2488070.0, a century after it
+abbrev pub later : Float
+later = bits 0x4142fb8300000000
+
+-- on the equator where right ascension begins, and at the pole
+abbrev pub origin : EqPoint
+origin = record { asc = zero; dec = zero }
+
+abbrev pub northPole : EqPoint
+northPole = record { asc = zero; dec = HALF }

@@ -6,22 +6,23 @@ use lib.Ieee.{Float, le, lt}
 use Rattle.double.specs.rules.Operations.{bits, zero, _⊖_}
 use Rattle.double.specs.rules.Sign.{size, isFinite}
 use Rattle.quantity.specs.declared.Rad.{Rad}
+use Rattle.quantity.specs.rules.Angle.{rad}
 use Rattle.quantity.specs.rules.Answer.{Answer, refused, Pair, pair, with, then}
-use Rattle.quantity.specs.rules.Refusal.{lower, past, outside, epoch, farthest, remotest, highest, latitudeRefusal}
+use Rattle.quantity.specs.rules.Refusal.{lower, past, outside, epoch, farthest, mostDistance, mostHeight, latitudeRefusal}
 
 -- ---- what is done with answers
 
-abbrev pub plusTakesAway : Answer Float → Float → Answer Float
-plusTakesAway a z = with (λ (x : Float). x ⊖ z) a
+abbrev pub plusTakesAway : Answer Rad → Rad → Answer Rad
+plusTakesAway a z = with (λ (x : Rad). rad (x .0 ⊖ z .0)) a
 
-abbrev pub addedToDropsTheNumber : Float → Answer Float → Answer Float
-addedToDropsTheNumber z a = then a (λ (x : Float). refused 7)
+abbrev pub addedToDropsTheAngle : Rad → Answer Rad → Answer Rad
+addedToDropsTheAngle z a = then a (λ (x : Rad). refused 7)
 
-abbrev pub takenFromTheOtherWay : Float → Answer Float → Answer Float
-takenFromTheOtherWay z a = with (λ (x : Float). x ⊖ z) a
+abbrev pub takenFromTheOtherWay : Rad → Answer Rad → Answer Rad
+takenFromTheOtherWay z a = with (λ (x : Rad). rad (x .0 ⊖ z .0)) a
 
-abbrev pub bothTraded : Answer Float → Answer Float → Answer Pair
-bothTraded a b = then a (λ (x : Float). with (λ (y : Float). pair y x) b)
+abbrev pub bothTraded : Answer Rad → Answer Rad → Answer Pair
+bothTraded a b = then a (λ (x : Rad). with (λ (y : Rad). pair (y .0) (x .0)) b)
 
 -- ---- refusals
 
@@ -50,7 +51,7 @@ abbrev pub steepLimitOff : Rad → ℕ
 steepLimitOff x = lower (latitudeRefusal x) (past (x .0) steepestOff 4)
 
 abbrev pub distanceLimitOff : Float → ℕ
-distanceLimitOff x = outside x (bits 0x3f1a36e2eb1c432e) remotest 5
+distanceLimitOff x = outside x (bits 0x3f1a36e2eb1c432e) mostDistance 5
 
 abbrev pub everyAngleRefused : Rad → ℕ
 everyAngleRefused x = past (x .0) zero 3
@@ -60,4 +61,4 @@ latitudeLimitIsAnAngles x = past (x .0) farthest 3
 
 -- a height below the sea refused
 abbrev pub heightFromTheSea : Float → ℕ
-heightFromTheSea x = outside x zero highest 5
+heightFromTheSea x = outside x zero mostHeight 5

@@ -6,7 +6,8 @@ use native.Mathlib.Nat.{le-trans, div-add-mod, mod-lt, mul-div-cancel}
 use native.Mathlib.Omega.{arith}
 use lib.Pow.{pow-pos, pow-mono}
 use Rattle.root.specs.rules.Whole.{IsWholeRoot, wholeRoot, mended}
-use Rattle.root.specs.laws.Whole.{whole-root, whole-root-only, whole-root-least, whole-root-most, Begun, begun, Next, digits-most, mended-is}
+use Rattle.root.specs.notions.Steps.{Begun, Next}
+use Rattle.root.specs.laws.Whole.{whole-root, whole-root-only, whole-root-least, whole-root-most, begun, digits-most, mended-is}
 use Rattle.root.proofs.digits.Statement.{statement}
 use Rattle.root.proofs.digits.Tie as tie
 

@@ -1,12 +1,13 @@
 -- `root::more_digits` meets its contract: q·2^k is the root `Begun`. Assumes nothing.
 use borrow.Author.Needs.{needs}
 use mathlib.Core.Path.{_≡_}
-use Prim.Native.Nat.{ℕ, _-_, _*_, _%_, _^_, _≤_, _<_}
+use Prim.Native.Nat.{ℕ, _*_, _%_, _^_, _≤_, _<_}
 use native.Mathlib.Nat.{le-trans, lt-of-le-of-lt, mul-le-mul-left}
 use native.Mathlib.Omega.{arith}
 use lib.Pow.{pow-pos}
 use Rattle.root.specs.laws.Numbers.{square-lt-back}
-use Rattle.root.specs.laws.Whole.{Begun, begun, next, digits-most, mended-is}
+use Rattle.root.specs.notions.Steps.{Begun}
+use Rattle.root.specs.laws.Whole.{begun, next, digits-most, mended-is}
 use Rattle.root.proofs.more_digits.Statement.{statement}
 use Rattle.root.proofs.more_digits.Tie as tie
 

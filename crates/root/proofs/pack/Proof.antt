@@ -4,7 +4,8 @@ use mathlib.Core.Path.{_≡_, ap, _∙_}
 use Prim.Native.Nat.{ℕ, _+_, _-_, _*_, _/_, _%_, _^_}
 use native.Mathlib.Omega.{arith}
 use Rattle.root.specs.rules.Whole.{wholeRoot}
-use Rattle.root.specs.laws.Normal.{Normal, normal, pattern-is}
+use Rattle.root.specs.notions.Steps.{Normal}
+use Rattle.root.specs.laws.Normal.{normal, pattern-is}
 use Rattle.root.specs.laws.Nearest.{root-digits-most}
 use Rattle.root.proofs.pack.Statement.{statement}
 use Rattle.root.proofs.pack.Tie as tie

@@ -5,7 +5,8 @@ use Prim.Native.Nat.{ℕ, _+_, _-_, _*_, _^_}
 use native.Mathlib.Omega.{arith}
 use lib.Count.{leadingZeros}
 use Rattle.root.specs.rules.Root.{rootPattern}
-use Rattle.root.specs.laws.Raised.{Raised, raised}
+use Rattle.root.specs.notions.Steps.{Raised}
+use Rattle.root.specs.laws.Raised.{raised}
 use Rattle.root.specs.laws.Normal.{low-square, high-square}
 use Rattle.root.proofs.root_pattern.Statement.{statement}
 use Rattle.root.proofs.root_pattern.Tie as tie

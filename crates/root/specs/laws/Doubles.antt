@@ -15,6 +15,7 @@ use lib.Ieee.Fits.{and-l, and-r, down-pos}
 use Rattle.double.specs.rules.Sign.{bearsMinus, isFinite}
 use Rattle.root.specs.rules.Count.{IsFromZero, count}
 use Rattle.root.specs.laws.Numbers.{pow-le-back}
+use Rattle.root.specs.notions.Steps.{Short}
 
 -- ---- what is a / 2^1074 counts a
 
@@ -32,9 +33,6 @@ value-from-zero (fin t m e) a c f h = record { held = f; finite = refl; plus = h
 
 -- ---- each double's count is a·2^j with a below 2^53, and the double is its count over 2^1074
 
-abbrev pub Short : ℕ → Type 0
-Short n = (a : ℕ) × (j : ℕ) × (a < 2 ^ 53) × (n ≡ a * 2 ^ j)
-
 -- m·2^e in units of 2^−l
 place : (l m : ℕ) (e : ℤ) → down e ≤ 2 ^ l → (j : ℕ) × (m * up e * 2 ^ l ≡ m * 2 ^ j * down e)
 place l m (pos a) h = (a + l, rw (mul-one, mul-assoc m (2 ^ a) (2 ^ l), pow-add 2 a l))
@@ -42,7 +40,8 @@ place l m (negsuc a) h =
     let le : suc a ≤ l = pow-le-back (suc a) l h in
     (l - suc a, rw (mul-one, mul-assoc m (2 ^ (l - suc a)) (2 ^ suc a), ← pow-add 2 (l - suc a) (suc a), back l (suc a) le))
 
-fits-place : (s : Bool) (m : ℕ) (e : ℤ) → T (fits binary64 (fin s m e)) → (j : ℕ) × (m < 2 ^ 53) × (m * up e * 2 ^ 1074 ≡ m * 2 ^ j * down e)
+fits-place : (s : Bool) (m : ℕ) (e : ℤ) → T (fits binary64 (fin s m e))
+    → (j : ℕ) × (m < 2 ^ 53) × (m * up e * 2 ^ 1074 ≡ m * 2 ^ j * down e)
 unfolding fits
 fits-place s zero e h = (0, pow-pos 53, simp zero-mul)
 fits-place s (suc m) e h =

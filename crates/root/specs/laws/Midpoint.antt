@@ -40,7 +40,8 @@ module _ (w q e : ℕ) (least : 2 ^ 52 ≤ q) where
           let u : (2 * q + 1) * 2 ^ e ≤ q * 2 ^ e + a * 2 ^ j = rw m (next q b (2 ^ e) (mul-le-mul-right (2 ^ e) t)) in
           lt-of-lt-of-le h (mul-le-mul u u)
 
-  pub near-below : (a j : ℕ) → (2 * q - 1) * 2 ^ e * ((2 * q - 1) * 2 ^ e) < w → 2 ^ 53 * 2 ^ e * (2 ^ 53 * 2 ^ e) ≤ w → a < 2 ^ 53 → a * 2 ^ j < q * 2 ^ e
+  pub near-below : (a j : ℕ) → (2 * q - 1) * 2 ^ e * ((2 * q - 1) * 2 ^ e) < w → 2 ^ 53 * 2 ^ e * (2 ^ 53 * 2 ^ e) ≤ w
+      → a < 2 ^ 53 → a * 2 ^ j < q * 2 ^ e
       → (q * 2 ^ e + a * 2 ^ j) * (q * 2 ^ e + a * 2 ^ j) < w
   near-below a j h k f l = go (less-or-not j e)
     where
@@ -56,7 +57,9 @@ module _ (w q e : ℕ) (least : 2 ^ 52 ≤ q) where
       two-halves x y p a b = omega arith
 
       at-least : a * 2 ^ j < 2 ^ 52 * 2 ^ e → (2 ^ 52 ≡ q) ⊎ (2 ^ 52 < q) → (q * 2 ^ e + a * 2 ^ j) * (q * 2 ^ e + a * 2 ^ j) < w
-      at-least s (inl t) = lt-of-lt-of-le (square-lt _ _ (two-halves (q * 2 ^ e) (a * 2 ^ j) (2 ^ e) (ap (λ (x : ℕ). x * 2 ^ e) (sym t)) s)) k
+      at-least s (inl t) =
+          lt-of-lt-of-le
+          (square-lt _ _ (two-halves (q * 2 ^ e) (a * 2 ^ j) (2 ^ e) (ap (λ (x : ℕ). x * 2 ^ e) (sym t)) s)) k
       at-least s (inr t) = from (a * 2 ^ j) (2 ^ 52) (le-of-lt s) t
 
       go : (j < e) ⊎ (e ≤ j) → (q * 2 ^ e + a * 2 ^ j) * (q * 2 ^ e + a * 2 ^ j) < w

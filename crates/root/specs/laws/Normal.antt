@@ -17,13 +17,8 @@ use Rattle.root.specs.rules.Whole.{wholeRoot}
 use Rattle.root.specs.rules.Root.{rootPattern}
 use Rattle.root.specs.laws.Numbers.{less-or-not, pow-lt-back}
 use Rattle.root.specs.laws.Patterns.{count-low, count-high, above-zero-pattern}
-use Rattle.root.specs.laws.Raised.{Raised, raised}
-
-pub record Normal (w d e : ℕ) : Type 0 where
-  pub is : w ≡ d * 2 ^ 54 * 2 ^ (2 * e)
-  pub least : 2 ^ 52 ≤ d
-  pub most : d < 2 ^ 54 - 1
-  pub room : e < 2045
+use Rattle.root.specs.laws.Raised.{raised}
+use Rattle.root.specs.notions.Steps.{Normal, Raised}
 
 -- ---- the exponent's half: an odd two goes to the digits
 
@@ -52,9 +47,12 @@ low-square b z h r =
     join b (z - 11) (1024 - (z - 11) + 52) 1076 (omega (arith, r .few)) ∙ ap (λ (x : ℕ). 2 ^ 1076 * x) (sym (count-low b h))
   where
     join : (d i j k : ℕ) → i + j ≡ k → d * 2 ^ i * 2 ^ j ≡ 2 ^ k * d
-    join d i j k e = mul-assoc d (2 ^ i) (2 ^ j) ∙ ap (λ (x : ℕ). d * x) (sym (pow-add 2 i j) ∙ ap (λ (x : ℕ). 2 ^ x) e) ∙ mul-comm d (2 ^ k)
+    join d i j k e =
+        mul-assoc d (2 ^ i) (2 ^ j) ∙ ap (λ (x : ℕ). d * x) (sym (pow-add 2 i j) ∙ ap (λ (x : ℕ). 2 ^ x) e)
+        ∙ mul-comm d (2 ^ k)
 
-pub high-square : (b : ℕ) → 2 ^ 52 ≤ b → b < 2047 * 2 ^ 52 → (2 ^ 52 + b % 2 ^ 52) * 2 ^ (b / 2 ^ 52 + 1023 + 52) ≡ twiceRootSquared (bits b)
+pub high-square : (b : ℕ) → 2 ^ 52 ≤ b → b < 2047 * 2 ^ 52
+    → (2 ^ 52 + b % 2 ^ 52) * 2 ^ (b / 2 ^ 52 + 1023 + 52) ≡ twiceRootSquared (bits b)
 high-square b l h =
     let x = b / 2 ^ 52 in
     let d = 2 ^ 52 + b % 2 ^ 52 in

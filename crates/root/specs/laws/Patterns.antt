@@ -37,7 +37,8 @@ field-value : (s : Bool) (m e : ℕ) → m / 2 ^ 52 ≡ e → e < 2047 → HasVa
 unfolding ofFields
 field-value s m zero p h =
     let t = m % 2 ^ 52 in
-    subst (λ (a : ℕ). HasValue (odd 53 s t 0 1074) s a (2 ^ 1074)) (mul-one t ∙ omega arith ∙ sym (val-low m (omega arith))) (odd-sign 53 s t 0 1074)
+    subst (λ (a : ℕ). HasValue (odd 53 s t 0 1074) s a (2 ^ 1074))
+    (mul-one t ∙ omega arith ∙ sym (val-low m (omega arith))) (odd-sign 53 s t 0 1074)
 field-value s m (suc e) p h =
     let t = m % 2 ^ 52 in
     rw (ne-eqb (suc e) 2047 (differ (suc e) h))

@@ -1,17 +1,11 @@
 -- A subnormal's digits brought up to 53 by their leading zeros. Assumes nothing.
 use mathlib.Core.Path.{_≡_, sym, ap, _∙_}
-use Prim.Native.Nat.{ℕ, suc, _+_, _-_, _*_, _^_, _≤_, _<_}
+use Prim.Native.Nat.{ℕ, suc, _+_, _-_, _^_, _≤_, _<_}
 use native.Mathlib.Nat.{le-trans, le-of-eq, lt-of-lt-of-le, lt-of-not-le, not-le-of-lt, mul-le-mul-right, mul-lt-mul-of-pos-right}
 use native.Mathlib.Omega.{arith}
 use lib.Pow.{pow-add, pow-pos, pow-mono}
 use lib.Count.{leadingZeros, leading-top}
-
--- z counts the zeros above t's leading digit among 64, and t moved up by z − 11 has 53 digits
-pub record Raised (t z : ℕ) : Type 0 where
-  pub eleven : 11 ≤ z
-  pub few : z - 11 ≤ 52
-  pub least : 2 ^ 52 ≤ t * 2 ^ (z - 11)
-  pub most : t * 2 ^ (z - 11) < 2 ^ 53
+use Rattle.root.specs.notions.Steps.{Raised}
 
 pub raised : (t : ℕ) → 0 < t → t < 2 ^ 52 → Raised t (leadingZeros 64 t)
 raised t p h =

@@ -65,6 +65,7 @@ root-answers-finite x v held h = by-finite (isFinite x) refl h
     by-sign true f e = cc
     by-sign false f e = cc (finite-root x held f)
 
-    by-finite : (t : Bool) → isFinite x ≡ t → unless (cond t (cond (lt x operations.zero) 5 0) 1) (answered (rootOf x)) ≡ answered v → isFinite v ≡ true
+    by-finite : (t : Bool) → isFinite x ≡ t
+        → unless (cond t (cond (lt x operations.zero) 5 0) 1) (answered (rootOf x)) ≡ answered v → isFinite v ≡ true
     by-finite true f e = by-sign (lt x operations.zero) f e
     by-finite false f e = cc

@@ -9,6 +9,7 @@ use lib.Dec.{leb, ltb}
 use borrow.Author.Tests.{leb-true, leb-false, ltb-true, ltb-false}
 use Rattle.root.specs.rules.Whole.{IsWholeRoot, longer, wholeRoot, mended}
 use Rattle.root.specs.laws.Numbers.{square-lt-back}
+use Rattle.root.specs.notions.Steps.{Begun, Next}
 
 longer-is : (n s : ℕ) → IsWholeRoot (n / 4) s → IsWholeRoot n (longer n s)
 longer-is n s r = go (leb ((2 * s + 1) * (2 * s + 1)) n) (leb-true _ n) (leb-false _ n)
@@ -45,13 +46,6 @@ whole-root-only {s = s} {t = t} p q = le-antisymm (whole-root-least s q (p .unde
 
 -- ---- several digits at once
 
--- y is not too much for n's root, and p more would be
-pub record Begun (n y p : ℕ) : Type 0 where
-  pub some : 0 < y
-  pub under : y * y ≤ n
-  pub over : n < (y + p) * (y + p)
-  pub wide : p * p ≤ y + y
-
 -- so is q·p, where q is the whole part for n / p²
 pub begun : (n q p : ℕ) → IsWholeRoot (n / (p * p)) q → 0 < p → p ≤ q + q → Begun n (q * p) p
 begun n q p r h w = record {
@@ -66,13 +60,6 @@ begun n q p r h w = record {
 
     spread : (q p : ℕ) → (q + 1) * (q + 1) * (p * p) ≡ (q * p + p) * (q * p + p)
     spread q p = omega arith
-
--- what is left is c times 2·y, and m
-pub record Next (n y p c m : ℕ) : Type 0 where
-  pub is : n ≡ y * y + (y + y) * c + m
-  pub rest : m < y + y
-  pub wide : p * p ≤ y + y
-  pub over : n < (y + p) * (y + p)
 
 pub next : {n y p : ℕ} → Begun n y p → Next n y p ((n - y * y) / (y + y)) ((n - y * y) % (y + y))
 next {n} {y} b = record {

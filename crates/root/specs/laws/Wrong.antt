@@ -8,7 +8,7 @@ use lib.Ieee.{Float, inf, neg, fits}
 use Rattle.double.specs.rules.Operations.{bits, one, two}
 use Rattle.double.specs.notions.Code.{ofNumber}
 use Rattle.double.specs.notions.Greatest.{greatest}
-use Rattle.double.specs.notions.Stated.{minusZero}
+use Rattle.double.specs.notions.Stated.{four, minusZero}
 use Rattle.double.specs.laws.Apart.{apart}
 use Rattle.quantity.specs.rules.Answer.{answered, refused}
 use Rattle.quantity.specs.notions.Code.{ofFloat, ofAnswer}
@@ -18,12 +18,9 @@ use Rattle.root.specs.rules.Root.{rootOf, rootRule}
 use Rattle.root.specs.notions.Computed.{computed}
 use Rattle.root.specs.notions.Wrong.{infinityLetIn, largestRefused, least, leastBelowZeroLetIn, wrongNumber, zeroLosesSign, cutNotRounded, oddTwoLost, subnormalExponent, oneDigitFewer, mendedByTwo, perfectSquareMended, MidpointWrong}
 
--- 3.0, 4.0 and 5.0
+-- 3.0 and 5.0
 abbrev three : Float
 three = bits 0x4008000000000000
-
-abbrev four : Float
-four = bits 0x4010000000000000
 
 abbrev five : Float
 five = bits 0x4014000000000000

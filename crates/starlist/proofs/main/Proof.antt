@@ -5,8 +5,8 @@ use Prim.Native.Nat.{_≤_}
 use lib.ListN.{length}
 use lib.Seq.{length-take-le}
 use Rattle.double.specs.laws.Calls.{asks-nothing}
-use Rattle.sheet.specs.rules.Render.{bytesOf}
-use Rattle.sheet.specs.declared.Written.{Written}
+use Rattle.text_sheet.specs.rules.Render.{bytesOf}
+use Rattle.text_sheet.specs.declared.Written.{Written}
 use Rattle.starlist.proofs.main.Statement.{statement}
 use Rattle.starlist.proofs.main.Tie as tie
 

@@ -1,6 +1,6 @@
 -- `brundelak::angles::brundelak_julian_cent` meets its contract. Assumes nothing.
 use Rattle.double.specs.laws.Calls.{asks-nothing}
-use Rattle.handed.specs.laws.Boundary.{told}
+use Rattle.brundelak_handed.specs.laws.Boundary.{told}
 use Rattle.brundelak.proofs.angles.brundelak_julian_cent.Statement.{statement}
 use Rattle.brundelak.proofs.angles.brundelak_julian_cent.Tie as tie
 

@@ -1,6 +1,6 @@
 -- `brundelak::angles::brundelak_rho_sin_cos_phi` meets its contract. Assumes nothing.
 use Rattle.double.specs.laws.Calls.{asks-nothing}
-use Rattle.handed.specs.laws.Boundary.{told-two}
+use Rattle.brundelak_handed.specs.laws.Boundary.{told-two}
 use Rattle.brundelak.proofs.angles.brundelak_rho_sin_cos_phi.Statement.{statement}
 use Rattle.brundelak.proofs.angles.brundelak_rho_sin_cos_phi.Tie as tie
 

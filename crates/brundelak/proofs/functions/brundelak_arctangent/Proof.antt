@@ -1,11 +1,11 @@
 -- `brundelak::functions::brundelak_arctangent` meets its contract. Assumes nothing.
 use Rattle.double.specs.laws.Calls.{asks-nothing}
-use Rattle.handed.specs.laws.Boundary.{told}
+use Rattle.brundelak_handed.specs.laws.Boundary.{told-radians}
 use Rattle.brundelak.proofs.functions.brundelak_arctangent.Statement.{statement}
 use Rattle.brundelak.proofs.functions.brundelak_arctangent.Tie as tie
 
 returns : tie.Need-returns
-returns c = told (c .before .before .arctangent .ensures) (c .give .ensures)
+returns c = told-radians (c .before .before .arctangent .ensures) (c .give-radians .ensures)
 
 pub brundelak-arctangent-spec : {M : Type 1} → statement M
 brundelak-arctangent-spec = tie.close (tie.spec asks-nothing asks-nothing returns)

@@ -1,6 +1,6 @@
 -- `brundelak::functions::brundelak_tangent` meets its contract. Assumes nothing.
 use Rattle.double.specs.laws.Calls.{asks-nothing}
-use Rattle.handed.specs.laws.Boundary.{told}
+use Rattle.brundelak_handed.specs.laws.Boundary.{told}
 use Rattle.brundelak.proofs.functions.brundelak_tangent.Statement.{statement}
 use Rattle.brundelak.proofs.functions.brundelak_tangent.Tie as tie
 

@@ -1,6 +1,6 @@
 -- `brundelak::reduction::brundelak_nutation` meets its contract. Assumes nothing.
 use Rattle.double.specs.laws.Calls.{asks-nothing}
-use Rattle.handed.specs.laws.Boundary.{told-two}
+use Rattle.brundelak_handed.specs.laws.Boundary.{told-two}
 use Rattle.brundelak.proofs.reduction.brundelak_nutation.Statement.{statement}
 use Rattle.brundelak.proofs.reduction.brundelak_nutation.Tie as tie
 

@@ -1,6 +1,6 @@
 -- `brundelak::reduction::brundelak_precess_orb_elements` meets its contract. Assumes nothing.
 use Rattle.double.specs.laws.Calls.{asks-nothing}
-use Rattle.handed.specs.laws.Boundary.{told-three}
+use Rattle.brundelak_handed.specs.laws.Boundary.{told-three}
 use Rattle.brundelak.proofs.reduction.brundelak_precess_orb_elements.Statement.{statement}
 use Rattle.brundelak.proofs.reduction.brundelak_precess_orb_elements.Tie as tie
 

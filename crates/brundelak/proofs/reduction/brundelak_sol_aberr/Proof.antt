@@ -1,11 +1,11 @@
 -- `brundelak::reduction::brundelak_sol_aberr` meets its contract. Assumes nothing.
 use Rattle.double.specs.laws.Calls.{asks-nothing}
-use Rattle.handed.specs.laws.Boundary.{told}
+use Rattle.brundelak_handed.specs.laws.Boundary.{told-radians}
 use Rattle.brundelak.proofs.reduction.brundelak_sol_aberr.Statement.{statement}
 use Rattle.brundelak.proofs.reduction.brundelak_sol_aberr.Tie as tie
 
 returns : tie.Need-returns
-returns c = told (c .before .before .sol-aberr .ensures) (c .give .ensures)
+returns c = told-radians (c .before .before .sol-aberr .ensures) (c .give-radians .ensures)
 
 pub brundelak-sol-aberr-spec : {M : Type 1} → statement M
 brundelak-sol-aberr-spec = tie.close (tie.spec asks-nothing asks-nothing returns)

@@ -1,7 +1,7 @@
 -- `brundelak::stored::brundelak_tally_raise` meets its contract. Assumes nothing.
 use mathlib.Core.Path.{ap}
 use Rattle.double.specs.laws.Calls.{asks-nothing}
-use Rattle.tally.specs.declared.Raised.{Raised}
+use Rattle.list_tally.specs.declared.Raised.{Raised}
 use Rattle.brundelak.proofs.stored.brundelak_tally_raise.Statement.{statement}
 use Rattle.brundelak.proofs.stored.brundelak_tally_raise.Tie as tie
 

@@ -1,7 +1,7 @@
 -- `helpers::earth::Earth::rho_in` meets its contract. Assumes nothing.
 use borrow.Author.Needs.{needs}
 use Rattle.double.specs.laws.Calls.{asks-nothing}
-use Rattle.quantity.specs.laws.Answer.{then-answered, then-refused}
+use Rattle.quantity.specs.laws.Answer.{then-radians-answered, then-radians-refused}
 use Rattle.helpers.specs.rules.Earth.{rhoIn}
 use Rattle.helpers.proofs.earth.Earth.rho_in.Statement.{statement}
 use Rattle.helpers.proofs.earth.Earth.rho_in.Tie as tie
@@ -20,7 +20,7 @@ returns c =
     let c5 = c3 .before .before in
     let c6 = c5 .before in
     let c7 = c6 .before in
-    then-answered _ (rw (c6 .tangent .ensures, c7 .fold .ensures) at (c5 .arctangent-in .ensures)) (c3 .u .given .1) (rw (c7 .fold .ensures, c1 .fold2 .ensures) at (c .rho-at .ensures))
+    then-radians-answered _ (rw (c6 .tangent .ensures, c7 .fold .ensures) at (c5 .arctangent-in .ensures)) (c3 .u .given .1) (rw (c7 .fold .ensures, c1 .fold2 .ensures) at (c .rho-at .ensures))
 
 returns-2 : tie.Need-returns-2
 unfolding rhoIn
@@ -29,7 +29,7 @@ returns-2 c =
     let c3 = c1 .before .before in
     let c4 = c3 .before in
     let c5 = c4 .before in
-    then-refused _ (rw (c4 .tangent .ensures, c5 .fold .ensures) at (c3 .arctangent-in .ensures)) (c1 .n .given .1)
+    then-radians-refused _ (rw (c4 .tangent .ensures, c5 .fold .ensures) at (c3 .arctangent-in .ensures)) (c1 .n .given .1)
 
 pub rho-in-spec : {M : Type 1} → statement M
 rho-in-spec = tie.close (tie.spec asks-nothing asks-nothing asks-nothing enum-known-u asks-nothing asks-nothing enum-known-n returns returns-2)

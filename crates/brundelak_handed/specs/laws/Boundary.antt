@@ -1,0 +1,58 @@
+-- How a function's own promise reaches the C caller. Assumes nothing.
+use Prim.Native.Nat.{ℕ}
+use mathlib.Core.Path.{_≡_, refl, ap, subst}
+use lib.Ieee.{Float}
+use Rattle.quantity.specs.declared.Deg.{Deg}
+use Rattle.quantity.specs.declared.Rad.{Rad}
+use Rattle.quantity.specs.declared.EqPoint.{EqPoint}
+use Rattle.quantity.specs.declared.One.{One}
+use Rattle.quantity.specs.declared.One.the-variants.{Refused}
+use Rattle.quantity.specs.declared.Two.{Two}
+use Rattle.quantity.specs.declared.Two.the-variants as two
+use Rattle.quantity.specs.declared.Three.{Three}
+use Rattle.quantity.specs.declared.Three.the-variants as three
+use Rattle.quantity.specs.rules.Answer.{Answer, Pair, Triple, shown, shownTwo, shownThree}
+use Rattle.brundelak_handed.specs.rules.Boundary.{Told, ToldTwo, ToldThree, numberOfDegrees, numberOfRadians, numbersOfPoint}
+
+-- ---- one float
+
+pub told-refusal : {r : One} {n : ℕ} {old : Float} → r ≡ Refused n → Told (shown r) n old old
+told-refusal e = rw e (record { answers = refl; leaves = refl })
+
+pub told : {n : ℕ} {old new : Float} {a b : Answer Float} → a ≡ b → Told a n old new → Told b n old new
+told {n = n} {old = old} {new = new} p t = subst (λ (a : Answer Float). Told a n old new) p t
+
+pub told-degrees : {n : ℕ} {old new : Float} {a b : Answer Deg} → a ≡ b → Told (numberOfDegrees a) n old new
+    → Told (numberOfDegrees b) n old new
+told-degrees p t = told (ap numberOfDegrees p) t
+
+pub told-radians : {n : ℕ} {old new : Float} {a b : Answer Rad} → a ≡ b → Told (numberOfRadians a) n old new
+    → Told (numberOfRadians b) n old new
+told-radians p t = told (ap numberOfRadians p) t
+
+-- ---- two
+
+pub told-two-refusal : {r : Two} {n : ℕ} {old1 old2 : Float} → r ≡ two.Refused n → ToldTwo (shownTwo r) n old1 old2 old1 old2
+told-two-refusal e = rw e (record { answers = refl; leaves1 = refl; leaves2 = refl })
+
+pub told-two : {n : ℕ} {old1 old2 new1 new2 : Float} {a b : Answer Pair} → a ≡ b → ToldTwo a n old1 old2 new1 new2
+    → ToldTwo b n old1 old2 new1 new2
+told-two {n = n} {old1 = old1} {old2 = old2} {new1 = new1} {new2 = new2} p t =
+    subst (λ (a : Answer Pair). ToldTwo a n old1 old2 new1 new2) p t
+
+pub told-point : {n : ℕ} {old1 old2 new1 new2 : Float} {a b : Answer EqPoint} → a ≡ b
+    → ToldTwo (numbersOfPoint a) n old1 old2 new1 new2
+    → ToldTwo (numbersOfPoint b) n old1 old2 new1 new2
+told-point p t = told-two (ap numbersOfPoint p) t
+
+-- ---- three
+
+pub told-three-refusal : {r : Three} {n : ℕ} {old1 old2 old3 : Float} → r ≡ three.Refused n
+    → ToldThree (shownThree r) n old1 old2 old3 old1 old2 old3
+told-three-refusal e = rw e (record { answers = refl; leaves1 = refl; leaves2 = refl; leaves3 = refl })
+
+pub told-three : {n : ℕ} {old1 old2 old3 new1 new2 new3 : Float} {a b : Answer Triple} → a ≡ b
+    → ToldThree a n old1 old2 old3 new1 new2 new3
+    → ToldThree b n old1 old2 old3 new1 new2 new3
+told-three {n = n} {old1 = old1} {old2 = old2} {old3 = old3} {new1 = new1} {new2 = new2} {new3 = new3} p t =
+    subst (λ (a : Answer Triple). ToldThree a n old1 old2 old3 new1 new2 new3) p t

@@ -1,0 +1,49 @@
+-- Wrong variants are excluded: each differs from the rule at the input stated. A rule varies: a library that refuses everything, or
+-- answers a constant, does not meet it. Assumes nothing.
+use mathlib.Core.Path.{refl}
+use std.Logic.{_≢_}
+use lib.Ieee.{Float}
+use Rattle.double.specs.rules.Operations.{zero, one}
+use Rattle.double.specs.laws.Apart.{apart}
+use Rattle.quantity.specs.declared.Deg.{Deg}
+use Rattle.quantity.specs.declared.Rad.{Rad}
+use Rattle.quantity.specs.declared.EqPoint.{EqPoint}
+use Rattle.quantity.specs.rules.Answer.{Answer, answered, refused}
+use Rattle.quantity.specs.notions.Computed.{computed}
+use Rattle.quantity.specs.notions.Code.{ofFloat, ofPair, ofAnswer}
+use Rattle.quantity.specs.notions.Varies.{Varies}
+use Rattle.brundelak_handed.specs.rules.Boundary.{numberOfDegrees, numberOfRadians, numbersOfPoint}
+use Rattle.brundelak_handed.specs.notions.Wrong.{degreesLost, radiansRefusedAsOne, pointTraded}
+
+abbrev degrees : Float → Answer Deg
+degrees x = answered (record { 0 = x })
+
+abbrev radians : Float → Answer Rad
+radians x = answered (record { 0 = x })
+
+abbrev point : Float → Float → Answer EqPoint
+point x y = answered (record { asc = x; dec = y })
+
+pub degrees-number-varies : Varies (numberOfDegrees (degrees one)) (numberOfDegrees (degrees zero))
+unfolding computed numberOfDegrees
+degrees-number-varies = record { here = refl; there = refl; apart = apart (ofAnswer ofFloat) refl }
+
+pub degrees-lost-excluded : degreesLost (degrees one) ≢ numberOfDegrees (degrees one)
+unfolding computed numberOfDegrees
+degrees-lost-excluded = apart (ofAnswer ofFloat) refl
+
+pub radians-number-varies : Varies (numberOfRadians (radians one)) (numberOfRadians (radians zero))
+unfolding computed numberOfRadians
+radians-number-varies = record { here = refl; there = refl; apart = apart (ofAnswer ofFloat) refl }
+
+pub radians-refused-as-one-excluded : radiansRefusedAsOne (refused 3) ≢ numberOfRadians (refused 3)
+unfolding computed numberOfRadians
+radians-refused-as-one-excluded = apart (ofAnswer ofFloat) refl
+
+pub point-numbers-varies : Varies (numbersOfPoint (point one zero)) (numbersOfPoint (point zero one))
+unfolding computed numbersOfPoint
+point-numbers-varies = record { here = refl; there = refl; apart = apart (ofAnswer ofPair) refl }
+
+pub point-traded-excluded : pointTraded (point one zero) ≢ numbersOfPoint (point one zero)
+unfolding computed numbersOfPoint
+point-traded-excluded = apart (ofAnswer ofPair) refl

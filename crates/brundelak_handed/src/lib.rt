@@ -1,0 +1,104 @@
+// An answer handed to a C caller: its status, and its floats where it has them; a refusal leaves what is lent unchanged.
+// Rules: specs/rules, in reading order in specs/rules.antt.
+ghost use mathlib.Core.Path.{_≡_};
+ghost use Rattle.quantity.specs.rules.Answer.{shown, shownTwo, shownThree, shownDegrees, shownRadians, shownPoint};
+ghost use Rattle.brundelak_handed.specs.rules.Boundary.{Told, ToldTwo, ToldThree, numberOfDegrees, numberOfRadians, numbersOfPoint};
+use quantity::Degrees;
+use quantity::One;
+use quantity::Point;
+use quantity::Radians;
+use quantity::Three;
+use quantity::Two;
+
+// An answer of one number.
+pub fn give(a: One, out: &mut f64) -> u8
+    ensures { λ n. ⌜ Told (shown a) n (now (out .entry)) (now (out .exit)) ⌝ }
+{
+    match a {
+        One::Is(x) => {
+            *out = x;
+            0
+        }
+        One::Refused(n) => n,
+    }
+}
+
+// An answer of two numbers.
+pub fn give_two(a: Two, first: &mut f64, second: &mut f64) -> u8
+    ensures { λ n. ⌜ ToldTwo (shownTwo a) n (now (first .entry)) (now (second .entry)) (now (first .exit)) (now (second .exit)) ⌝ }
+{
+    match a {
+        Two::Are(x, y) => {
+            *first = x;
+            *second = y;
+            0
+        }
+        Two::Refused(n) => n,
+    }
+}
+
+// An answer of three numbers.
+pub fn give_three(a: Three, first: &mut f64, second: &mut f64, third: &mut f64) -> u8
+    ensures { λ n. ⌜ ToldThree (shownThree a) n (now (first .entry)) (now (second .entry)) (now (third .entry)) (now (first .exit)) (now (second .exit)) (now (third .exit)) ⌝ }
+{
+    match a {
+        Three::Are(x, y, z) => {
+            *first = x;
+            *second = y;
+            *third = z;
+            0
+        }
+        Three::Refused(n) => n,
+    }
+}
+
+// An answer in degrees as a number.
+fn degrees_number(a: Degrees) -> One
+    ensures { λ r. ⌜ shown r ≡ numberOfDegrees (shownDegrees a) ⌝ }
+{
+    match a {
+        Degrees::Are(x) => One::Is(x.0),
+        Degrees::Refused(n) => One::Refused(n),
+    }
+}
+
+// An answer in radians as a number.
+fn radians_number(a: Radians) -> One
+    ensures { λ r. ⌜ shown r ≡ numberOfRadians (shownRadians a) ⌝ }
+{
+    match a {
+        Radians::Are(x) => One::Is(x.0),
+        Radians::Refused(n) => One::Refused(n),
+    }
+}
+
+// A point as its two numbers.
+fn point_numbers(a: Point) -> Two
+    ensures { λ r. ⌜ shownTwo r ≡ numbersOfPoint (shownPoint a) ⌝ }
+{
+    match a {
+        Point::Is(p) => Two::Are(p.asc, p.dec),
+        Point::Refused(n) => Two::Refused(n),
+    }
+}
+
+// An answer in degrees, as its number.
+pub fn give_degrees(a: Degrees, out: &mut f64) -> u8
+    ensures { λ n. ⌜ Told (numberOfDegrees (shownDegrees a)) n (now (out .entry)) (now (out .exit)) ⌝ }
+{
+    give(degrees_number(a), out)
+}
+
+// An answer in radians, as its number.
+pub fn give_radians(a: Radians, out: &mut f64) -> u8
+    ensures { λ n. ⌜ Told (numberOfRadians (shownRadians a)) n (now (out .entry)) (now (out .exit)) ⌝ }
+{
+    give(radians_number(a), out)
+}
+
+// A point, as its two numbers.
+pub fn give_point(a: Point, first: &mut f64, second: &mut f64) -> u8
+    ensures { λ n. ⌜ ToldTwo (numbersOfPoint (shownPoint a)) n (now (first .entry)) (now (second .entry)) (now (first .exit)) (now (second .exit)) ⌝ }
+{
+    give_two(point_numbers(a), first, second)
+}

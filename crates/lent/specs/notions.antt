@@ -1,0 +1,2 @@
+-- What theorems on writing into a lent slice speak of, and no promise mentions. Definitions only.
+pub mod Rows

@@ -1,0 +1,48 @@
+// The tally (sections 5 and 7): how many stars had each status.
+// Rules: specs/rules, in reading order in specs/rules.antt.
+ghost use mathlib.Core.Path.{_≡_};
+ghost use Rattle.list_tally.specs.rules.Tally.{empty, raiseRule};
+
+// The highest known status: 0, or a number of section 5's table.
+pub const HIGHEST_STATUS: u8 = 10;
+
+// A count, at most.
+pub const FULLEST: u32 = 60000;
+
+// A count for each number that the table may come to have.
+pub struct Tally {
+    pub counts: [u32; 20],
+}
+
+// A tally beside the refusal number, where 0 is none.
+pub struct Raised {
+    pub tally: Tally,
+    pub refusal: u8,
+}
+
+impl Tally {
+    // The tally of no status.
+    pub fn new() -> Self
+        ensures { λ r. ⌜ r ≡ empty ⌝ }
+    {
+        Tally { counts: [0; 20] }
+    }
+
+    // The tally with the count of one status raised; unchanged where it is refused.
+    // Refusals: 9 for a status that is not known, then 8 for a count that is full.
+    pub fn raise(self, status: u8) -> Raised
+        ensures { λ r. ⌜ r ≡ raiseRule self status ⌝ }
+    {
+        let mut tally = self;
+        if status > HIGHEST_STATUS {
+            return Raised { tally, refusal: 9 };
+        }
+        let k = status as usize;
+        let n = tally.counts[k];
+        if n >= FULLEST {
+            return Raised { tally, refusal: 8 };
+        }
+        tally.counts[k] = n + 1;
+        Raised { tally, refusal: 0 }
+    }
+}

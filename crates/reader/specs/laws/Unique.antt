@@ -1,6 +1,0 @@
--- The promise of `make` fixes the reader: its bytes and its place are all of it. Assumes nothing.
-use mathlib.Core.Path.{_≡_}
-use Rattle.reader.specs.declared.Reader.{Reader}
-
-pub one-made : (r s : Reader) → r .bytes ≡ s .bytes → r .place ≡ s .place → r ≡ s
-one-made r s p q = λ i. record { bytes = p i; place = q i }

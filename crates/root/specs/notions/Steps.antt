@@ -1,0 +1,33 @@
+-- What is known between the steps of the root.
+use mathlib.Core.Path.{_≡_}
+use Prim.Native.Nat.{ℕ, _+_, _-_, _*_, _^_, _≤_, _<_}
+
+-- y is not too much for n's root, and p more would be
+pub record Begun (n y p : ℕ) : Type 0 where
+  pub some : 0 < y
+  pub under : y * y ≤ n
+  pub over : n < (y + p) * (y + p)
+  pub wide : p * p ≤ y + y
+
+-- what is left is c times 2·y, and m
+pub record Next (n y p c m : ℕ) : Type 0 where
+  pub is : n ≡ y * y + (y + y) * c + m
+  pub rest : m < y + y
+  pub wide : p * p ≤ y + y
+  pub over : n < (y + p) * (y + p)
+
+pub record Normal (w d e : ℕ) : Type 0 where
+  pub is : w ≡ d * 2 ^ 54 * 2 ^ (2 * e)
+  pub least : 2 ^ 52 ≤ d
+  pub most : d < 2 ^ 54 - 1
+  pub room : e < 2045
+
+-- z counts the zeros above t's leading digit among 64, and t moved up by z − 11 has 53 digits
+pub record Raised (t z : ℕ) : Type 0 where
+  pub eleven : 11 ≤ z
+  pub few : z - 11 ≤ 52
+  pub least : 2 ^ 52 ≤ t * 2 ^ (z - 11)
+  pub most : t * 2 ^ (z - 11) < 2 ^ 53
+
+abbrev pub Short : ℕ → Type 0
+Short n = (a : ℕ) × (j : ℕ) × (a < 2 ^ 53) × (n ≡ a * 2 ^ j)

@@ -1,2 +1,0 @@
--- What a reader must believe of the tally (sections 5 and 7). Definitions only.
-pub mod Tally

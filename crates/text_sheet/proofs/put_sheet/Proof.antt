@@ -1,0 +1,69 @@
+-- `text_sheet::put_sheet` meets its contract: heading, lines and footing, one after the other. Assumes nothing.
+use borrow.Author.Needs.{needs}
+use mathlib.Core.Path.{_≡_, sym, _∙_}
+use mathlib.Core.Bool.{true, false}
+use mathlib.Core.List.{List, _++_, append-assoc}
+use Prim.Native.Nat.{ℕ, _-_}
+use native.Mathlib.Omega.{arith}
+use borrow.Author.Tests.{not-true, not-false}
+use Rattle.double.specs.laws.Calls.{asks-nothing}
+use Rattle.lent.specs.laws.Writing.{after, same}
+use Rattle.list.specs.rules.Stars.{isList, countOf, stars}
+use Rattle.list.specs.laws.Stars.{length-stars}
+use Rattle.text_number.specs.rules.Refused.{refusedText}
+use Rattle.text_sheet.specs.rules.Sheet.{lines, goods, heading, footing, sheetOf}
+use Rattle.text_sheet.specs.laws.Sheet.{goods-most}
+use Rattle.text_sheet.proofs.put_sheet.Statement.{statement}
+use Rattle.text_sheet.proofs.put_sheet.Tie as tie
+
+no-list : (s : List ℕ) → isList s ≡ false → refusedText 8 ≡ sheetOf s
+unfolding sheetOf
+no-list s e = simp e
+
+-- n and good are what was counted
+a-list : (s : List ℕ) (n good : ℕ) → isList s ≡ true → n ≡ countOf s → good ≡ goods (stars s) → heading n ++ lines (stars s) ++ footing good (n - good) ≡ sheetOf s
+unfolding sheetOf
+a-list s n good t e g = simp (append-assoc, t, e, g)
+
+same-length : tie.Need-same-length
+same-length c = search needs
+
+returns : tie.Need-returns
+returns c =
+    let c2 = c .before .before in
+    let c5 = c2 .before .before in
+    let c6 = c5 .before in
+    let c9 = c6 .before .before .before in
+    same (no-list (c9 .args .bytes .now) (sym (c6 .is-list .ensures) ∙ not-true _ (c5 .if1 .taken))) (c2 .put-refused .ensures)
+
+sub-put-footing : tie.Need-sub-put-footing
+sub-put-footing c =
+    let s = c .before .before .before .before .before .before .before .before .before .before .before .before .before .before .before .args .bytes .now in
+    omega (arith, c .before .before .before .before .before .before .before .before .before .goods .ensures, c .before .before .before .before .before .before .before .before .before .before .count .ensures, goods-most (stars s), length-stars s)
+
+same-length-2 : tie.Need-same-length-2
+same-length-2 c = search needs
+
+returns-2 : tie.Need-returns-2
+returns-2 c =
+    let counted = c .before .before .before .before .before .before .before .before .before .before .before .before in
+    let test = sym (counted .before .before .before .is-list .ensures) ∙ not-false _ (counted .before .before .if1 .left) in
+    same (a-list (counted .before .before .before .before .before .before .args .bytes .now) (counted .before .count .result) (counted .goods .result) test (counted .before .count .ensures) (counted .goods .ensures))
+    (after (after (c .before .before .before .before .before .before .before .before .before .before .put-heading .ensures) (c .before .before .before .before .before .before .put-lines .ensures)) (c .before .before .put-footing .ensures))
+
+pub put-sheet-spec : {M : Type 1} → statement M
+put-sheet-spec =
+    tie.close
+    (tie.spec
+    asks-nothing
+    asks-nothing
+    same-length
+    returns
+    asks-nothing
+    asks-nothing
+    asks-nothing
+    asks-nothing
+    sub-put-footing
+    asks-nothing
+    same-length-2
+    returns-2)

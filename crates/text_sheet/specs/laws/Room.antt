@@ -1,0 +1,80 @@
+-- The sheet of any bytes has room in `room` bytes. Assumes nothing.
+use mathlib.Core.Path.{_≡_, refl}
+use mathlib.Core.Bool.{Bool, true, false, cond}
+use mathlib.Core.List.{List, [], _∷_, _++_}
+use Prim.Native.Nat.{ℕ, _*_, _-_, _≤_, _<_}
+use native.Mathlib.Omega.{arith}
+use lib.IntN.{ℤ, pos, negsuc, natAbs}
+use lib.ListN.{length, length-append}
+use Rattle.list_words.specs.rules.Signed.{HasWord}
+use Rattle.list.specs.rules.Record.{inRange, Fitting}
+use Rattle.list.specs.rules.Stars.{isList, countOf, stars, AllFitting, Bytes}
+use Rattle.list.specs.laws.Stars.{whole, few, length-stars}
+use Rattle.list.specs.laws.RoundTrips.{bytes-back}
+use Rattle.list.specs.declared.Star.{Star}
+use Rattle.text_number.specs.rules.Bytes.{space}
+use Rattle.text_number.specs.rules.Number.{decimalText, integerText}
+use Rattle.text_number.specs.rules.Refused.{refusedText}
+use Rattle.text_number.specs.laws.Number.{decimal-short, integer-short, refused-short}
+use Rattle.text_sheet.specs.rules.Sheet.{okEnd, badEnd, line, lines, goods, heading, footing, sheetOf}
+use Rattle.text_sheet.specs.rules.Render.{room}
+use Rattle.text_sheet.specs.laws.Sheet.{goods-most}
+
+small : (z : ℤ) → HasWord z → natAbs z < 4294967296
+small (pos n) h = omega arith
+small (negsuc n) h = omega arith
+
+pub line-short : (r : Star) → Fitting r → length (line r) ≤ 40
+unfolding line
+line-short r f =
+    let n = decimal-short (r .number) (f .number) in
+    let a = decimal-short (r .asc) (f .asc) in
+    let d = integer-short (r .dec) (small (r .dec) (f .dec)) in
+    by-case (inRange r) n a d
+  where
+    by-case : (b : Bool)
+        → length (decimalText (r .number)) ≤ 10
+        → length (decimalText (r .asc)) ≤ 10
+        → length (integerText (r .dec)) ≤ 11
+        → length
+        (decimalText (r .number) ++ cond b (space ∷ (decimalText (r .asc) ++ (space ∷ (integerText (r .dec) ++ okEnd)))) badEnd)
+        ≤ 40
+    by-case true n a d = simp length-append (omega arith)
+    by-case false n a d = simp length-append (omega arith)
+
+lines-short : (rs : List Star) → AllFitting rs → length (lines rs) ≤ 40 * length rs
+lines-short [] f = omega arith
+lines-short (r ∷ rs) f = omega (arith, length-append (line r) (lines rs), line-short r (f .0), lines-short rs (f .1))
+
+heading-short : (n : ℕ) → n < 4294967296 → length (heading n) ≤ 20
+unfolding heading
+heading-short n h = let d = decimal-short n h in simp length-append (omega arith)
+
+footing-short : (g b : ℕ) → g < 4294967296 → b < 4294967296 → length (footing g b) ≤ 40
+unfolding footing
+footing-short g b h k = let d = decimal-short g h in let e = decimal-short b k in simp length-append (omega arith)
+
+module _ (s : List ℕ) (y : Bytes s) where
+  list-short : isList s ≡ true
+      → length (heading (countOf s) ++ (lines (stars s) ++ footing (goods (stars s)) (countOf s - goods (stars s)))) ≤ room
+  list-short t =
+      let n = few s t in
+      let g = goods-most (stars s) in
+      let l = length-stars s in
+      let a = heading-short (countOf s) (omega arith) in
+      let b = lines-short (stars s) (bytes-back s (whole s t .1) y .fitting) in
+      let c = footing-short (goods (stars s)) (countOf s - goods (stars s)) (omega arith) (omega arith) in
+      simp length-append (omega arith)
+
+  pub has-room : length (sheetOf s) ≤ room
+  unfolding sheetOf
+  has-room = by-case (isList s) refl
+    where
+      by-case : (b : Bool) → isList s ≡ b
+          → length
+          (cond b
+          (heading (countOf s) ++ (lines (stars s) ++ footing (goods (stars s)) (countOf s - goods (stars s))))
+          (refusedText 8))
+          ≤ room
+      by-case true t = list-short t
+      by-case false t = omega (arith, refused-short 8)

@@ -1,0 +1,42 @@
+-- Wrong variants are excluded: each differs from the rule at the list stated. The rule varies: a library that refuses everything, or
+-- answers a constant, does not meet it. Assumes nothing.
+use Prim.Native.Nat.{ℕ}
+use mathlib.Core.Path.{_≡_, refl}
+use mathlib.Core.List.{List, [], _∷_}
+use std.Logic.{_≢_}
+use lib.ListN.{length}
+use Rattle.double.specs.notions.Code.{ofNumber}
+use Rattle.double.specs.laws.Apart.{apart}
+use Rattle.quantity.specs.notions.Code.{ofAnswer}
+use Rattle.quantity.specs.notions.Varies.{Varies}
+use Rattle.lent.specs.rules.Rows.{upto}
+use Rattle.list.specs.rules.Record.{width}
+use Rattle.text_number.specs.notions.Code.{ofText}
+use Rattle.text_sheet.specs.rules.Sheet.{sheetOf}
+use Rattle.text_sheet.specs.rules.Render.{room, renderRule}
+use Rattle.text_sheet.specs.notions.Computed.{computed}
+use Rattle.text_sheet.specs.notions.Wrong.{capitalOk, goodAndBadTraded, refusedByNine}
+
+-- a list of one star, whose record is zeros, and bytes that are no list
+abbrev single : List ℕ
+single = upto width (λ (i : ℕ). 0)
+
+abbrev short : List ℕ
+short = 0 ∷ []
+
+-- into any slice that has room
+pub render-varies : (old : List ℕ) → length old ≡ room → Varies (renderRule single old) (renderRule [] old)
+unfolding computed
+render-varies old h = rw h (record { here = refl; there = refl; apart = apart (ofAnswer ofNumber) refl })
+
+pub capital-ok-excluded : capitalOk single ≢ sheetOf single
+unfolding computed
+capital-ok-excluded = apart ofText refl
+
+pub good-and-bad-traded-excluded : goodAndBadTraded single ≢ sheetOf single
+unfolding computed
+good-and-bad-traded-excluded = apart ofText refl
+
+pub refused-by-nine-excluded : refusedByNine short ≢ sheetOf short
+unfolding computed
+refused-by-nine-excluded = apart ofText refl

@@ -1,0 +1,31 @@
+-- The sheet written into a lent slice. One that is shorter than the longest sheet is refused by 8 and stays as it was.
+use Prim.Native.Nat.{ℕ, _+_, _*_}
+use mathlib.Core.Bool.{cond}
+use mathlib.Core.List.{List, _++_}
+use lib.Dec.{ltb}
+use lib.ListN.{length, drop}
+use Rattle.quantity.specs.rules.Answer.{Answer, answered, refused}
+use Rattle.list.specs.rules.Stars.{mostStars}
+use Rattle.text_sheet.specs.rules.Sheet.{sheetOf}
+use Rattle.text_sheet.specs.declared.Written.{Written}
+use Rattle.text_sheet.specs.declared.Written.the-variants.{Bytes, Refused}
+
+-- how many bytes were written
+abbrev pub shownWritten : Written → Answer ℕ
+shownWritten (Bytes n) = answered n
+shownWritten (Refused n) = refused n
+
+-- the same as a number: 0 of a refusal
+abbrev pub bytesOf : Written → ℕ
+bytesOf (Bytes n) = n
+bytesOf (Refused n) = 0
+
+-- forty bytes a star, and sixty more
+abbrev pub room : ℕ
+room = 60 + 40 * mostStars
+
+abbrev pub renderRule : List ℕ → List ℕ → Answer ℕ
+renderRule s old = cond (ltb (length old) room) (refused 8) (answered (length (sheetOf s)))
+
+abbrev pub rendered : List ℕ → List ℕ → List ℕ
+rendered s old = cond (ltb (length old) room) old (sheetOf s ++ drop (length (sheetOf s)) old)

@@ -1,0 +1,53 @@
+-- The text of a list: how many stars, a line for each, and how many are good and bad. A text is a list of bytes.
+use Prim.Native.Nat.{ℕ, _+_, _-_}
+use mathlib.Core.Bool.{cond}
+use mathlib.Core.List.{List, [], _∷_, _++_}
+use Rattle.list.specs.rules.Record.{inRange}
+use Rattle.list.specs.rules.Stars.{isList, countOf, stars}
+use Rattle.list.specs.declared.Star.{Star}
+use Rattle.text_number.specs.rules.Bytes.{ascii, space, lineEnd}
+use Rattle.text_number.specs.rules.Number.{decimalText, integerText}
+use Rattle.text_number.specs.rules.Refused.{refusedText}
+
+-- words, and ends of lines
+abbrev pub starsWord : List ℕ
+starsWord = ascii "stars "
+
+abbrev pub okEnd : List ℕ
+okEnd = ascii " ok\n"
+
+abbrev pub badEnd : List ℕ
+badEnd = ascii " bad\n"
+
+abbrev pub goodWord : List ℕ
+goodWord = ascii "good "
+
+abbrev pub badWord : List ℕ
+badWord = ascii " bad "
+
+-- the number, right ascension and declination; of a star out of range the number alone
+unfoldable pub line : Star → List ℕ
+line r =
+    decimalText (r .number)
+    ++ cond (inRange r) (space ∷ (decimalText (r .asc) ++ (space ∷ (integerText (r .dec) ++ okEnd)))) badEnd
+
+abbrev pub lines : List Star → List ℕ
+lines [] = []
+lines (r ∷ rs) = line r ++ lines rs
+
+-- how many are in range
+abbrev pub goods : List Star → ℕ
+goods [] = 0
+goods (r ∷ rs) = cond (inRange r) 1 0 + goods rs
+
+unfoldable pub heading : ℕ → List ℕ
+heading n = starsWord ++ (decimalText n ++ (lineEnd ∷ []))
+
+unfoldable pub footing : ℕ → ℕ → List ℕ
+footing good bad = goodWord ++ (decimalText good ++ (badWord ++ (decimalText bad ++ (lineEnd ∷ []))))
+
+unfoldable pub sheetOf : List ℕ → List ℕ
+sheetOf s =
+    cond (isList s)
+    (heading (countOf s) ++ (lines (stars s) ++ footing (goods (stars s)) (countOf s - goods (stars s))))
+    (refusedText 8)
