@@ -17,9 +17,13 @@
  *    6   the sine of the new inclination, or N in topopcent_ecl_coords, is zero
  *    7   the argument of an arcsine exceeds 1 in size
  *    8   list bytes not a multiple of 12, or more than 60000; a lent slice shorter than the star count; a place past the
- *        end of the list or not at a record's start (the end itself is accepted); a count to be raised already at 60000
+ *        end of the list or not at a record's start (the end itself is accepted); a count to be raised already at 60000;
+ *        a star count of a radio list above 5000; a slice too short for a radio list, a part of one or the list of one
  *    9   a star record out of range; a status given to the tally that is neither 0 nor a number of this table (before 8)
  *   10   no star has the number sought
+ *   11   the first byte of a radio list is not 2
+ *   12   a number of a radio list is not in its shortest length or above 32 bits
+ *   13   a radio list is cut short, an empty one too, or has bytes over
  * 1 to 5 are tested first, lowest number first, over all arguments; the others as the work meets them.
  * Limits themselves are accepted.
  *
@@ -378,11 +382,76 @@ uint8_t brundelak_batch(const uint8_t *bytes, size_t len, double day1, double da
                         double *asc, size_t asc_len, double *dec, size_t dec_len, uint32_t *tally);
 
 /* One status counted in a tally.
- * Given:     status   0, or a refusal number up to 10
+ * Given:     status   0, or a refusal number up to 13
  *            tally    20 counts
  * Returned:  tally    the count of that status raised by one
  * Refusals:  9 for a status that is not known, then 8 for a count that is full, 60000; the counts stay unchanged */
 uint8_t brundelak_tally_raise(uint8_t status, uint32_t *tally);
+
+/* ---- lists over the radio link -----------------------------------------------------------------------------------
+ * Byte 2, the star count (at most 5000), then for each star its number, right ascension and folded declination (0, -1,
+ * 1, -2 become 0, 1, 2, 3), units and ranges as in the stored list. Every number stands in groups of seven bits, low
+ * group first, high bit set on all groups but the last, in the shortest length and in 32 bits: 300 is AC 02.
+ * Of the refusals the first met is given: 12 at the byte that shows it, 9 after the star's last number. A slice that is
+ * written and the bytes that are read must not overlap. */
+
+/* The head of a radio list; what follows it is not looked at.
+ * Given:     bytes, len   the radio list
+ * Returned:  count        how many stars it says it has
+ *            place        the place of the first, for brundelak_radio_star
+ * Refusals:  13 (empty), 11, then 12 or 13 (the count), then 8 (above 5000) */
+uint8_t brundelak_radio_open(const uint8_t *bytes, size_t len, uint32_t *count, size_t *place);
+
+/* The star at a place of a radio list, and the place after it: walk a list from brundelak_radio_open's place, so many
+ * times as it has stars. Of the head only the first byte is looked at.
+ * Given:     bytes, len         the radio list
+ *            place              any place; at or past the end it is refused by 13
+ * Returned:  number, asc, dec   the star's fields, in range
+ *            next               the place after it
+ * Refusals:  13 (empty), 11, then 12 or 13 number by number, then 9 */
+uint8_t brundelak_radio_star(const uint8_t *bytes, size_t len, size_t place, uint32_t *number, uint32_t *asc,
+                             int32_t *dec, size_t *next);
+
+/* Whether a whole radio list is good.
+ * Given:     bytes, len   the radio list
+ * Returned:  count        how many stars it has
+ * Refusals:  as brundelak_radio_open, then at each star as brundelak_radio_star, then 13 (bytes over) */
+uint8_t brundelak_radio_accept(const uint8_t *bytes, size_t len, uint32_t *count);
+
+/* The head of a radio list written: its first byte and the star count.
+ * Given:     out, len   a slice
+ *            place      where in it the head begins
+ *            count      how many stars will follow
+ * Returned:  out        the head from place on; all else stays
+ *            next       the place after it
+ * Refusals:  8 (the count is above 5000), then 8 (no room); the slice stays unchanged */
+uint8_t brundelak_radio_put_head(uint8_t *out, size_t len, size_t place, uint32_t count, size_t *next);
+
+/* A star of a radio list written.
+ * Given:     out, len           a slice
+ *            place              where in it the star begins
+ *            number, asc, dec   the star's fields
+ * Returned:  out                the star from place on; all else stays
+ *            next               the place after it
+ * Refusals:  9 (out of range), then 8 (no room); the slice stays unchanged */
+uint8_t brundelak_radio_put_star(uint8_t *out, size_t len, size_t place, uint32_t number, uint32_t asc, int32_t dec,
+                                 size_t *next);
+
+/* A radio list as a stored list.
+ * Given:     bytes, len     the radio list
+ *            out, out_len   a slice of at least 12 bytes a star (60000 do for every list)
+ * Returned:  out            the stored list, from the slice's start on; the rest stays
+ *            written        how many bytes it has
+ * Refusals:  as brundelak_radio_accept, then 8 (the slice is too short); the slice stays unchanged */
+uint8_t brundelak_radio_to_list(const uint8_t *bytes, size_t len, uint8_t *out, size_t out_len, size_t *written);
+
+/* A stored list, all its records in range, as a radio list. Back by brundelak_radio_to_list it has the same bytes.
+ * Given:     bytes, len     the stored list
+ *            out, out_len   a slice (75003 bytes do for every list)
+ * Returned:  out            the radio list, from the slice's start on; the rest stays
+ *            written        how many bytes it has
+ * Refusals:  8 (not a list), then 9 (a record out of range), then 8 (the slice is too short); the slice stays unchanged */
+uint8_t brundelak_list_to_radio(const uint8_t *bytes, size_t len, uint8_t *out, size_t out_len, size_t *written);
 
 #ifdef __cplusplus
 }

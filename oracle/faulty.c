@@ -1,4 +1,4 @@
-/* Four functions, each put in the place of the archive's by the linker, with one slip of the boundary: fuzz must report each. */
+/* Seven functions, each put in the place of the archive's by the linker, with one slip of the boundary: fuzz must report each. */
 #include "brundelak.h"
 
 uint8_t __real_brundelak_root(double x, double *out);
@@ -6,6 +6,14 @@ uint8_t __real_brundelak_find(const uint8_t *bytes, size_t len, uint32_t number,
 uint8_t __real_brundelak_batch(const uint8_t *bytes, size_t len, double day1, double day2, uint8_t *status, size_t status_len,
                                double *asc, size_t asc_len, double *dec, size_t dec_len, uint32_t *tally);
 uint8_t __real_brundelak_tally_raise(uint8_t status, uint32_t *tally);
+uint8_t __real_brundelak_radio_star(const uint8_t *bytes, size_t len, size_t place, uint32_t *number, uint32_t *asc, int32_t *dec,
+                                    size_t *next);
+uint8_t __real_brundelak_radio_to_list(const uint8_t *bytes, size_t len, uint8_t *out, size_t out_len, size_t *written);
+uint8_t __real_brundelak_list_to_radio(const uint8_t *bytes, size_t len, uint8_t *out, size_t out_len, size_t *written);
+uint8_t __wrap_brundelak_radio_star(const uint8_t *bytes, size_t len, size_t place, uint32_t *number, uint32_t *asc, int32_t *dec,
+                                    size_t *next);
+uint8_t __wrap_brundelak_radio_to_list(const uint8_t *bytes, size_t len, uint8_t *out, size_t out_len, size_t *written);
+uint8_t __wrap_brundelak_list_to_radio(const uint8_t *bytes, size_t len, uint8_t *out, size_t out_len, size_t *written);
 uint8_t __wrap_brundelak_tally_raise(uint8_t status, uint32_t *tally);
 uint8_t __wrap_brundelak_root(double x, double *out);
 uint8_t __wrap_brundelak_find(const uint8_t *bytes, size_t len, uint32_t number, size_t *index, uint32_t *asc, int32_t *dec);
@@ -75,4 +83,47 @@ uint8_t __wrap_brundelak_tally_raise(uint8_t status, uint32_t *tally)
         tally[20] = 0;
 #endif
     return answer;
+}
+
+uint8_t __wrap_brundelak_radio_star(const uint8_t *bytes, size_t len, size_t place, uint32_t *number, uint32_t *asc, int32_t *dec,
+                                    size_t *next)
+{
+#if SLIP == 13 /* a byte read past a list that is cut short */
+    if (place < len && ((const volatile uint8_t *)bytes)[len] == 1)
+        return 13;
+#endif
+    uint8_t status = __real_brundelak_radio_star(bytes, len, place, number, asc, dec, next);
+#if SLIP == 14 /* a star left though it is out of range */
+    if (status == 9)
+        *number = 0;
+#endif
+    return status;
+}
+
+uint8_t __wrap_brundelak_radio_to_list(const uint8_t *bytes, size_t len, uint8_t *out, size_t out_len, size_t *written)
+{
+#if SLIP == 15 /* written before the list is known to be good */
+    if (len > 2 && out_len > 0)
+        out[0] = bytes[2];
+#endif
+    uint8_t status = __real_brundelak_radio_to_list(bytes, len, out, out_len, written);
+#if SLIP == 16 /* the rest of the slice cleared */
+    if (status == 0)
+        for (size_t i = *written; i < out_len; i++)
+            out[i] = 0;
+#endif
+    return status;
+}
+
+uint8_t __wrap_brundelak_list_to_radio(const uint8_t *bytes, size_t len, uint8_t *out, size_t out_len, size_t *written)
+{
+    uint8_t status = __real_brundelak_list_to_radio(bytes, len, out, out_len, written);
+#if SLIP == 17 /* another star count */
+    if (status == 0 && len > 0)
+        out[1] ^= 1;
+#elif SLIP == 18 /* a byte past the slice */
+    if (status == 0 && *written == out_len)
+        out[out_len] = 0;
+#endif
+    return status;
 }

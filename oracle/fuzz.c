@@ -124,15 +124,21 @@ static int kept(const struct room *r)
     return memcmp(r->kept, from, n) == 0;
 }
 
-/* Kept but for the first len bytes lent. */
-static int kept_beyond(const struct room *r, size_t len)
+/* Kept but for so many of the bytes lent, from a place on. */
+static int kept_but(const struct room *r, size_t place, size_t len)
 {
-    size_t n, skipped = r->at == r->start ? 0 : NEAR;
+    size_t n, skipped = (r->at == r->start ? 0 : NEAR) + place;
     uint8_t *from = seen(r, &n);
     return memcmp(r->kept, from, skipped) == 0 && memcmp(r->kept + skipped + len, from + skipped + len, n - skipped - len) == 0;
 }
 
-static struct room places[3], bytes, statuses, ascs, decs, tally, words[4];
+/* Kept but for the first len bytes lent. */
+static int kept_beyond(const struct room *r, size_t len)
+{
+    return kept_but(r, 0, len);
+}
+
+static struct room places[3], bytes, slice, back, statuses, ascs, decs, tally, words[4];
 
 /* ---- what is told where a call is unsound ---- */
 
@@ -162,8 +168,8 @@ static void fault(int signal)
 
 /* ---- calls ---- */
 
-/* star, find, batch and tally_raise stand behind the functions of numbers. */
-enum { KINDS = FUNCTION_COUNT + 4 };
+/* star, find, batch, tally_raise and those of radio lists stand behind the functions of numbers. */
+enum { KINDS = FUNCTION_COUNT + 11 };
 static uint64_t answered[KINDS], refused[KINDS], unsound;
 static size_t which;
 
@@ -311,16 +317,223 @@ static void batch(void)
 static void tally_raise(void)
 {
     name = "tally_raise";
-    uint8_t of = (uint8_t)(below(2) ? below(12) : bits());
+    uint8_t of = (uint8_t)(below(2) ? below(16) : bits());
     uint32_t *counts = lend(&tally, 80), before[20];
     for (size_t i = 0; i < 20; i++)
         counts[i] = below(2) ? (uint32_t)below(60002) : (uint32_t)bits();
     given(&tally);
     memcpy(before, counts, sizeof before);
-    uint8_t status = brundelak_tally_raise(of, counts), want = of > 10 ? 9 : before[of % 20] >= 60000 ? 8 : 0;
+    uint8_t status = brundelak_tally_raise(of, counts), want = of > 13 ? 9 : before[of % 20] >= 60000 ? 8 : 0;
     if (want == 0)
         before[of]++;
     judge(status, status == want && memcmp(before, counts, sizeof before) == 0 && (status == 0 ? kept_beyond(&tally, 80) : kept(&tally)));
+}
+
+/* ---- radio lists ---- */
+
+static size_t groups(uint32_t n)
+{
+    size_t k = 1;
+    for (; n >= 128; n /= 128)
+        k++;
+    return k;
+}
+
+/* A number in so many groups, at least as many as it needs. */
+static size_t spell(uint8_t *to, uint64_t n, size_t k)
+{
+    for (size_t i = 0; i < k; i++, n /= 128)
+        to[i] = (uint8_t)(n % 128 + (i + 1 < k ? 128 : 0));
+    return k;
+}
+
+static uint32_t any_number(void)
+{
+    return (uint32_t)bits() >> below(32);
+}
+
+/* A radio list, good or damaged, or any bytes; its length. */
+static size_t radio(void)
+{
+    static uint8_t text[80000];
+    size_t len = 0, stars = below(64) == 0 ? 4990 + below(12) : below(16), damage = below(12);
+    size_t said = damage == 0 ? stars + 1 : damage == 1 ? any_number() : stars;
+    text[len++] = damage == 2 ? (uint8_t)bits() : 2;
+    len += spell(text + len, said, groups((uint32_t)said) + (damage == 3 && below(4) == 0));
+    for (size_t i = 0; i < stars; i++) {
+        uint32_t of[3] = {any_number(), any_number() % 1296000000, any_number() % 648000001};
+        if (damage == 4 && below(4) == 0)
+            of[below(3)] = (uint32_t)bits();
+        for (size_t k = 0; k < 3; k++)
+            len += spell(text + len, of[k] + (damage == 5 && below(8) == 0 ? (uint64_t)1 << 32 : 0),
+                         groups(of[k]) + (damage == 3 && below(8) == 0));
+    }
+    if (damage == 6)
+        len = below(len + 1);
+    if (damage == 7)
+        for (size_t k = 1 + below(8); k > 0; k--)
+            text[len++] = (uint8_t)below(3);
+    if (damage == 8)
+        for (size_t k = 1 + below(3); k > 0; k--)
+            text[below(len)] = (uint8_t)bits();
+    if (damage == 9 && below(4) == 0)
+        for (size_t i = len = below(64); i > 0; i--)
+            text[i - 1] = (uint8_t)bits();
+    uint8_t *to = lend(&bytes, len);
+    for (size_t i = 0; i < len; i++)
+        to[i] = text[i];
+    given(&bytes);
+    return len;
+}
+
+/* Whether a status is one of the reader's, and 13 or 11 where the first byte says so. */
+static int known(uint8_t status, size_t len)
+{
+    int first = len == 0 ? 13 : bytes.at[0] != 2 ? 11 : 0;
+    return first != 0 ? status == first : status == 0 || status == 8 || status == 9 || status == 12 || status == 13;
+}
+
+static size_t any_place(size_t len)
+{
+    static const size_t far[] = {SIZE_MAX, SIZE_MAX - 1, SIZE_MAX - 4, (size_t)1 << 63};
+    return below(8) == 0 ? far[below(4)] : below(8) == 0 ? len : below(4) == 0 ? below(len + 4) : 2 + below(2);
+}
+
+static void radio_open(void)
+{
+    name = "radio_open";
+    size_t len = radio();
+    uint32_t *count = lend(&words[0], 4);
+    size_t *place = lend(&words[3], sizeof(size_t));
+    uint8_t status = brundelak_radio_open(bytes.at, len, count, place);
+    int sound = known(status, len) && status != 9 && kept(&bytes);
+    if (status == 0)
+        sound &= *count <= 5000 && *place == 1 + groups(*count) && *place <= len && kept_beyond(&words[0], 4)
+            && kept_beyond(&words[3], sizeof(size_t));
+    else
+        sound &= kept(&words[0]) && kept(&words[3]);
+    judge(status, sound);
+}
+
+static int in_range(uint32_t asc, int32_t dec)
+{
+    return asc < 1296000000 && dec >= -324000000 && dec <= 324000000;
+}
+
+static size_t star_size(uint32_t number, uint32_t asc, int32_t dec)
+{
+    return groups(number) + groups(asc) + groups(dec < 0 ? 2 * (uint32_t)-(int64_t)dec - 1 : 2 * (uint32_t)dec);
+}
+
+static void radio_star(void)
+{
+    name = "radio_star";
+    size_t len = radio(), place = any_place(len);
+    uint32_t *number = lend(&words[0], 4), *asc = lend(&words[1], 4);
+    int32_t *dec = lend(&words[2], 4);
+    size_t *next = lend(&words[3], sizeof(size_t));
+    uint8_t status = brundelak_radio_star(bytes.at, len, place, number, asc, dec, next);
+    int sound = known(status, len) && status != 8 && kept(&bytes) && (place < len || status == 13 || status == 11);
+    for (size_t i = 0; i < 4; i++)
+        sound &= status == 0 ? kept_beyond(&words[i], words[i].len) : kept(&words[i]);
+    if (status == 0)
+        sound &= in_range(*asc, *dec) && *next == place + star_size(*number, *asc, *dec) && *next <= len;
+    judge(status, sound);
+}
+
+static void radio_accept(void)
+{
+    name = "radio_accept";
+    size_t len = radio();
+    uint32_t *count = lend(&words[0], 4);
+    uint8_t status = brundelak_radio_accept(bytes.at, len, count);
+    int sound = known(status, len) && kept(&bytes);
+    sound &= status == 0 ? *count <= 5000 && len >= 1 + groups(*count) + 3 * (size_t)*count && kept_beyond(&words[0], 4) : kept(&words[0]);
+    judge(status, sound);
+}
+
+/* A call that wrote size bytes from a place of the slice on, or was refused. */
+static int wrote(uint8_t status, size_t place, size_t size)
+{
+    size_t after;
+    memcpy(&after, words[3].at, sizeof after);
+    return status == 0 ? kept_but(&slice, place, size) && after == place + size && kept_beyond(&words[3], sizeof after)
+                       : kept(&slice) && kept(&words[3]);
+}
+
+static int fits(size_t size, size_t place, size_t len)
+{
+    return place <= len && size <= len - place;
+}
+
+static void radio_put_head(void)
+{
+    name = "radio_put_head";
+    uint32_t count = below(4) == 0 ? any_number() : (uint32_t)below(5002);
+    size_t len = below(12), place = any_place(len);
+    lend(&slice, len);
+    uint8_t status = brundelak_radio_put_head(slice.at, len, place, count, lend(&words[3], sizeof(size_t)));
+    size_t size = 1 + groups(count);
+    judge(status, status == (count > 5000 || !fits(size, place, len) ? 8 : 0) && wrote(status, place, size));
+}
+
+static void radio_put_star(void)
+{
+    name = "radio_put_star";
+    uint32_t number = any_number(), asc = any_number();
+    int32_t dec = (int32_t)(any_number() ^ (uint32_t)-(int32_t)below(2));
+    size_t len = below(24), place = any_place(len);
+    lend(&slice, len);
+    uint8_t status = brundelak_radio_put_star(slice.at, len, place, number, asc, dec, lend(&words[3], sizeof(size_t)));
+    size_t size = star_size(number, asc, dec);
+    judge(status, status == (!in_range(asc, dec) ? 9 : !fits(size, place, len) ? 8 : 0) && wrote(status, place, size));
+}
+
+/* The length of a slice that size bytes go into: exact, longer, too short, or any. */
+static size_t any_length(size_t size)
+{
+    size_t by = below(16);
+    return by == 0 ? 0 : by == 1 && size > 0 ? size - 1 : by == 2 ? size + below(9) : by == 3 ? below(75100) : size;
+}
+
+static void radio_to_list(void)
+{
+    name = "radio_to_list";
+    size_t len = radio();
+    uint32_t *count = lend(&words[0], 4);
+    uint8_t accepted = brundelak_radio_accept(bytes.at, len, count);
+    size_t size = accepted == 0 ? 12 * (size_t)*count : 0, room = any_length(accepted == 0 ? size : below(200));
+    lend(&slice, room);
+    uint8_t status = brundelak_radio_to_list(bytes.at, len, slice.at, room, lend(&words[3], sizeof(size_t)));
+    judge(status, status == (accepted != 0 ? accepted : room < size ? 8 : 0) && kept(&bytes) && wrote(status, 0, size));
+}
+
+/* And back to the same bytes. */
+static void list_to_radio(void)
+{
+    name = "list_to_radio";
+    size_t len = list(), size = 1 + groups((uint32_t)(len / 12)), written = 0;
+    if (below(4) != 0)
+        for (size_t i = 0; i + 12 <= len; i += 12)
+            memset(bytes.at + i + 7, 0, 5);
+    given(&bytes);
+    int good = 1;
+    for (size_t i = 0; i + 12 <= len; i += 12) {
+        uint32_t of[3];
+        memcpy(of, bytes.at + i, 12);
+        good &= in_range(of[1], (int32_t)of[2]);
+        size += star_size(of[0], of[1], (int32_t)of[2]);
+    }
+    size_t room = any_length(size);
+    lend(&slice, room);
+    uint8_t status = brundelak_list_to_radio(bytes.at, len, slice.at, room, lend(&words[3], sizeof(size_t)));
+    int sound = status == (bad_list(len) ? 8 : !good ? 9 : room < size ? 8 : 0) && kept(&bytes) && wrote(status, 0, size);
+    if (status == 0) {
+        lend(&back, len);
+        sound &= brundelak_radio_to_list(slice.at, size, back.at, len, &written) == 0 && written == len
+            && memcmp(back.at, bytes.at, len) == 0 && kept_beyond(&back, len);
+    }
+    judge(status, sound);
 }
 
 /* ---- the guard is tried first ---- */
@@ -376,7 +589,9 @@ int main(int argc, char **argv)
         make(&places[i], sizeof(double));
     for (size_t i = 0; i < 4; i++)
         make(&words[i], sizeof(size_t));
-    make(&bytes, 60100);
+    make(&bytes, 80000);
+    make(&slice, 80000);
+    make(&back, 60100);
     make(&statuses, 5100);
     make(&ascs, 8 * 5100);
     make(&decs, 8 * 5100);
@@ -385,19 +600,15 @@ int main(int argc, char **argv)
     signal(SIGSEGV, fault);
     signal(SIGBUS, fault);
     signal(SIGFPE, fault);
+    static void (*const others[KINDS - FUNCTION_COUNT])(void) = {
+        star, find, batch, tally_raise, radio_open, radio_star, radio_accept, radio_put_head, radio_put_star, radio_to_list, list_to_radio};
     for (at_call = 0; at_call < calls; at_call++) {
         which = below(KINDS);
         memset(args, 0, sizeof args);
         if (which < FUNCTION_COUNT)
             numbers(&functions[which]);
-        else if (which == FUNCTION_COUNT)
-            star();
-        else if (which == FUNCTION_COUNT + 1)
-            find();
-        else if (which == FUNCTION_COUNT + 2)
-            batch();
         else
-            tally_raise();
+            others[which - FUNCTION_COUNT]();
     }
     uint64_t all = 0, least = UINT64_MAX;
     for (which = 0; which < KINDS; which++) {

@@ -1,5 +1,5 @@
-/* Replays oracle/sample on standard input: calls, each with what the supplied Rust answers, in bits. Prints how many differ; fails
- * where one does, or where the sample is damaged. */
+/* Replays oracle/sample on standard input: calls, each with what the supplied Rust or a rule written a second time answers, in bits.
+ * Prints how many differ; fails where one does, or where the sample is damaged. */
 #include <inttypes.h>
 #include <stdio.h>
 #include <stdlib.h>
@@ -44,11 +44,14 @@ enum { ROOM = 64 };
 static uint8_t list[12 * ROOM];
 static size_t list_len;
 
-static void read_list(const char *digits)
+/* Digits in hexadecimal; how many bytes they are. */
+static size_t read_bytes(const char *digits, uint8_t *to, size_t room)
 {
     unsigned byte;
-    for (list_len = 0; list_len < sizeof list && sscanf(digits + 2 * list_len, "%2x", &byte) == 1; list_len++)
-        list[list_len] = (uint8_t)byte;
+    size_t n = 0;
+    for (; digits != NULL && n < room && sscanf(digits + 2 * n, "%2x", &byte) == 1; n++)
+        to[n] = (uint8_t)byte;
+    return n;
 }
 
 /* The next word as an integer; -1 where there is none. */
@@ -127,6 +130,75 @@ static unsigned batch(void)
     return agrees ? status : 999;
 }
 
+/* ---- radio lists ---- */
+
+static unsigned radio_open(void)
+{
+    unsigned status = (unsigned)whole();
+    uint32_t count = UNTOUCHED;
+    size_t place = UNTOUCHED;
+    int agrees = brundelak_radio_open(list, list_len, &count, &place) == status;
+    if (status == 0)
+        agrees &= count == (uint32_t)whole() && place == (size_t)whole();
+    else
+        agrees &= count == UNTOUCHED && place == UNTOUCHED;
+    return agrees ? status : 999;
+}
+
+static unsigned radio_star(void)
+{
+    size_t place = (size_t)whole(), next = UNTOUCHED;
+    unsigned status = (unsigned)whole();
+    uint32_t number = UNTOUCHED, asc = UNTOUCHED;
+    int32_t dec = -7;
+    int agrees = brundelak_radio_star(list, list_len, place, &number, &asc, &dec, &next) == status;
+    if (status == 0)
+        agrees &= number == (uint32_t)whole() && asc == (uint32_t)whole() && dec == (int32_t)whole() && next == (size_t)whole();
+    else
+        agrees &= number == UNTOUCHED && asc == UNTOUCHED && dec == -7 && next == UNTOUCHED;
+    return agrees ? status : 999;
+}
+
+static unsigned radio_accept(void)
+{
+    unsigned status = (unsigned)whole();
+    uint32_t count = UNTOUCHED;
+    int agrees = brundelak_radio_accept(list, list_len, &count) == status;
+    return agrees && count == (status == 0 ? (uint32_t)whole() : UNTOUCHED) ? status : 999;
+}
+
+/* A call that writes into a slice: its name tells which. */
+static unsigned written(const char *name)
+{
+    uint8_t slice[2 * sizeof list], want[2 * sizeof list];
+    size_t len = (size_t)whole(), place = 0, after = UNTOUCHED;
+    uint32_t given[3] = {0};
+    unsigned status, got;
+    if (len > sizeof slice)
+        return 999;
+    memset(slice, 0xA5, sizeof slice);
+    memset(want, 0xA5, sizeof want);
+    if (strcmp(name, "radio_put_head") == 0) {
+        place = (size_t)whole();
+        given[0] = (uint32_t)whole();
+        got = brundelak_radio_put_head(slice, len, place, given[0], &after);
+    } else if (strcmp(name, "radio_put_star") == 0) {
+        place = (size_t)whole();
+        for (size_t i = 0; i < 3; i++)
+            given[i] = (uint32_t)whole();
+        got = brundelak_radio_put_star(slice, len, place, given[0], given[1], (int32_t)given[2], &after);
+    } else if (strcmp(name, "radio_to_list") == 0) {
+        got = brundelak_radio_to_list(list, list_len, slice, len, &after);
+    } else {
+        got = brundelak_list_to_radio(list, list_len, slice, len, &after);
+    }
+    status = (unsigned)whole();
+    if (status == 0 && place > len)
+        return 999;
+    size_t end = status == 0 ? place + read_bytes(strtok(NULL, " \n"), want + place, sizeof want - place) : UNTOUCHED;
+    return got == status && after == end && memcmp(want, slice, sizeof slice) == 0 ? status : 999;
+}
+
 /* ---- */
 
 int main(void)
@@ -143,9 +215,8 @@ int main(void)
             continue;
         int is_call = strchr(line, '=') != NULL;
         char *word = strtok(line, " \n");
-        if (strcmp(word, "list") == 0) {
-            word = strtok(NULL, " \n");
-            read_list(word == NULL ? "" : word);
+        if (strcmp(word, "list") == 0 || strcmp(word, "radio") == 0) {
+            list_len = read_bytes(strtok(NULL, " \n"), list, sizeof list);
             lists++;
             continue;
         }
@@ -161,6 +232,14 @@ int main(void)
             status = sought();
         } else if (strcmp(word, "batch") == 0) {
             status = batch();
+        } else if (strcmp(word, "radio_open") == 0) {
+            status = radio_open();
+        } else if (strcmp(word, "radio_star") == 0) {
+            status = radio_star();
+        } else if (strcmp(word, "radio_accept") == 0) {
+            status = radio_accept();
+        } else if (strncmp(word, "radio_", 6) == 0 || strcmp(word, "list_to_radio") == 0) {
+            status = written(word);
         } else {
             size_t given_count = numbers(word, given, 9);
             word = strtok(NULL, " \n");
@@ -174,7 +253,7 @@ int main(void)
         refused += status != 0 && status != 999;
         differing += status == 999;
     }
-    printf("replay: %u calls of the Rust's sample (%u functions, %u lists; %u answered, %u refused), differing %u\n",
+    printf("replay: %u calls of the sample (%u functions, %u lists; %u answered, %u refused), differing %u\n",
            calls, seen, lists, answered, refused, differing);
     return calls > 0 && seen == FUNCTION_COUNT && lists > 0 && differing == 0 ? 0 : 1;
 }

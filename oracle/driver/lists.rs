@@ -29,23 +29,23 @@ extern "C" {
 // ---- section 7
 
 #[derive(Clone, Copy, PartialEq, Debug)]
-struct Record {
-    number: u32,
-    asc: u32,
-    dec: i32,
+pub struct Record {
+    pub number: u32,
+    pub asc: u32,
+    pub dec: i32,
 }
 
 impl Record {
-    fn at(bytes: &[u8], place: usize) -> Record {
+    pub fn at(bytes: &[u8], place: usize) -> Record {
         let word = |i: usize| (0..4).map(|k| (bytes[place + i + k] as u32) << (8 * k)).sum::<u32>();
         Record { number: word(0), asc: word(4), dec: word(8) as i32 }
     }
 
-    fn bytes(&self) -> Vec<u8> {
+    pub fn bytes(&self) -> Vec<u8> {
         [self.number, self.asc, self.dec as u32].iter().flat_map(|w| (0..4).map(move |k| (w >> (8 * k)) as u8)).collect()
     }
 
-    fn in_range(&self) -> bool {
+    pub fn in_range(&self) -> bool {
         self.asc < 1296000000 && (self.dec as i64).abs() <= 324000000
     }
 
@@ -55,7 +55,7 @@ impl Record {
     }
 }
 
-fn bad_list(bytes: &[u8]) -> bool {
+pub fn bad_list(bytes: &[u8]) -> bool {
     bytes.len() % 12 != 0 || bytes.len() > 60000
 }
 
@@ -261,12 +261,12 @@ fn compare_batch(bytes: &[u8], lens: [usize; 3], (day1, day2): (f64, f64), count
 
 /// A status counted in counts of which some are full or nearly so.
 fn compare_raise(r: &mut Random, count: &mut Count) {
-    let status = if r.below(4) == 0 { r.bits() as u8 } else { r.below(12) as u8 };
+    let status = if r.below(4) == 0 { r.bits() as u8 } else { r.below(16) as u8 };
     let mut want = [0xA5A5A5A5u32; 22];
     want[1..21].iter_mut().for_each(|c| *c = [0, 59999, 60000, r.below(60000) as u32][r.below(4)]);
     let mut got = want;
     let place = 1 + status as usize;
-    let expected = if status > 10 { 9 } else if want[place] >= 60000 { 8 } else { 0 };
+    let expected = if status > 13 { 9 } else if want[place] >= 60000 { 8 } else { 0 };
     if expected == 0 {
         want[place] += 1;
     }

@@ -11,6 +11,7 @@ mod functions;
 mod inputs;
 mod lists;
 mod port;
+mod radio;
 mod table;
 mod written;
 
@@ -149,8 +150,9 @@ fn compare(n: u64) -> bool {
         }
         total = (total.0 + count.calls, total.1 + count.differing);
     }
-    let stored = lists::compare(n / 4);
-    total = (total.0 + stored.0, total.1 + stored.1);
+    for &(calls, differing) in [lists::compare(n / 4), radio::compare(n)].iter() {
+        total = (total.0 + calls, total.1 + differing);
+    }
     println!("compared {} calls, differing {}", total.0, total.1);
     total.1 == 0
 }
@@ -281,6 +283,7 @@ fn kind(f: &Function, args: &[f64], status: u8, answer: &[f64]) -> Vec<bool> {
 const ANSWERED: usize = 77;
 const REFUSED: usize = 6;
 const LISTS: u64 = 48;
+const RADIO_LISTS: u64 = 64;
 
 fn sample(n: u64) {
     println!("# What the supplied Rust answers over the port's elementary functions and helpers, and these by their rules written a second");
@@ -315,6 +318,7 @@ fn sample(n: u64) {
         }
     }
     lists::sample(LISTS);
+    radio::sample(RADIO_LISTS);
 }
 
 fn main() {

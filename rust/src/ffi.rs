@@ -157,3 +157,107 @@ pub fn tally_raise(mut tally: [u32; 20], status: u8) -> Result<[u32; 20], Refusa
     Refusal::from_status(answer)?;
     Ok(tally)
 }
+
+// ---- lists over the radio link
+
+mod radio {
+    extern "C" {
+        pub fn brundelak_radio_open(bytes: *const u8, len: usize, count: *mut u32, place: *mut usize) -> u8;
+        pub fn brundelak_radio_star(
+            bytes: *const u8,
+            len: usize,
+            place: usize,
+            number: *mut u32,
+            asc: *mut u32,
+            dec: *mut i32,
+            next: *mut usize,
+        ) -> u8;
+        pub fn brundelak_radio_accept(bytes: *const u8, len: usize, count: *mut u32) -> u8;
+        pub fn brundelak_radio_put_head(out: *mut u8, len: usize, place: usize, count: u32, next: *mut usize) -> u8;
+        pub fn brundelak_radio_put_star(
+            out: *mut u8,
+            len: usize,
+            place: usize,
+            number: u32,
+            asc: u32,
+            dec: i32,
+            next: *mut usize,
+        ) -> u8;
+        pub fn brundelak_radio_to_list(
+            bytes: *const u8,
+            len: usize,
+            out: *mut u8,
+            out_len: usize,
+            written: *mut usize,
+        ) -> u8;
+        pub fn brundelak_list_to_radio(
+            bytes: *const u8,
+            len: usize,
+            out: *mut u8,
+            out_len: usize,
+            written: *mut usize,
+        ) -> u8;
+    }
+}
+
+/// The count, and the place of the first star.
+pub fn radio_open(bytes: &[u8]) -> Result<(u32, usize), Refusal> {
+    let (mut count, mut place) = (0, 0);
+    let status = unsafe { radio::brundelak_radio_open(bytes.as_ptr(), bytes.len(), &mut count, &mut place) };
+    Refusal::from_status(status)?;
+    Ok((count, place))
+}
+
+/// Number, right ascension, declination and the place after.
+pub fn radio_star(bytes: &[u8], place: usize) -> Result<(u32, u32, i32, usize), Refusal> {
+    let (mut number, mut asc, mut dec, mut next) = (0, 0, 0, 0);
+    let status = unsafe {
+        radio::brundelak_radio_star(bytes.as_ptr(), bytes.len(), place, &mut number, &mut asc, &mut dec, &mut next)
+    };
+    Refusal::from_status(status)?;
+    Ok((number, asc, dec, next))
+}
+
+/// The count.
+pub fn radio_accept(bytes: &[u8]) -> Result<u32, Refusal> {
+    let mut count = 0;
+    let status = unsafe { radio::brundelak_radio_accept(bytes.as_ptr(), bytes.len(), &mut count) };
+    Refusal::from_status(status)?;
+    Ok(count)
+}
+
+/// The place after the head.
+pub fn radio_put_head(out: &mut [u8], place: usize, count: u32) -> Result<usize, Refusal> {
+    let mut next = 0;
+    let status = unsafe { radio::brundelak_radio_put_head(out.as_mut_ptr(), out.len(), place, count, &mut next) };
+    Refusal::from_status(status)?;
+    Ok(next)
+}
+
+/// The place after the star.
+pub fn radio_put_star(out: &mut [u8], place: usize, number: u32, asc: u32, dec: i32) -> Result<usize, Refusal> {
+    let mut next = 0;
+    let status = unsafe {
+        radio::brundelak_radio_put_star(out.as_mut_ptr(), out.len(), place, number, asc, dec, &mut next)
+    };
+    Refusal::from_status(status)?;
+    Ok(next)
+}
+
+/// Bytes in one form moved to another in a slice: how many were written.
+type Mover = unsafe extern "C" fn(*const u8, usize, *mut u8, usize, *mut usize) -> u8;
+
+fn moved(mover: Mover, bytes: &[u8], out: &mut [u8]) -> Result<usize, Refusal> {
+    let mut written = 0;
+    let status = unsafe { mover(bytes.as_ptr(), bytes.len(), out.as_mut_ptr(), out.len(), &mut written) };
+    Refusal::from_status(status)?;
+    Ok(written)
+}
+
+pub fn radio_to_list(bytes: &[u8], out: &mut [u8]) -> Result<usize, Refusal> {
+    moved(radio::brundelak_radio_to_list, bytes, out)
+}
+
+pub fn list_to_radio(bytes: &[u8], out: &mut [u8]) -> Result<usize, Refusal> {
+    moved(radio::brundelak_list_to_radio, bytes, out)
+}

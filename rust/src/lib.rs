@@ -33,6 +33,7 @@ pub mod list;
 pub mod nutation;
 pub mod parallax;
 pub mod precess;
+pub mod radio;
 pub mod time;
 
 pub use refusal::Refusal;

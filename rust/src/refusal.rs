@@ -21,12 +21,18 @@ pub enum Refusal {
     Zero,
     /// 7: the argument of an arcsine exceeds 1 in size.
     Arcsine,
-    /// 8: the list, a place in it or a lent slice has a bad length.
+    /// 8: the list, a place in it or a lent slice has a bad length, or a radio list too many stars.
     List,
     /// 9: a star record is out of range.
     Record,
     /// 10: no star has the number sought.
     NoStar,
+    /// 11: the first byte of a radio list is not 2.
+    FirstByte,
+    /// 12: a number of a radio list is not in its shortest length or above 32 bits.
+    Spelling,
+    /// 13: a radio list is cut short, an empty one too, or has bytes over.
+    End,
     /// A number that this version has no name for.
     Other(u8),
 }
@@ -46,6 +52,9 @@ impl Refusal {
             8 => Refusal::List,
             9 => Refusal::Record,
             10 => Refusal::NoStar,
+            11 => Refusal::FirstByte,
+            12 => Refusal::Spelling,
+            13 => Refusal::End,
             n => Refusal::Other(n),
         })
     }
@@ -63,6 +72,9 @@ impl Refusal {
             Refusal::List => 8,
             Refusal::Record => 9,
             Refusal::NoStar => 10,
+            Refusal::FirstByte => 11,
+            Refusal::Spelling => 12,
+            Refusal::End => 13,
             Refusal::Other(n) => n,
         }
     }
@@ -78,9 +90,12 @@ impl fmt::Display for Refusal {
             Refusal::Range => "a distance, a height or the argument of a root is outside its range",
             Refusal::Zero => "the sine of the new inclination, or the divisor N, is zero",
             Refusal::Arcsine => "the argument of an arcsine exceeds 1 in size",
-            Refusal::List => "the list, a place in it or a lent slice has a bad length",
+            Refusal::List => "the list, a place in it or a lent slice has a bad length, or a radio list too many stars",
             Refusal::Record => "a star record is out of range",
             Refusal::NoStar => "no star has the number sought",
+            Refusal::FirstByte => "the first byte of a radio list is not 2",
+            Refusal::Spelling => "a number of a radio list is not in its shortest length or above 32 bits",
+            Refusal::End => "a radio list is cut short, an empty one too, or has bytes over",
             Refusal::Other(_) => "the call was refused",
         };
         write!(f, "refused by {}: {}", self.number(), why)

@@ -1,4 +1,5 @@
 -- What is proved of the boundary. Theorems only.
 pub mod Stored
+pub mod Radio
 pub mod Unique
 pub mod Wrong

@@ -11,8 +11,8 @@ use batch::Batched;
 use list_tally::Tally;
 use quantity::Rad;
 
-// Bytes of the longest report, at most: a hundred a star, and those of the tally.
-pub const ROOM: usize = 240 + 100 * list::MOST_STARS;
+// Bytes of the longest report, at most: a hundred a star, and those of a tally of twenty counts.
+pub const ROOM: usize = 426 + 100 * list::MOST_STARS;
 
 // How many statuses are known.
 const KNOWN: usize = list_tally::HIGHEST_STATUS as usize + 1;

@@ -2,7 +2,7 @@
 use Prim.Native.Nat.{ℕ}
 use mathlib.Core.Path.{refl, ap, _∙_}
 use mathlib.Core.Bool.{false}
-use mathlib.Core.List.{List, []}
+use mathlib.Core.List.{List, [], _∷_}
 use lib.IntN.{pos}
 use lib.Ieee.{inf}
 use lib.ListN.{getD}
@@ -13,9 +13,15 @@ use Rattle.quantity.specs.rules.Refusal.{epoch}
 use Rattle.quantity.specs.notions.Computed.{computed}
 use Rattle.precess.specs.rules.Days.{daysRefusal}
 use Rattle.list_tally.specs.rules.Tally.{raiseRefusal, raiseRule, tallyOf, empty}
+use Rattle.list_groups.specs.rules.Fold.{folded}
+use Rattle.list_radio.specs.rules.Reader.{openRule, starAtRule, acceptRule}
+use Rattle.list_radio.specs.rules.Put.{headText}
+use Rattle.list_radio.specs.rules.Moves.{toList}
+use Rattle.list_radio.specs.notions.Computed as radio
 use Rattle.batch.specs.declared.Batched.{Batched}
 use Rattle.batch.specs.rules.Batch.{batchRefusal}
 use Rattle.brundelak.specs.rules.Stored.{ToldFound, ToldBatch, ToldRaise}
+use Rattle.brundelak.specs.rules.Radio.{ToldOpened, ToldSighted, ToldNumber, ToldPut}
 
 -- star 7 has the right ascension 5, and 0 is left
 pub found-asc-lost-excluded : ¬ ToldFound (answered (record { index = 7; asc = 5; dec = pos 3 })) 0 0 0 (pos 0) 7 0 (pos 3)
@@ -31,3 +37,30 @@ batch-always-refused-by-eight-excluded wrong =
 pub another-status-counted-excluded : ¬ ToldRaise 3 (empty .counts) 0 (raiseRule empty 0 .tally .counts)
 unfolding raiseRule raiseRefusal tallyOf
 another-status-counted-excluded wrong = apart (λ (l : List ℕ). getD l 0 0) refl (wrong .leaves-counts)
+
+-- ---- the radio list
+
+-- a head of two bytes, and the place after the first is left
+pub head-without-its-count-excluded : ¬ ToldOpened (openRule (2 ∷ 0 ∷ [])) 0 0 0 0 1
+unfolding radio.computed
+head-without-its-count-excluded wrong = apart ofNumber refl (wrong .leaves-place)
+
+-- the star 7 at 0, −1 (folded 1), and its declination comes out as 1
+pub declination-folded-excluded : ¬ ToldSighted (starAtRule (2 ∷ 1 ∷ 7 ∷ 0 ∷ 1 ∷ []) 2) 0 0 0 (pos 0) 0 7 0 (pos 1) 5
+unfolding radio.computed
+declination-folded-excluded wrong = apart folded refl (wrong .leaves-dec)
+
+-- a list cut short in its first star, and the count is left all the same
+pub count-left-of-a-refused-list-excluded : ¬ ToldNumber (acceptRule (2 ∷ 1 ∷ 7 ∷ [])) 13 0 1
+unfolding radio.computed
+count-left-of-a-refused-list-excluded wrong = apart ofNumber refl (wrong .leaves)
+
+-- the head of no stars, from the second byte of four on, and the byte after it is cleared
+pub byte-past-the-head-cleared-excluded : ¬ ToldPut (headText 0) (9 ∷ 9 ∷ 9 ∷ 9 ∷ []) 1 0 0 (9 ∷ 2 ∷ 0 ∷ 0 ∷ []) 3
+unfolding radio.computed
+byte-past-the-head-cleared-excluded wrong = apart (λ (l : List ℕ). getD l 3 0) refl (wrong .leaves-slice)
+
+-- a byte over, and the slice is written before that is known
+pub slice-of-a-refused-move-written-excluded : ¬ ToldPut (toList (2 ∷ 0 ∷ 5 ∷ [])) (9 ∷ []) 0 13 0 (0 ∷ []) 0
+unfolding radio.computed
+slice-of-a-refused-move-written-excluded wrong = apart (λ (l : List ℕ). getD l 0 0) refl (wrong .leaves-slice)

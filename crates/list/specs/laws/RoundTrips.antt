@@ -34,6 +34,10 @@ stars-nil s h = ap (λ (n : ℕ). upto n (λ (i : ℕ). starAt s (i * width))) (
 length-cons : (r : Star) (rs : List Star) → length (listBytes (r ∷ rs)) ≡ width + length (listBytes rs)
 length-cons r rs = length-append (starBytes r) (listBytes rs) ∙ ap (λ (n : ℕ). n + length (listBytes rs)) (length-star r)
 
+pub length-list : (rs : List Star) → length (listBytes rs) ≡ width * length rs
+length-list [] = omega arith
+length-list (r ∷ rs) = omega (arith, length-cons r rs, length-list rs)
+
 -- stars written are read back
 pub stars-back : (rs : List Star) → AllFitting rs → stars (listBytes rs) ≡ rs
 stars-back [] f = stars-nil [] (omega arith)

@@ -7,7 +7,7 @@ use Rattle.double.specs.laws.Apart.{apart}
 use Rattle.list_tally.specs.declared.Tally.{Tally}
 use Rattle.list_tally.specs.declared.Raised.{Raised}
 use Rattle.list_tally.specs.rules.Tally.{fullest, raiseRefusal, raiseRule, tallyOf, empty}
-use Rattle.list_tally.specs.notions.Wrong.{each, countsStartAtOne, eightBeforeNine, tenUnknown, raisedByTwo}
+use Rattle.list_tally.specs.notions.Wrong.{each, countsStartAtOne, eightBeforeNine, thirteenUnknown, fourteenKnown, raisedByTwo}
 
 -- the count of the status 0
 abbrev first : Tally → ℕ
@@ -20,13 +20,17 @@ pub counts-start-at-one-excluded : countsStartAtOne ≢ empty
 unfolding tallyOf
 counts-start-at-one-excluded = apart first refl
 
-pub eight-before-nine-excluded : eightBeforeNine (each fullest) 11 ≢ raiseRule (each fullest) 11
+pub eight-before-nine-excluded : eightBeforeNine (each fullest) 14 ≢ raiseRule (each fullest) 14
 unfolding raiseRule raiseRefusal
 eight-before-nine-excluded = apart refusal refl
 
-pub ten-unknown-excluded : tenUnknown empty 10 ≢ raiseRule empty 10
+pub thirteen-unknown-excluded : thirteenUnknown empty 13 ≢ raiseRule empty 13
 unfolding raiseRule raiseRefusal tallyOf
-ten-unknown-excluded = apart refusal refl
+thirteen-unknown-excluded = apart refusal refl
+
+pub fourteen-known-excluded : fourteenKnown empty 14 ≢ raiseRule empty 14
+unfolding raiseRule raiseRefusal tallyOf
+fourteen-known-excluded = apart refusal refl
 
 pub raised-by-two-excluded : raisedByTwo empty 0 ≢ raiseRule empty 0
 unfolding raiseRule raiseRefusal tallyOf

@@ -30,7 +30,7 @@ count-short : (n : ℕ) → length (countText n) ≤ 21
 unfolding countText
 count-short n = omega (arith, any-decimal-short n)
 
-tally-short : (t : Tally) → length (tallyText t) ≤ 240
+tally-short : (t : Tally) → length (tallyText t) ≤ 426
 unfolding tallyText
 tally-short t =
     let counts = texts (highestStatus + 1) (countAt (t .counts)) in

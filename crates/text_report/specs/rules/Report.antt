@@ -71,6 +71,6 @@ reportOf s day1 day2 =
     let refusal = batchRefusal s day1 day2 mostStars mostStars mostStars in
     cond (eqb refusal 0) (starsText s day1 day2) (refusedText refusal)
 
--- a hundred bytes a star, and those of the tally
+-- a hundred bytes a star, and those of a tally of twenty counts
 abbrev pub room : ℕ
-room = 240 + 100 * mostStars
+room = 426 + 100 * mostStars

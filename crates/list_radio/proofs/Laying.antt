@@ -1,0 +1,59 @@
+-- The pass that lays records down: the bytes done, and those of the stars that stand from p on. Assumes nothing.
+use mathlib.Core.Path.{_≡_, sym, ap, _∙_}
+use mathlib.Core.List.{List, [], _++_, append-assoc, append-nil}
+use Prim.Native.Nat.{ℕ, _+_, _-_, _≤_, _<_}
+use native.Mathlib.Omega.{arith}
+use lib.ListN.{drop}
+use Rattle.quantity.specs.rules.Answer.{answered, refused}
+use Rattle.lent.specs.rules.Writing.{Wrote}
+use Rattle.lent.specs.laws.Writing.{after, same, nothing}
+use Rattle.list.specs.declared.Star.{Star}
+use Rattle.list.specs.rules.Record.{starBytes}
+use Rattle.list.specs.rules.Stars.{listBytes}
+use Rattle.list_radio.specs.rules.Star.{readStar}
+use Rattle.list_radio.specs.rules.Moves.{starsUpto}
+use Rattle.list_radio.specs.laws.Moves.{upto-none, upto-refused, upto-more}
+
+-- the records of so many stars from a place on
+abbrev records : List ℕ → ℕ → ℕ → List ℕ
+records s n at = listBytes (starsUpto n (drop at s))
+
+pub record Laying (old s : List ℕ) (n at : ℕ) (out : List ℕ) (p place i : ℕ) : Type 0 where
+  pub so-far : i ≤ n
+  pub done : List ℕ
+  pub all : records s n at ≡ done ++ records s (n - i) p
+  pub wrote : Wrote old 0 done out place
+
+pub begin : (old s : List ℕ) (n at : ℕ) → Laying old s n at old at 0 0
+begin old s n at =
+    record {
+      so-far = omega arith;
+      done = [];
+      all = ap (λ (k : ℕ). records s k at) (let q : n ≡ n - 0 = omega arith in q);
+      wrote = nothing old 0 0 (omega arith);
+    }
+
+module _ (old s : List ℕ) (n at : ℕ) (out : List ℕ) (p place i : ℕ) (m : Laying old s n at out p place i) where
+  -- none is left
+  finished : records s (n - i) p ≡ [] → Wrote old 0 (records s n at) out place
+  finished e = same (sym (m .all ∙ ap (λ (l : List ℕ). m .done ++ l) e ∙ append-nil (m .done))) (m .wrote)
+
+  pub stops : (k : ℕ) → readStar (drop p s) ≡ refused k → Wrote old 0 (records s n at) out place
+  stops k e = finished (ap listBytes (upto-refused (n - i) (drop p s) k e))
+
+  pub ends : n ≤ i → Wrote old 0 (records s n at) out place
+  ends h = finished (ap listBytes (upto-none (n - i) (drop p s) (omega arith)))
+
+  pub on : (r : Star) (next : ℕ) (new : List ℕ) (after-it : ℕ) → i < n → readStar (drop p s) ≡ answered (record { value = r; rest = drop next s })
+      → Wrote out place (starBytes r) new after-it → Laying old s n at new next after-it (i + 1)
+  on r next new after-it h e w =
+      record {
+        so-far = omega arith;
+        done = m .done ++ starBytes r;
+        all =
+            m .all
+            ∙ ap (λ (rs : List Star). m .done ++ listBytes rs) (upto-more (n - i) (drop p s) (record { value = r; rest = drop next s }) (omega arith) e)
+            ∙ ap (λ (k : ℕ). m .done ++ (starBytes r ++ records s k next)) (let q : n - i - 1 ≡ n - (i + 1) = omega arith in q)
+            ∙ sym (append-assoc (m .done) (starBytes r) (records s (n - (i + 1)) next));
+        wrote = after (m .wrote) w;
+      }

@@ -1,0 +1,21 @@
+-- `list_radio::mark_refusal` meets its contract. Assumes nothing.
+use borrow.Author.Needs.{needs}
+use native.Mathlib.Omega.{arith}
+use Rattle.list_radio.proofs.Reading.{mark-empty, mark-there, mark-other}
+use Rattle.list_radio.proofs.mark_refusal.Statement.{statement}
+use Rattle.list_radio.proofs.mark_refusal.Tie as tie
+
+returns : tie.Need-returns
+returns c = mark-empty _ (c .if1 .taken)
+
+shared-slice-read-if2 : tie.Need-shared-slice-read-if2
+shared-slice-read-if2 c = search needs
+
+returns-2 : tie.Need-returns-2
+returns-2 c = mark-there _ (omega arith) (c .if2 .taken)
+
+returns-3 : tie.Need-returns-3
+returns-3 c = mark-other _ (omega arith) (c .if2 .left)
+
+pub mark-refusal-spec : {M : Type 1} → statement M
+mark-refusal-spec = tie.close (tie.spec returns shared-slice-read-if2 returns-2 returns-3)

@@ -1,0 +1,14 @@
+-- What is proved of a list over the radio link, for callers to cite. Theorems only.
+pub mod Star
+pub mod Radio
+pub mod Reader
+pub mod StarByStar
+pub mod Put
+pub mod Moves
+pub mod RoundTrips
+pub mod Order
+pub mod Streams
+pub mod Room
+pub mod Unique
+pub mod Cases
+pub mod Wrong

@@ -1,0 +1,70 @@
+-- Radio lists worked out on the rules. Assumes nothing.
+use mathlib.Core.Path.{_≡_, refl}
+use mathlib.Core.List.{List, [], _∷_}
+use Prim.Native.Nat.{ℕ}
+use lib.IntN.{negsuc}
+use Rattle.quantity.specs.rules.Answer.{answered, refused}
+use Rattle.list.specs.declared.Star.{Star}
+use Rattle.list_radio.specs.rules.Radio.{radioBytes, radioStars}
+use Rattle.list_radio.specs.rules.Reader.{openRule, starAtRule, acceptRule}
+use Rattle.list_radio.specs.rules.Moves.{toList, toRadio}
+use Rattle.list_radio.specs.notions.Computed.{computed}
+
+-- number 300, right ascension an hour, declination −1 milliarcsecond
+abbrev pub star300 : Star
+star300 = record { number = 300; asc = 54000000; dec = negsuc 0 }
+
+abbrev pub list300 : List ℕ
+list300 = 0x02 ∷ 0x01 ∷ 0xac ∷ 0x02 ∷ 0x80 ∷ 0xf3 ∷ 0xdf ∷ 0x19 ∷ 0x01 ∷ []
+
+pub one-star-written : radioBytes (star300 ∷ []) ≡ list300
+unfolding computed
+one-star-written = refl
+
+pub one-star-read : radioStars list300 ≡ answered (star300 ∷ [])
+unfolding computed
+one-star-read = refl
+
+-- its head, and its star with the place after it
+pub head-at : openRule list300 ≡ answered (record { value = 1; place = 2 })
+unfolding computed
+head-at = refl
+
+pub star-at : starAtRule list300 2 ≡ answered (record { value = star300; place = 9 })
+unfolding computed
+star-at = refl
+
+-- no stars
+pub none-accepted : acceptRule (0x02 ∷ 0x00 ∷ []) ≡ answered 0
+unfolding computed
+none-accepted = refl
+
+-- empty, another first byte, no count, a count too long, above 32 bits, and 5001; bytes over; cut short; out of range; 5000 stars
+-- promised in six bytes
+pub refusals :
+    (acceptRule []
+    ∷ acceptRule (0x03 ∷ [])
+    ∷ acceptRule (0x02 ∷ [])
+    ∷ acceptRule (0x02 ∷ 0x80 ∷ 0x00 ∷ [])
+    ∷ acceptRule (0x02 ∷ 0x80 ∷ 0x80 ∷ 0x80 ∷ 0x80 ∷ 0x10 ∷ [])
+    ∷ acceptRule (0x02 ∷ 0x89 ∷ 0x27 ∷ [])
+    ∷ acceptRule (0x02 ∷ 0x00 ∷ 0x00 ∷ [])
+    ∷ acceptRule (0x02 ∷ 0x01 ∷ 0x07 ∷ 0x00 ∷ [])
+    ∷ acceptRule (0x02 ∷ 0x01 ∷ 0x09 ∷ 0x80 ∷ 0xc8 ∷ 0xfd ∷ 0xe9 ∷ 0x04 ∷ 0x00 ∷ [])
+    ∷ acceptRule (0x02 ∷ 0x88 ∷ 0x27 ∷ 0x01 ∷ 0x00 ∷ 0x00 ∷ [])
+    ∷ [])
+    ≡ refused 13 ∷ refused 11 ∷ refused 13 ∷ refused 12 ∷ refused 12 ∷ refused 8 ∷ refused 13 ∷ refused 13 ∷ refused 9 ∷ refused 13 ∷ []
+unfolding computed
+refusals = refl
+
+-- the star's record, and both moves
+abbrev pub record300 : List ℕ
+record300 = 0x2c ∷ 0x01 ∷ 0x00 ∷ 0x00 ∷ 0x80 ∷ 0xf9 ∷ 0x37 ∷ 0x03 ∷ 0xff ∷ 0xff ∷ 0xff ∷ 0xff ∷ []
+
+pub moved-to-radio : toRadio record300 ≡ answered list300
+unfolding computed
+moved-to-radio = refl
+
+pub moved-to-list : toList list300 ≡ answered record300
+unfolding computed
+moved-to-list = refl

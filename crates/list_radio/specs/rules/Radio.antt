@@ -1,0 +1,53 @@
+-- A list over the radio link: byte 2, the star count, then each star. Refusals, the first met: 13 of an empty list, 11 of another first
+-- byte, 12 or 13 of the count, 8 of a count above what a list may have; of each star 12, 13 or 9; then 13 for bytes over.
+use Prim.Native.Nat.{ℕ}
+use mathlib.Core.Bool.{cond}
+use mathlib.Core.List.{List, [], _∷_, _++_}
+use lib.Dec.{eqb, leb}
+use lib.ListN.{length, drop}
+use Rattle.quantity.specs.rules.Answer.{Answer, answered, refused, unless, then}
+use Rattle.list.specs.declared.Star.{Star}
+use Rattle.list.specs.rules.Stars.{mostStars}
+use Rattle.list_groups.specs.rules.Groups.{groups}
+use Rattle.list_groups.specs.rules.Reading.{Got, readNumber}
+use Rattle.list_groups.specs.rules.Several.{spellAll, readAll}
+use Rattle.list_radio.specs.rules.Star.{starGroups, readStar}
+
+-- the first byte
+abbrev pub mark : ℕ
+mark = 2
+
+-- ---- a list written
+
+unfoldable pub headBytes : ℕ → List ℕ
+headBytes n = mark ∷ groups n
+
+unfoldable pub radioBytes : List Star → List ℕ
+radioBytes rs = headBytes (length rs) ++ spellAll starGroups rs
+
+-- ---- a list read
+
+-- 0 where the first byte stands
+unfoldable pub markRefusal : List ℕ → ℕ
+markRefusal [] = 13
+markRefusal (b ∷ bs) = cond (eqb b mark) 0 11
+
+abbrev pub few : Got ℕ → Answer (Got ℕ)
+few g = cond (leb (g .value) mostStars) (answered g) (refused 8)
+
+-- how many stars, from the byte after the first on
+unfoldable pub readCount : List ℕ → Answer (Got ℕ)
+unfolding then
+readCount bs = then (readNumber bs) few
+
+abbrev pub nothingOver : Got (List Star) → Answer (List Star)
+nothingOver g = cond (eqb (length (g .rest)) 0) (answered (g .value)) (refused 13)
+
+-- so many stars, and nothing after them
+unfoldable pub starsOf : ℕ → List ℕ → Answer (List Star)
+unfolding then
+starsOf n bs = then (readAll readStar n bs) nothingOver
+
+unfoldable pub radioStars : List ℕ → Answer (List Star)
+unfolding then
+radioStars s = unless (markRefusal s) (then (readCount (drop 1 s)) (λ (g : Got ℕ). starsOf (g .value) (g .rest)))

@@ -1,0 +1,324 @@
+// Lists over the radio link (request i): reader, writer and movers.
+// Rules: specs/rules, in reading order in specs/rules.antt.
+ghost use mathlib.Core.Path.{_≡_};
+ghost use mathlib.Core.Bool.{true};
+ghost use Prim.Native.Nat.{_+_};
+ghost use lib.Dec.{leb};
+ghost use lib.ListN.{length, drop};
+ghost use Rattle.quantity.specs.rules.Answer.{with};
+ghost use Rattle.lent.specs.rules.Writing.{Wrote};
+ghost use Rattle.list.specs.rules.Stars.{isList, stars, listBytes};
+ghost use Rattle.list_groups.specs.rules.Reading.{readAt};
+ghost use Rattle.list_groups.specs.rules.Several.{spellAll};
+ghost use Rattle.list_radio.specs.rules.Star.{starGroups, readStar};
+ghost use Rattle.list_radio.specs.rules.Radio.{headBytes, markRefusal, readCount, starsOf};
+ghost use Rattle.list_radio.specs.rules.Reader.{shownOpened, openRule, shownSighted, starAtRule, shownAccepted, acceptRule};
+ghost use Rattle.list_radio.specs.rules.Put.{shownWritten, Put, headText, starText};
+ghost use Rattle.list_radio.specs.rules.Moves.{toList, toRadio, starsUpto, sizeOf};
+use list::Star;
+use list_groups::Read;
+
+// How many stars and the place of the first, or a refusal.
+pub enum Opened {
+    Stars(u32, usize),
+    Refused(u8),
+}
+
+// A star and the place after it, or a refusal.
+pub enum Sighted {
+    Star(Star, usize),
+    Refused(u8),
+}
+
+// How many stars an accepted list has, or a refusal.
+pub enum Accepted {
+    Stars(u32),
+    Refused(u8),
+}
+
+// The place after what was written, or a refusal.
+pub enum Written {
+    To(usize),
+    Refused(u8),
+}
+
+// The first byte of a radio list.
+const MARK: u8 = 2;
+
+const MOST_STARS: u32 = list::MOST_STARS as u32;
+
+// Bytes of a radio list, at most (`moved-has-room`): the first byte, a count of two groups, of each star three numbers of five.
+pub const MOST_BYTES: usize = 3 + 15 * list::MOST_STARS;
+
+// Bytes to read where a radio list is expected: one more than the longest has, which decides for all after it (`first-bytes-decide`).
+pub const READ: usize = MOST_BYTES + 1;
+
+// 0 where the first byte stands, 13 for an empty list, 11 for another first byte.
+fn mark_refusal(bytes: &[u8]) -> u8
+    ensures { λ r. ⌜ r ≡ markRefusal (now (bytes .entry)) ⌝ }
+{
+    if bytes.len() == 0 {
+        return 13;
+    }
+    if bytes[0] == MARK { 0 } else { 11 }
+}
+
+// The count that stands after the first byte.
+fn count_at(bytes: &[u8], at: usize) -> Opened
+    ensures { λ r. ⌜ shownOpened r ≡ readAt readCount (now (bytes .entry)) at ⌝ }
+{
+    match list_groups::number_at(bytes, at) {
+        Read::Refused(k) => Opened::Refused(k),
+        Read::Number(n, next) => {
+            if n <= MOST_STARS {
+                Opened::Stars(n, next)
+            } else {
+                Opened::Refused(8)
+            }
+        }
+    }
+}
+
+// How many stars, and the place of the first.
+// Refusals: 13 for an empty list, 11 for another first byte, 12 or 13 of the count, 8 for a count above what a list may have.
+pub fn open(bytes: &[u8]) -> Opened
+    ensures { λ r. ⌜ shownOpened r ≡ openRule (now (bytes .entry)) ⌝ }
+{
+    let refusal = mark_refusal(bytes);
+    if refusal != 0 {
+        return Opened::Refused(refusal);
+    }
+    count_at(bytes, 1)
+}
+
+// The star that stands from a place on, whatever the first byte.
+fn star_from(bytes: &[u8], at: usize) -> Sighted
+    ensures { λ r. ⌜ shownSighted r ≡ readAt readStar (now (bytes .entry)) at ⌝ }
+{
+    match list_groups::number_at(bytes, at) {
+        Read::Refused(k) => Sighted::Refused(k),
+        Read::Number(number, a) => match list_groups::number_at(bytes, a) {
+            Read::Refused(k) => Sighted::Refused(k),
+            Read::Number(asc, b) => match list_groups::number_at(bytes, b) {
+                Read::Refused(k) => Sighted::Refused(k),
+                Read::Number(folded, next) => {
+                    let dec = list_groups::unfold(folded);
+                    let star = Star { number, asc, dec };
+                    if list::in_range(star) {
+                        Sighted::Star(star, next)
+                    } else {
+                        Sighted::Refused(9)
+                    }
+                }
+            },
+        },
+    }
+}
+
+// The star at a place, and the place after it.
+// Refusals: 13 for an empty list, 11 for another first byte, then 12 or 13 number by number, then 9 for a star out of range.
+pub fn star_at(bytes: &[u8], place: usize) -> Sighted
+    ensures { λ r. ⌜ shownSighted r ≡ starAtRule (now (bytes .entry)) place ⌝ }
+{
+    let refusal = mark_refusal(bytes);
+    if refusal != 0 {
+        return Sighted::Refused(refusal);
+    }
+    star_from(bytes, place)
+}
+
+// Whether so many stars stand from a place on, and nothing after them.
+fn check_stars(bytes: &[u8], n: u32, first: usize) -> Accepted
+    ensures { λ r. ⌜ shownAccepted r ≡ with length (starsOf n (drop first (now (bytes .entry)))) ⌝ }
+{
+    let mut p = first;
+    let mut i: u32 = 0;
+    while i < n {
+        match star_from(bytes, p) {
+            Sighted::Refused(k) => {
+                return Accepted::Refused(k);
+            }
+            Sighted::Star(_, next) => {
+                p = next;
+            }
+        }
+        i += 1;
+    }
+    if p < bytes.len() {
+        return Accepted::Refused(13);
+    }
+    Accepted::Stars(n)
+}
+
+// How many stars a whole list has.
+// Refusals: the first met, as `open`, as `star_at` at each star, then 13 for bytes over.
+pub fn accept(bytes: &[u8]) -> Accepted
+    ensures { λ r. ⌜ shownAccepted r ≡ acceptRule (now (bytes .entry)) ⌝ }
+{
+    match open(bytes) {
+        Opened::Refused(k) => Accepted::Refused(k),
+        Opened::Stars(n, first) => check_stars(bytes, n, first),
+    }
+}
+
+// How many bytes a star takes.
+fn star_size(star: Star) -> usize
+    ensures { λ r. ⌜ r ≡ length (starGroups star) ⌝ }
+{
+    let number = star.number;
+    let asc = star.asc;
+    let dec = star.dec;
+    list_groups::count(number)
+        + list_groups::count(asc)
+        + list_groups::count(list_groups::fold(dec))
+}
+
+// A star's bytes from the place on, in range or not, and the place after them.
+fn write_star(out: &mut [u8], at: usize, star: Star) -> usize
+    ensures { λ r. ⌜ Wrote (now (out .entry)) at (starGroups star) (now (out .exit)) r ⌝ }
+{
+    let a = list_groups::put_number(out, at, star.number);
+    let b = list_groups::put_number(out, a, star.asc);
+    list_groups::put_number(out, b, list_groups::fold(star.dec))
+}
+
+// The first byte and the count from the place on, and the place after them.
+fn write_head(out: &mut [u8], at: usize, n: u32) -> usize
+    ensures { λ r. ⌜ Wrote (now (out .entry)) at (headBytes n) (now (out .exit)) r ⌝ }
+{
+    let a = lent::put_byte(out, at, MARK);
+    list_groups::put_number(out, a, n)
+}
+
+// Whether so many bytes have room from the place on.
+fn has_room(len: usize, at: usize, size: usize) -> bool
+    ensures { λ r. ⌜ r ≡ leb (at + size) len ⌝ }
+{
+    if at > len {
+        return false;
+    }
+    size <= len - at
+}
+
+// The head of a list with so many stars, from the place on.
+// Refusals: 8 for a count above what a list may have, then 8 for no room.
+pub fn put_head(out: &mut [u8], place: usize, count: u32) -> Written
+    ensures { λ r. ⌜ Put (headText count) (now (out .entry)) place (now (out .exit)) r ⌝ }
+{
+    if count > MOST_STARS {
+        return Written::Refused(8);
+    }
+    if !has_room(out.len(), place, 1 + list_groups::count(count)) {
+        return Written::Refused(8);
+    }
+    Written::To(write_head(out, place, count))
+}
+
+// A star, from the place on.
+// Refusals: 9 for a star out of range, then 8 for no room.
+pub fn put_star(out: &mut [u8], place: usize, star: Star) -> Written
+    ensures { λ r. ⌜ Put (starText star) (now (out .entry)) place (now (out .exit)) r ⌝ }
+{
+    if !list::in_range(star) {
+        return Written::Refused(9);
+    }
+    if !has_room(out.len(), place, star_size(star)) {
+        return Written::Refused(8);
+    }
+    Written::To(write_star(out, place, star))
+}
+
+// The records of the stars that stand from a place on, from the slice's start on: so many, and up to the first that is refused.
+fn lay_stars(out: &mut [u8], bytes: &[u8], n: u32, first: usize) -> usize
+    ensures { λ r. ⌜ Wrote (now (out .entry)) 0 (listBytes (starsUpto n (drop first (now (bytes .entry))))) (now (out .exit)) r ⌝ }
+{
+    let mut p = first;
+    let mut place = 0;
+    let mut i: u32 = 0;
+    while i < n {
+        match star_from(bytes, p) {
+            Sighted::Refused(_) => {
+                return place;
+            }
+            Sighted::Star(star, next) => {
+                place = list::put_star(out, place, star);
+                p = next;
+            }
+        }
+        i += 1;
+    }
+    place
+}
+
+// A radio list as a stored list, from the slice's start on: how many bytes were written.
+// Refusals: as `accept`, then 8 for a slice that is shorter than the answer.
+pub fn radio_to_list(bytes: &[u8], out: &mut [u8]) -> Written
+    ensures { λ r. ⌜ Put (toList (now (bytes .entry))) (now (out .entry)) 0 (now (out .exit)) r ⌝ }
+{
+    match open(bytes) {
+        Opened::Refused(k) => Written::Refused(k),
+        Opened::Stars(n, first) => match check_stars(bytes, n, first) {
+            Accepted::Refused(k) => Written::Refused(k),
+            Accepted::Stars(m) => {
+                if out.len() < list::WIDTH * (m as usize) {
+                    return Written::Refused(8);
+                }
+                Written::To(lay_stars(out, bytes, n, first))
+            }
+        },
+    }
+}
+
+// How many bytes the stars of a list take, or 9 for a record out of range.
+fn stars_size(bytes: &[u8]) -> Written
+    requires { ⌜ isList (now bytes) ≡ true ⌝ }
+    ensures { λ r. ⌜ shownWritten r ≡ sizeOf (stars (now (bytes .entry))) ⌝ }
+{
+    let n = list::count(bytes);
+    let mut size: usize = 0;
+    let mut i: usize = 0;
+    while i < n {
+        let star = list::nth(bytes, i);
+        if !list::in_range(star) {
+            return Written::Refused(9);
+        }
+        size += star_size(star);
+        i += 1;
+    }
+    Written::To(size)
+}
+
+// The stars of a list from the place on, and the place after them.
+fn write_stars(out: &mut [u8], at: usize, bytes: &[u8]) -> usize
+    ensures { λ r. ⌜ Wrote (now (out .entry)) at (spellAll starGroups (stars (now (bytes .entry)))) (now (out .exit)) r ⌝ }
+{
+    let n = list::count(bytes);
+    let mut place = lent::within(at, out.len());
+    let mut i: usize = 0;
+    while i < n {
+        place = write_star(out, place, list::nth(bytes, i));
+        i += 1;
+    }
+    place
+}
+
+// A stored list as a radio list, from the slice's start on: how many bytes were written.
+// Refusals: 8 for bytes that are no list, 9 for a record out of range, then 8 for a slice that is shorter than the answer.
+pub fn list_to_radio(bytes: &[u8], out: &mut [u8]) -> Written
+    ensures { λ r. ⌜ Put (toRadio (now (bytes .entry))) (now (out .entry)) 0 (now (out .exit)) r ⌝ }
+{
+    if !list::is_list(bytes) {
+        return Written::Refused(8);
+    }
+    match stars_size(bytes) {
+        Written::Refused(k) => Written::Refused(k),
+        Written::To(size) => {
+            let n = list::count(bytes) as u32;
+            if out.len() < 1 + list_groups::count(n) + size {
+                return Written::Refused(8);
+            }
+            let place = write_head(out, 0, n);
+            Written::To(write_stars(out, place, bytes))
+        }
+    }
+}

@@ -1,0 +1,488 @@
+//! Lists over the radio link: document 02's request (i) written a second time, and the port's reader, writer and movers compared with it.
+use inputs::Random;
+use lists::{bad_list, Record};
+use std::cmp;
+use Count;
+
+extern "C" {
+    fn brundelak_radio_open(bytes: *const u8, len: usize, count: *mut u32, place: *mut usize) -> u8;
+    fn brundelak_radio_star(bytes: *const u8, len: usize, place: usize, number: *mut u32, asc: *mut u32, dec: *mut i32, next: *mut usize) -> u8;
+    fn brundelak_radio_accept(bytes: *const u8, len: usize, count: *mut u32) -> u8;
+    fn brundelak_radio_put_head(out: *mut u8, len: usize, place: usize, count: u32, next: *mut usize) -> u8;
+    fn brundelak_radio_put_star(out: *mut u8, len: usize, place: usize, number: u32, asc: u32, dec: i32, next: *mut usize) -> u8;
+    fn brundelak_radio_to_list(bytes: *const u8, len: usize, out: *mut u8, out_len: usize, written: *mut usize) -> u8;
+    fn brundelak_list_to_radio(bytes: *const u8, len: usize, out: *mut u8, out_len: usize, written: *mut usize) -> u8;
+}
+
+// ---- request (i)
+
+/// What is answered, or the number of the refusal.
+type Answer<T> = Result<T, u8>;
+
+/// A number in as many groups as its bits need.
+fn groups(n: u32) -> Vec<u8> {
+    let count = cmp::max(1, (32 - n.leading_zeros() as usize + 6) / 7);
+    (0..count).map(|k| (n as u64 >> (7 * k)) as u8 & 0x7F | if k + 1 < count { 0x80 } else { 0 }).collect()
+}
+
+/// A number from a place on, and the place after it. A byte shows 12 where no number of 32 bits is spelt so up to it.
+fn number(bytes: &[u8], place: usize) -> Answer<(u32, usize)> {
+    let (mut value, mut k) = (0u64, 0);
+    loop {
+        let byte = *place.checked_add(k).and_then(|i| bytes.get(i)).ok_or(13)?;
+        value += ((byte & 0x7F) as u64) << (7 * k);
+        k += 1;
+        if byte < 0x80 {
+            let shortest = k == 1 || value >= 1 << (7 * (k - 1));
+            return if shortest && value <= 0xFFFFFFFF { Ok((value as u32, place + k)) } else { Err(12) };
+        }
+        // At least a 1 stands in the groups to come.
+        if value + (1 << (7 * k)) > 0xFFFFFFFF {
+            return Err(12);
+        }
+    }
+}
+
+fn folded(dec: i32) -> u32 {
+    let d = dec as i64;
+    (if d < 0 { -2 * d - 1 } else { 2 * d }) as u32
+}
+
+fn unfolded(n: u32) -> i32 {
+    let half = (n / 2) as i32;
+    if n % 2 == 0 {
+        half
+    } else {
+        -half - 1
+    }
+}
+
+fn first_byte(bytes: &[u8]) -> Answer<()> {
+    match bytes.first() {
+        None => Err(13),
+        Some(&2) => Ok(()),
+        Some(_) => Err(11),
+    }
+}
+
+fn open(bytes: &[u8]) -> Answer<(u32, usize)> {
+    first_byte(bytes)?;
+    let (count, place) = number(bytes, 1)?;
+    if count > 5000 {
+        return Err(8);
+    }
+    Ok((count, place))
+}
+
+fn star(bytes: &[u8], place: usize) -> Answer<(Record, usize)> {
+    first_byte(bytes)?;
+    let (name, place) = number(bytes, place)?;
+    let (asc, place) = number(bytes, place)?;
+    let (dec, place) = number(bytes, place)?;
+    let one = Record { number: name, asc: asc, dec: unfolded(dec) };
+    if !one.in_range() {
+        return Err(9);
+    }
+    Ok((one, place))
+}
+
+fn accept(bytes: &[u8]) -> Answer<Vec<Record>> {
+    let (count, mut place) = open(bytes)?;
+    let mut stars = vec![];
+    for _ in 0..count {
+        let (one, next) = star(bytes, place)?;
+        stars.push(one);
+        place = next;
+    }
+    if place != bytes.len() {
+        return Err(13);
+    }
+    Ok(stars)
+}
+
+fn head(count: u32) -> Answer<Vec<u8>> {
+    if count > 5000 {
+        return Err(8);
+    }
+    Ok([vec![2], groups(count)].concat())
+}
+
+fn star_bytes(one: &Record) -> Answer<Vec<u8>> {
+    if !one.in_range() {
+        return Err(9);
+    }
+    Ok([groups(one.number), groups(one.asc), groups(folded(one.dec))].concat())
+}
+
+fn to_list(bytes: &[u8]) -> Answer<Vec<u8>> {
+    Ok(accept(bytes)?.iter().flat_map(|one| one.bytes()).collect())
+}
+
+fn to_radio(bytes: &[u8]) -> Answer<Vec<u8>> {
+    if bad_list(bytes) {
+        return Err(8);
+    }
+    let mut radio = head((bytes.len() / 12) as u32)?;
+    for i in 0..bytes.len() / 12 {
+        radio.extend(star_bytes(&Record::at(bytes, 12 * i))?);
+    }
+    Ok(radio)
+}
+
+/// The text that a slice of some length gets from a place on: 8 where it has no room, after its own refusal.
+fn with_room(text: Answer<Vec<u8>>, len: usize, place: usize) -> Answer<Vec<u8>> {
+    let text = text?;
+    match place.checked_add(text.len()) {
+        Some(end) if end <= len => Ok(text),
+        _ => Err(8),
+    }
+}
+
+// ---- inputs
+
+/// A number of any length.
+fn a_number(r: &mut Random) -> u32 {
+    const AT: [u32; 11] = [0, 1, 127, 128, 16383, 16384, 2097151, 2097152, 268435455, 268435456, 0xFFFFFFFF];
+    match r.below(3) {
+        0 => AT[r.below(11)],
+        _ => (r.bits() as u32) >> r.below(32),
+    }
+}
+
+/// A star, in range but for one of so many.
+fn record(r: &mut Random, out_of: usize) -> Record {
+    const ASC: [u32; 5] = [1296000000, 1296000001, 0x7FFFFFFF, 0x80000000, 0xFFFFFFFF];
+    const DEC: [i32; 4] = [324000001, -324000001, 2147483647, -2147483648];
+    let mut one = Record {
+        number: a_number(r),
+        asc: cmp::min(a_number(r), 1295999999),
+        dec: cmp::min(cmp::max(unfolded(a_number(r)), -324000000), 324000000),
+    };
+    if r.below(out_of) == 0 {
+        match r.below(2) {
+            0 => one.asc = ASC[r.below(5)],
+            _ => one.dec = DEC[r.below(4)],
+        }
+    }
+    one
+}
+
+/// A radio list, as its first byte and its numbers' groups.
+fn pieces(r: &mut Random) -> Vec<Vec<u8>> {
+    let stars = if r.below(8) == 0 { 0 } else { 1 + r.below(9) };
+    let mut all = vec![vec![2], groups(stars as u32)];
+    for _ in 0..stars {
+        let one = record(r, 24);
+        all.extend(vec![groups(one.number), groups(one.asc), groups(folded(one.dec))]);
+    }
+    all
+}
+
+/// A radio list, good or a slip or two from it, or any bytes.
+fn radio(r: &mut Random) -> Vec<u8> {
+    const FIFTH: [u8; 8] = [0, 1, 0x0F, 0x10, 0x7F, 0x80, 0x8F, 0xFF];
+    const COUNTS: [u32; 5] = [4999, 5000, 5001, 65536, 0xFFFFFFFF];
+    let mut all = pieces(r);
+    let (mut over, mut cut) = (vec![], None);
+    for _ in 0..[0, 0, 1, 2][r.below(4)] {
+        let last = all.len() - 1;
+        let at = 1 + r.below(last);
+        match r.below(9) {
+            // One group more than it needs.
+            0 => {
+                let end = all[at].len() - 1;
+                all[at][end] |= 0x80;
+                all[at].push(0);
+            }
+            1 => all[at] = vec![r.bits() as u8 | 0x80, 0xFF, 0x80, r.bits() as u8 | 0x80, FIFTH[r.below(8)]],
+            // Six groups.
+            2 => all[at] = vec![0x80, 0x80, 0x80, 0x80, 0x81 + r.below(15) as u8, 1],
+            3 => all[1] = groups(last as u32 / 3 + 1),
+            4 => all[1] = groups(COUNTS[r.below(5)]),
+            5 => over = (0..1 + r.below(3)).map(|_| r.below(3) as u8).collect(),
+            6 => cut = Some(r.bits() as usize),
+            7 => all[0] = vec![r.below(6) as u8],
+            _ => {
+                let k = r.below(all[at].len());
+                all[at][k] = r.bits() as u8;
+            }
+        }
+    }
+    let mut bytes = all.concat();
+    bytes.extend(over);
+    if let Some(k) = cut {
+        let left = k % (bytes.len() + 1);
+        bytes.truncate(left);
+    }
+    if r.below(24) == 0 {
+        bytes = (0..r.below(40)).map(|_| r.bits() as u8).collect();
+        if r.below(2) == 0 && !bytes.is_empty() {
+            bytes[0] = 2;
+        }
+    }
+    bytes
+}
+
+/// A stored list, as a mover may get it.
+fn list(r: &mut Random) -> Vec<u8> {
+    let stars = r.below(12);
+    let mut bytes: Vec<u8> = (0..stars).flat_map(|_| record(r, 40).bytes()).collect();
+    if r.below(10) == 0 {
+        bytes.extend((0..1 + r.below(11)).map(|_| 0));
+    }
+    bytes
+}
+
+/// A place: most often of a star, as reading goes.
+fn a_place(r: &mut Random, bytes: &[u8]) -> usize {
+    const FAR: [usize; 4] = [!0, !0 - 1, !0 - 4, 1 << 63];
+    match r.below(8) {
+        0 => FAR[r.below(4)],
+        1 => r.below(bytes.len() + 4),
+        2 => bytes.len() - cmp::min(bytes.len(), r.below(6)),
+        _ => {
+            let (stars, mut place) = open(bytes).unwrap_or((1, 2));
+            for _ in 0..r.below(cmp::max(1, stars as usize)) {
+                place = star(bytes, place).map(|s| s.1).unwrap_or(place);
+            }
+            place
+        }
+    }
+}
+
+/// The length of a slice that a text goes into: exact, too short, or longer.
+fn room(r: &mut Random, place: usize, text: &Answer<Vec<u8>>) -> usize {
+    let exact = place.saturating_add(text.as_ref().map(|t| t.len()).unwrap_or(20));
+    let exact = if exact > 100000 { 20 } else { exact };
+    match r.below(8) {
+        0 => exact.saturating_sub(1),
+        1 => r.below(exact + 1),
+        2 | 3 => exact + r.below(9),
+        _ => exact,
+    }
+}
+
+// ---- the comparison
+
+fn status_of<T>(answer: &Answer<T>) -> u8 {
+    answer.as_ref().err().map_or(0, |&n| n)
+}
+
+fn compare_open(bytes: &[u8], count: &mut Count) {
+    let expected = open(bytes);
+    let kept = (0xA5A5A5A5, 0x1234567);
+    let mut got = kept;
+    let status = unsafe { brundelak_radio_open(bytes.as_ptr(), bytes.len(), &mut got.0, &mut got.1) };
+    let agrees = status == status_of(&expected) && got == expected.unwrap_or(kept);
+    count.tell(status, agrees, || format!("radio_open: {:?} for {:?}, {:?}", got, expected, bytes));
+}
+
+fn compare_star(bytes: &[u8], place: usize, count: &mut Count) {
+    let expected = star(bytes, place);
+    let kept = (Record { number: 0xA5A5A5A5, asc: 0x5A5A5A5A, dec: -7 }, 0x1234567);
+    let (mut one, mut next) = kept;
+    let status = unsafe {
+        brundelak_radio_star(bytes.as_ptr(), bytes.len(), place, &mut one.number, &mut one.asc, &mut one.dec, &mut next)
+    };
+    let agrees = status == status_of(&expected) && (one, next) == expected.unwrap_or(kept);
+    count.tell(status, agrees, || format!("radio_star: {:?} for {:?}, place {} of {:?}", (one, next), expected, place, bytes));
+}
+
+fn compare_accept(bytes: &[u8], count: &mut Count) {
+    let expected = accept(bytes).map(|stars| stars.len() as u32);
+    let mut got = 0xA5A5A5A5;
+    let status = unsafe { brundelak_radio_accept(bytes.as_ptr(), bytes.len(), &mut got) };
+    let agrees = status == status_of(&expected) && got == expected.unwrap_or(0xA5A5A5A5);
+    count.tell(status, agrees, || format!("radio_accept: {} for {:?}, {:?}", got, expected, bytes));
+}
+
+/// A call that writes into a slice of some length from a place on, eight bytes on either side of it. No two bytes beside each other are
+/// the same before it.
+fn compare_put<F>(name: &str, text: Answer<Vec<u8>>, len: usize, place: usize, count: &mut Count, call: F)
+where
+    F: FnOnce(*mut u8, *mut usize) -> u8,
+{
+    let expected = with_room(text, len, place);
+    let mut want: Vec<u8> = (0..len + 16).map(|i| 0xA5 ^ i as u8).collect();
+    let mut got = (want.clone(), 0x1234567);
+    let status = call(unsafe { got.0.as_mut_ptr().offset(8) }, &mut got.1);
+    let mut after = 0x1234567;
+    if let Ok(ref t) = expected {
+        want[8 + place..8 + place + t.len()].copy_from_slice(t);
+        after = place + t.len();
+    }
+    let agrees = status == status_of(&expected) && got == (want, after);
+    count.tell(status, agrees, || format!("{}: status {}, {:?} for {:?}, place {} of {}", name, status, got, expected, place, len));
+}
+
+fn compare_put_head(r: &mut Random, count: &mut Count) {
+    let stars = [0, 127, 128, 5000, 5001, r.below(5000) as u32, a_number(r)][r.below(7)];
+    let (place, text) = (a_place(r, &[2; 12]), head(stars));
+    let len = room(r, place, &text);
+    compare_put("radio_put_head", text, len, place, count, |out, next| unsafe { brundelak_radio_put_head(out, len, place, stars, next) });
+}
+
+fn compare_put_star(r: &mut Random, count: &mut Count) {
+    let one = record(r, 4);
+    let (place, text) = (a_place(r, &[2; 12]), star_bytes(&one));
+    let len = room(r, place, &text);
+    compare_put("radio_put_star", text, len, place, count, |out, next| unsafe {
+        brundelak_radio_put_star(out, len, place, one.number, one.asc, one.dec, next)
+    });
+}
+
+/// What is moved goes back to the same bytes.
+fn compare_back(name: &str, moved: &Answer<Vec<u8>>, back: fn(&[u8]) -> Answer<Vec<u8>>, bytes: &[u8], count: &mut Count) {
+    if let Ok(ref there) = *moved {
+        let returned = back(there);
+        if returned.as_ref().map(|b| &b[..]) != Ok(bytes) {
+            count.differing += 1;
+            println!("differs: {}: there and back {:?} is {:?}", name, bytes, returned);
+        }
+    }
+}
+
+fn compare_to_list(bytes: &[u8], len: usize, count: &mut Count) {
+    let text = to_list(bytes);
+    compare_back("radio_to_list", &text, to_radio, bytes, count);
+    compare_put("radio_to_list", text, len, 0, count, |out, written| unsafe {
+        brundelak_radio_to_list(bytes.as_ptr(), bytes.len(), out, len, written)
+    });
+}
+
+fn compare_to_radio(bytes: &[u8], len: usize, count: &mut Count) {
+    let text = to_radio(bytes);
+    compare_back("list_to_radio", &text, to_list, bytes, count);
+    compare_put("list_to_radio", text, len, 0, count, |out, written| unsafe {
+        brundelak_list_to_radio(bytes.as_ptr(), bytes.len(), out, len, written)
+    });
+}
+
+/// The longest lists, and what a count promises that the bytes do not hold.
+fn longest() -> Vec<Vec<u8>> {
+    let widest = Record { number: 0xFFFFFFFF, asc: 1295999999, dec: -324000000 };
+    let stars = |n: u32| [vec![2], groups(n), (0..n).flat_map(|_| star_bytes(&widest).unwrap()).collect()].concat();
+    let full = stars(5000);
+    vec![
+        [&full[..], &[0][..]].concat(),
+        full[..full.len() - 1].to_vec(),
+        full,
+        stars(5001),
+        vec![2, 0x88, 0x27],
+        vec![2, 0x88, 0x27, 0, 0, 0],
+        vec![2, 0xFF, 0xFF, 0xFF, 0xFF, 0x0F],
+    ]
+}
+
+/// n radio lists read, accepted and moved, n stored lists moved, and as many heads and stars written.
+pub fn compare(n: u64) -> (u64, u64) {
+    let mut r = Random(::SEED);
+    let (mut opens, mut stars, mut accepts) = (Count::new(), Count::new(), Count::new());
+    let (mut heads, mut puts, mut downs, mut ups) = (Count::new(), Count::new(), Count::new(), Count::new());
+    let mut lists = longest();
+    lists.extend((0..n).map(|_| radio(&mut r)));
+    for bytes in &lists {
+        compare_open(bytes, &mut opens);
+        for _ in 0..3 {
+            let place = a_place(&mut r, bytes);
+            compare_star(bytes, place, &mut stars);
+        }
+        compare_accept(bytes, &mut accepts);
+        let len = room(&mut r, 0, &to_list(bytes));
+        compare_to_list(bytes, len, &mut downs);
+        compare_put_head(&mut r, &mut heads);
+        compare_put_star(&mut r, &mut puts);
+        let stored = to_list(bytes).unwrap_or_else(|_| list(&mut r));
+        let len = room(&mut r, 0, &to_radio(&stored));
+        compare_to_radio(&stored, len, &mut ups);
+    }
+    let star = Record { number: 1, asc: 2, dec: 3 }.bytes();
+    for &n in [4999, 5000, 5001].iter() {
+        compare_to_radio(&star.iter().cloned().cycle().take(12 * n).collect::<Vec<u8>>(), 75003, &mut ups);
+    }
+    let met = |c: &Count, numbers: &[usize]| numbers.iter().all(|&k| c.by[k] > 0);
+    let all = met(&opens, &[0, 8, 11, 12, 13])
+        && met(&stars, &[0, 9, 11, 12, 13])
+        && met(&accepts, &[0, 8, 9, 11, 12, 13])
+        && met(&heads, &[0, 8])
+        && met(&puts, &[0, 8, 9])
+        && met(&downs, &[0, 8, 9, 11, 12, 13])
+        && met(&ups, &[0, 8, 9]);
+    if !all {
+        println!("radio: a refusal that was never met");
+    }
+    let counts = [
+        ("radio_open", opens),
+        ("radio_star", stars),
+        ("radio_accept", accepts),
+        ("radio_put_head", heads),
+        ("radio_put_star", puts),
+        ("radio_to_list", downs),
+        ("list_to_radio", ups),
+    ];
+    for &(name, ref count) in counts.iter() {
+        println!("{}", count.line(name));
+    }
+    let (calls, differing) = counts.iter().fold((0, 0), |t, c| (t.0 + c.1.calls, t.1 + c.1.differing));
+    (calls, differing + !all as u64)
+}
+
+// ---- the sample
+
+fn hex(bytes: &[u8]) -> String {
+    bytes.iter().map(|b| format!("{:02x}", b)).collect()
+}
+
+/// The status, and behind it what is answered.
+fn told<T, F: FnOnce(T) -> String>(answer: Answer<T>, shown: F) -> String {
+    match answer {
+        Ok(x) => format!("0 {}", shown(x)).trim_end().to_string(),
+        Err(n) => n.to_string(),
+    }
+}
+
+fn put_told(text: Answer<Vec<u8>>, len: usize, place: usize) -> String {
+    told(with_room(text, len, place), |t| hex(&t))
+}
+
+/// The sample's radio lists, and a stored list for each.
+pub fn sample(n: u64) {
+    println!("# A radio list in hexadecimal, then calls on it: radio_open = status, count, place; radio_star PLACE = status, number, right");
+    println!("# ascension, declination, next place; radio_accept = status, count; radio_to_list LENGTH = status, what is written into a slice of");
+    println!("# so many bytes; radio_put_head LENGTH PLACE COUNT and radio_put_star LENGTH PLACE NUMBER ASC DEC likewise. Then a stored list");
+    println!("# and list_to_radio LENGTH.");
+    let mut r = Random(::SEED);
+    for _ in 0..n {
+        let bytes = radio(&mut r);
+        println!("radio {}", hex(&bytes));
+        println!("radio_open = {}", told(open(&bytes), |(count, place)| format!("{} {}", count, place)));
+        let mut places: Vec<usize> = (0..3).map(|_| a_place(&mut r, &bytes)).collect();
+        places.dedup();
+        for place in places {
+            let answer = told(star(&bytes, place), |(s, next)| format!("{} {} {} {}", s.number, s.asc, s.dec, next));
+            println!("radio_star {} = {}", place, answer);
+        }
+        println!("radio_accept = {}", told(accept(&bytes), |stars| stars.len().to_string()));
+        let len = room(&mut r, 0, &to_list(&bytes));
+        println!("radio_to_list {} = {}", len, put_told(to_list(&bytes), len, 0));
+        let stars = [0, 127, 128, 5000, 5001, a_number(&mut r)][r.below(6)];
+        let place = r.below(9);
+        let len = room(&mut r, place, &head(stars));
+        println!("radio_put_head {} {} {} = {}", len, place, stars, put_told(head(stars), len, place));
+        let one = record(&mut r, 4);
+        let len = room(&mut r, place, &star_bytes(&one));
+        println!(
+            "radio_put_star {} {} {} {} {} = {}",
+            len,
+            place,
+            one.number,
+            one.asc,
+            one.dec,
+            put_told(star_bytes(&one), len, place)
+        );
+        let stored = list(&mut r);
+        let len = room(&mut r, 0, &to_radio(&stored));
+        println!("list {}", hex(&stored));
+        println!("list_to_radio {} = {}", len, put_told(to_radio(&stored), len, 0));
+    }
+}
