@@ -343,7 +343,8 @@ uint8_t brundelak_topopcent_ecl_coords(double ecl_long, double ecl_lat, double p
  * Given:     asc, dec        right ascension, declination on day1
  *            day1, day2      Julian days
  * Returned:  first, second   right ascension (not folded), declination on day2
- * Refusals:  1, 2, 3, then 7 (precession), then 4 on the precessed declination */
+ * Refusals:  1, 2, 3, then 7 (precession), then 4 on the precessed declination
+ * Note:      the obliquity is the true one on day2; files made by the mean one differ as docs/DIFFERENCES.md shows. */
 uint8_t brundelak_chain(double asc, double dec, double day1, double day2, double *first, double *second);
 
 /* ---- the stored list ---------------------------------------------------------------------------------------------

@@ -66,13 +66,13 @@ fn chain_in(a: &[f64]) -> Outcome {
         Answer(p) => p,
     };
     let (long, oblq) = nutation::nutation(a[3]);
-    let mean = written::obliquity(written::century(a[3]));
+    let tru = written::obliquity(written::century(a[3])) + oblq;
     let point = coords::EqPoint { asc: moved[0], dec: moved[1] };
-    let refusal = first_of(&[Angle, Steep, Angle, Angle, Angle], &[point.asc, point.dec, long, oblq, mean]);
+    let refusal = first_of(&[Angle, Steep, Angle, Angle, Angle], &[point.asc, point.dec, long, oblq, tru]);
     if refusal != 0 {
         return Refused(refusal);
     }
-    let n = nutation::nutation_in_eq_coords(&point, long, oblq, mean);
+    let n = nutation::nutation_in_eq_coords(&point, long, oblq, tru);
     let s = aberr::stell_aberr_in_eq_coords(&point, a[3]);
     Answer(vec![(moved[0] + n.0) + s.0, (moved[1] + n.1) + s.1])
 }
@@ -91,9 +91,9 @@ const CHAIN: [Sort; 4] = [Angle, Latitude, Day, Day];
 pub fn own_chain(a: &[f64]) -> Vec<f64> {
     let moved = own::precess::precess_eq_coords(a[0], a[1], a[2], a[3]);
     let (long, oblq) = own::nutation::nutation(a[3]);
-    let mean = written::obliquity(written::century(a[3]));
+    let tru = written::obliquity(written::century(a[3])) + oblq;
     let point = own::coords::EqPoint { asc: moved.0, dec: moved.1 };
-    let n = own::nutation::nutation_in_eq_coords(&point, long, oblq, mean);
+    let n = own::nutation::nutation_in_eq_coords(&point, long, oblq, tru);
     let s = own::aberr::stell_aberr_in_eq_coords(&point, a[3]);
     vec![(moved.0 + n.0) + s.0, (moved.1 + n.1) + s.1]
 }

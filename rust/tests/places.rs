@@ -134,9 +134,9 @@ fn the_chain_is_its_steps() {
     let (asc, dec) = precess::precess_eq_coords(0.7, 0.8, day1, day2).unwrap();
     let point = EqPoint { asc, dec };
     let t = time::julian_cent(day2).unwrap();
-    let oblq = deg(84381.448 / 3600.0 - t * (46.8150 / 3600.0 + t * (0.00059 / 3600.0 - t * (0.001813 / 3600.0))));
+    let mean = deg(84381.448 / 3600.0 - t * (46.8150 / 3600.0 + t * (0.00059 / 3600.0 - t * (0.001813 / 3600.0))));
     let (long, obl) = nutation::nutation(day2).unwrap();
-    let n = nutation::nutation_in_eq_coords(&point, long, obl, oblq).unwrap();
+    let n = nutation::nutation_in_eq_coords(&point, long, obl, mean + obl).unwrap();
     let a = aberr::stell_aberr_in_eq_coords(&point, day2).unwrap();
     assert_eq!(chain::chain(0.7, 0.8, day1, day2), Ok(EqPoint { asc: (asc + n.0) + a.0, dec: (dec + n.1) + a.1 }));
 }

@@ -3,7 +3,7 @@
 ghost use mathlib.Core.Path.{_≡_};
 ghost use Rattle.quantity.specs.rules.Answer.{shownTwo};
 ghost use Rattle.precess.specs.rules.Days.{placeRefusal};
-ghost use Rattle.chain.specs.rules.Obliquity.{meanObliquity, obliquityOf};
+ghost use Rattle.chain.specs.rules.Obliquity.{meanObliquity, meanObliquityOf, trueObliquity};
 ghost use Rattle.chain.specs.rules.Chain.{pointRefusal, anglesRefusal, chainRule};
 ghost use Rattle.chain.specs.rules.Night.{nightFrom, nightOf, moved, reducedAt, reducedIn};
 use aberr_rows::Velocity;
@@ -30,15 +30,22 @@ fn mean_obliquity(c: f64) -> Deg
 }
 
 // The mean obliquity on a day.
-pub fn obliquity_on(day: f64) -> Rad
-    ensures { λ r. ⌜ r ≡ obliquityOf day ⌝ }
+pub fn mean_obliquity_on(day: f64) -> Rad
+    ensures { λ r. ⌜ r ≡ meanObliquityOf day ⌝ }
 {
     angle::radians(mean_obliquity(time::century(day)))
 }
 
+// The true obliquity, from the mean one and nutation in obliquity.
+pub fn true_obliquity(mean: Rad, nut_in_oblq: Rad) -> Rad
+    ensures { λ r. ⌜ r ≡ trueObliquity mean «nut_in_oblq» ⌝ }
+{
+    Rad(mean.0 + nut_in_oblq.0)
+}
+
 // ---- the night
 
-// All that two days fix: precession's turns, nutation, the sine and cosine of the obliquity, the Earth's velocity, and the refusal of
+// All that two days fix: precession's turns, nutation, the sine and cosine of the true obliquity, the Earth's velocity, and the refusal of
 // the three angles that nutation goes by, 0 where there is none.
 pub struct Night {
     pub turns: EqTurns,
@@ -83,10 +90,12 @@ fn night_from(turns: EqTurns, n: Nutations, oblq: Rad, v: Velocity) -> Night
 pub fn night_of(day1: f64, day2: f64) -> Night
     ensures { λ r. ⌜ r ≡ nightOf day1 day2 ⌝ }
 {
+    let n = nutation_table::nutation_on(day2);
+    let in_oblq = n.oblq;
     night_from(
         precess::eq_turns(day1, day2),
-        nutation_table::nutation_on(day2),
-        obliquity_on(day2),
+        n,
+        true_obliquity(mean_obliquity_on(day2), in_oblq),
         aberr_velocity::velocity_on(day2),
     )
 }

@@ -143,10 +143,21 @@ fn precessions() {
     two(precess_ecl::precess_ecl_coords(deg(149.48194), deg(1.76549), J2000, 1643074.5));
 }
 
+// The mean obliquity on a day, then the true one.
+fn obliquities(day: f64) {
+    let mean = chain::mean_obliquity_on(day);
+    number(mean.0);
+    end();
+    match nutation::nutation(day) {
+        Two::Are(_, in_oblq) => number(chain::true_obliquity(mean, Rad(in_oblq)).0),
+        Two::Refused(n) => refusal(n),
+    }
+    end();
+}
+
 fn reductions() {
     two(nutation::nutation(2446895.5));
-    number(chain::obliquity_on(2446895.5).0);
-    end();
+    obliquities(2446895.5);
     two(nutation::nutation_in_eq_coords(
         EqPoint {
             asc: deg(41.5472).0,

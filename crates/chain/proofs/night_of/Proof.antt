@@ -12,7 +12,8 @@ returns c =
     let c2 = c1 .before in
     let c3 = c2 .before in
     let c4 = c3 .before in
-    rw (c4 .eq-turns .ensures, c3 .nutation-on .ensures, c2 .obliquity-on .ensures, c1 .velocity-on .ensures) at (c .night-from .ensures)
+    let c6 = c4 .before .before in
+    rw (c1 .velocity-on .ensures, c2 .true-obliquity .ensures, c3 .mean-obliquity-on .ensures, c4 .eq-turns .ensures, c6 .nutation-on .ensures) at (c .night-from .ensures)
 
 pub night-of-spec : {M : Type 1} → statement M
-night-of-spec = tie.close (tie.spec asks-nothing asks-nothing asks-nothing asks-nothing asks-nothing returns)
+night-of-spec = tie.close (tie.spec asks-nothing asks-nothing asks-nothing asks-nothing asks-nothing asks-nothing returns)

@@ -14,7 +14,7 @@ use Rattle.nutation.specs.rules.Day.{nutationRule}
 use Rattle.nutation_table.specs.rules.Day.{nutationOf}
 use Rattle.nutation.specs.rules.Point.{nutationInEqCoordsRule, nutationInEqCoordsIn}
 use Rattle.aberr.specs.rules.Star.{stellAberrInEqCoordsRule, stellAberrInEqCoordsIn}
-use Rattle.chain.specs.rules.Obliquity.{obliquityOf}
+use Rattle.chain.specs.rules.Obliquity.{meanObliquityOf, trueObliquity}
 use Rattle.chain.specs.rules.Chain.{point, sum, fromPoint, chainRule, pointRefusal, anglesRefusal}
 use Rattle.chain.specs.rules.Night.{nightFrom, nightOf, moved, reducedAt, reducedIn}
 
@@ -40,13 +40,16 @@ module _ (asc dec : Rad) (day1 day2 : Float) where
   abbrev nutations : Pair
   nutations = pair (nutationOf day2 .long .0) (nutationOf day2 .oblq .0)
 
+  abbrev oblq : Rad
+  oblq = trueObliquity (meanObliquityOf day2) (nutationOf day2 .oblq)
+
   -- at a precessed point, the second day being accepted
   at-point : (p : Pair) → dayRefusal day2 ≡ 0 → fromPoint p nutations day2 ≡ reducedAt (point p) (nightOf day1 day2)
   unfolding nutationInEqCoordsRule stellAberrInEqCoordsRule nutationInEqCoordsIn stellAberrInEqCoordsIn reducedAt moved nightOf nightFrom
   at-point p ok =
-      two-steps (pointRefusal (point p)) (anglesRefusal (nutationOf day2) (obliquityOf day2)) (dayRefusal day2)
-      (pair (nutationInEqCoordsIn (point p) (rad (first nutations)) (rad (second nutations)) (obliquityOf day2) .asc .0)
-      (nutationInEqCoordsIn (point p) (rad (first nutations)) (rad (second nutations)) (obliquityOf day2) .dec .0))
+      two-steps (pointRefusal (point p)) (anglesRefusal (nutationOf day2) oblq) (dayRefusal day2)
+      (pair (nutationInEqCoordsIn (point p) (rad (first nutations)) (rad (second nutations)) oblq .asc .0)
+      (nutationInEqCoordsIn (point p) (rad (first nutations)) (rad (second nutations)) oblq .dec .0))
       (pair (stellAberrInEqCoordsIn (point p) day2 .asc .0) (stellAberrInEqCoordsIn (point p) day2 .dec .0))
       (sum p) ok
 

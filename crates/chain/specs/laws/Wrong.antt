@@ -10,25 +10,38 @@ use Rattle.double.specs.laws.Apart.{apart}
 use Rattle.quantity.specs.declared.Shift.{Shift}
 use Rattle.quantity.specs.rules.Angle.{rad}
 use Rattle.quantity.specs.rules.Refusal.{epoch}
-use Rattle.quantity.specs.notions.Code.{ofRad, ofAnswer, ofFirst, unread}
+use Rattle.quantity.specs.notions.Code.{ofDeg, ofRad, ofAnswer, ofFirst, unread}
 use Rattle.quantity.specs.notions.Stated.{r0, r1, later, origin, northPole}
 use Rattle.quantity.specs.notions.Varies.{Varies}
 use Rattle.chain.specs.declared.Night.{Night}
-use Rattle.chain.specs.rules.Obliquity.{obliquityOf}
+use Rattle.chain.specs.rules.Obliquity.{meanObliquity, meanObliquityOf, trueObliquity}
 use Rattle.chain.specs.rules.Chain.{pointRefusal, chainRule}
 use Rattle.chain.specs.rules.Night.{nightOf, moved, reducedAt, reducedIn}
 use Rattle.chain.specs.notions.Computed.{computed}
 use Rattle.chain.specs.notions.Still.{still}
-use Rattle.chain.specs.notions.Wrong.{obliquityOfOneDay, nightOfOneDay, precessedPointNotSteep, aberrationAddedFirst, anglesOfTheNightNotTested, placeNotRefused}
+use Rattle.chain.specs.notions.Wrong.{obliquityOfOneDay, lastTermAdded, meanForTrue, nutationTakenAway, nightOfOneDay, precessedPointNotSteep, aberrationAddedFirst, anglesOfTheNightNotTested, placeNotRefused}
 
 abbrev shift : Float → Shift
 shift x = record { asc = rad x; dec = r0 }
 
 -- ---- what a day or two fix
 
-pub obliquity-of-one-day-excluded : obliquityOfOneDay later ≢ obliquityOf later
+pub obliquity-of-one-day-excluded : obliquityOfOneDay later ≢ meanObliquityOf later
 unfolding computed
 obliquity-of-one-day-excluded = apart ofRad refl
+
+-- at the century 1.0
+pub last-term-added-excluded : lastTermAdded one ≢ meanObliquity one
+unfolding computed
+last-term-added-excluded = apart ofDeg refl
+
+pub mean-for-true-excluded : meanForTrue r1 r1 ≢ trueObliquity r1 r1
+unfolding computed
+mean-for-true-excluded = apart ofRad refl
+
+pub nutation-taken-away-excluded : nutationTakenAway r1 r1 ≢ trueObliquity r1 r1
+unfolding computed
+nutation-taken-away-excluded = apart ofRad refl
 
 pub night-of-one-day-excluded : nightOfOneDay epoch later ≢ nightOf epoch later
 unfolding computed

@@ -1,14 +1,16 @@
 -- Wrong variants of the chain and of its parts.
 use Prim.Native.Nat.{ℕ}
 use lib.Ieee.{Float}
-use Rattle.double.specs.rules.Operations.{_⊕_}
+use Rattle.double.specs.rules.Operations.{_⊕_, _⊖_, _⊗_}
+use Rattle.quantity.specs.declared.Deg.{Deg}
 use Rattle.quantity.specs.declared.Rad.{Rad}
 use Rattle.quantity.specs.declared.EqPoint.{EqPoint}
 use Rattle.quantity.specs.declared.Shift.{Shift}
-use Rattle.quantity.specs.rules.Angle.{rad}
+use Rattle.quantity.specs.rules.Angle.{deg, rad}
 use Rattle.quantity.specs.rules.Answer.{Answer, answered, Pair, pair, unless}
 use Rattle.quantity.specs.rules.Refusal.{lower, epoch, angleRefusal, steepRefusal}
 use Rattle.elementary.specs.rules.Direction.{directionOf}
+use Rattle.helpers.specs.rules.Angle.{arc}
 use Rattle.precess.specs.rules.Days.{placeRefusal}
 use Rattle.precess.specs.rules.Equatorial.{eqTurnsOf}
 use Rattle.nutation_table.specs.rules.Day.{nutationOf}
@@ -16,17 +18,31 @@ use Rattle.nutation.specs.rules.Point.{nutationAt}
 use Rattle.aberr_velocity.specs.rules.Velocity.{velocityOf}
 use Rattle.aberr.specs.rules.Star.{aberrAt}
 use Rattle.chain.specs.declared.Night.{Night}
-use Rattle.chain.specs.rules.Obliquity.{obliquityOf}
+use Rattle.chain.specs.rules.Numbers.{n84381·448, n46·8150, n0·00059, n0·001813}
+use Rattle.chain.specs.rules.Obliquity.{meanObliquityOf, trueObliquity}
 use Rattle.chain.specs.rules.Chain.{pointRefusal}
 use Rattle.chain.specs.rules.Night.{nightFrom, nightOf, moved, reducedIn}
 
 -- that of 2451545.0
 abbrev pub obliquityOfOneDay : Float → Rad
-obliquityOfOneDay day = obliquityOf epoch
+obliquityOfOneDay day = meanObliquityOf epoch
+
+-- the last term added, where the paper takes it away
+abbrev pub lastTermAdded : Float → Deg
+lastTermAdded c = deg (arc n84381·448 ⊖ c ⊗ (arc n46·8150 ⊕ c ⊗ (arc n0·00059 ⊕ c ⊗ arc n0·001813)))
+
+-- nutation not added, and taken away
+abbrev pub meanForTrue : Rad → Rad → Rad
+meanForTrue mean nutation = mean
+
+abbrev pub nutationTakenAway : Rad → Rad → Rad
+nutationTakenAway mean nutation = rad (mean .0 ⊖ nutation .0)
 
 -- precession from the first day to itself
 abbrev pub nightOfOneDay : Float → Float → Night
-nightOfOneDay day1 day2 = nightFrom (eqTurnsOf day1 day1) (nutationOf day2) (obliquityOf day2) (velocityOf day2)
+nightOfOneDay day1 day2 =
+    let n = nutationOf day2 in
+    nightFrom (eqTurnsOf day1 day1) n (trueObliquity (meanObliquityOf day2) (n .oblq)) (velocityOf day2)
 
 -- the right ascension tested in the declination's place
 abbrev pub precessedPointNotSteep : EqPoint → ℕ

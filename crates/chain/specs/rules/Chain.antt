@@ -12,7 +12,7 @@ use Rattle.nutation_args.specs.declared.Nutations.{Nutations}
 use Rattle.nutation.specs.rules.Day.{nutationRule}
 use Rattle.nutation.specs.rules.Point.{nutationInEqCoordsRule}
 use Rattle.aberr.specs.rules.Star.{stellAberrInEqCoordsRule}
-use Rattle.chain.specs.rules.Obliquity.{obliquityOf}
+use Rattle.chain.specs.rules.Obliquity.{meanObliquityOf, trueObliquity}
 
 abbrev pub point : Pair → EqPoint
 point p = record { asc = first p; dec = second p }
@@ -21,10 +21,11 @@ point p = record { asc = first p; dec = second p }
 abbrev pub sum : Pair → Pair → Pair → Pair
 sum p n a = pair ((first p ⊕ first n) ⊕ first a) ((second p ⊕ second n) ⊕ second a)
 
--- nutation and aberration at the precessed point p, nutation n being that of the second day
+-- nutation and aberration at the precessed point p, nutation n being that of the second day; the obliquity is the true one on that day
 abbrev pub fromPoint : Pair → Pair → Float → Answer Pair
 fromPoint p n day2 =
-    then (nutationInEqCoordsRule (point p) (rad (first n)) (rad (second n)) (obliquityOf day2))
+    then (nutationInEqCoordsRule (point p) (rad (first n)) (rad (second n))
+    (trueObliquity (meanObliquityOf day2) (rad (second n))))
     (λ (dn : Pair). then (stellAberrInEqCoordsRule (point p) day2) (λ (da : Pair). answered (sum p dn da)))
 
 unfoldable pub chainRule : Rad → Rad → Float → Float → Answer Pair

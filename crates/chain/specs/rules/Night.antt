@@ -17,7 +17,7 @@ use Rattle.aberr_rows.specs.declared.Velocity.{Velocity}
 use Rattle.aberr_velocity.specs.rules.Velocity.{velocityOf}
 use Rattle.aberr.specs.rules.Star.{aberrAt}
 use Rattle.chain.specs.declared.Night.{Night}
-use Rattle.chain.specs.rules.Obliquity.{obliquityOf}
+use Rattle.chain.specs.rules.Obliquity.{meanObliquityOf, trueObliquity}
 use Rattle.chain.specs.rules.Chain.{point, pointRefusal, anglesRefusal}
 
 unfoldable pub nightFrom : EqTurns → Nutations → Rad → Velocity → Night
@@ -25,7 +25,9 @@ nightFrom turns n oblq v =
     record { turns = turns; nutation = n; «sin_oblq» = sineOf oblq; «cos_oblq» = cosineOf oblq; velocity = v; refusal = anglesRefusal n oblq }
 
 unfoldable pub nightOf : Float → Float → Night
-nightOf day1 day2 = nightFrom (eqTurnsOf day1 day2) (nutationOf day2) (obliquityOf day2) (velocityOf day2)
+nightOf day1 day2 =
+    let n = nutationOf day2 in
+    nightFrom (eqTurnsOf day1 day2) n (trueObliquity (meanObliquityOf day2) (n .oblq)) (velocityOf day2)
 
 unfoldable pub moved : EqPoint → Shift → Shift → Answer Pair
 moved p n a = answered (pair ((p .asc ⊕ n .asc .0) ⊕ a .asc .0) ((p .dec ⊕ n .dec .0) ⊕ a .dec .0))

@@ -23,11 +23,12 @@ use Rattle.elementary.specs.laws.Accepted.{answered-unless}
 use Rattle.helpers.specs.rules.Angle.{arc, degree}
 use Rattle.precess.specs.rules.Days.{placeRefusal}
 use Rattle.precess.specs.rules.Equatorial.{eqTurnsOf, turnedIn, precessEqCoordsRule}
+use Rattle.nutation_table.specs.rules.Day.{nutationOf}
 use Rattle.nutation.specs.rules.Day.{nutationRule}
 use Rattle.nutation.specs.rules.Point.{nutationInRefusal, nutationInEqCoordsIn, nutationInEqCoordsRule}
 use Rattle.aberr.specs.rules.Star.{stellAberrRefusal, stellAberrInEqCoordsIn, stellAberrInEqCoordsRule}
 use Rattle.chain.specs.rules.Numbers.{n84381·448, n46·8150, n0·00059, n0·001813}
-use Rattle.chain.specs.rules.Obliquity.{meanObliquity, obliquityOf}
+use Rattle.chain.specs.rules.Obliquity.{meanObliquity, meanObliquityOf, trueObliquity}
 use Rattle.chain.specs.rules.Chain.{point, sum, fromPoint, chainRule}
 use Rattle.domain_accepted.specs.notions.Outcome.{Outcome, FourOrSeven}
 use Rattle.domain_accepted.specs.notions.Within.{Within, IsPlace, BothFinite, BothWithin}
@@ -35,7 +36,7 @@ use Rattle.domain_accepted.specs.laws.Outcome.{outcome-answered, outcome-then}
 use Rattle.domain_accepted.specs.laws.Near.{within, near-far}
 use Rattle.domain.specs.laws.Days.{century-within, second-accepted, place-accepted}
 use Rattle.domain.specs.laws.Equatorial.{precess-eq-coords-answers, precess-eq-coords-refuses}
-use Rattle.domain.specs.laws.NutationSum.{nutation-answers, nutation-refuses}
+use Rattle.domain.specs.laws.NutationSum.{nutation-outcome, nutation-answers, nutation-refuses}
 use Rattle.domain.specs.laws.NutationPoint.{nutation-in-eq-coords-answers, nutation-in-eq-coords-refuses}
 use Rattle.domain.specs.laws.StarAberration.{stell-aberr-in-eq-coords-answers, stell-aberr-in-eq-coords-refuses}
 
@@ -60,17 +61,33 @@ steep-cases x i =
     by-case true = inr refl
     by-case false = inl refl
 
-obliquity-within : (day : Float) → dayRefusal day ≡ 0 → Within 64 (obliquityOf day .0)
-unfolding obliquityOf meanObliquity isFinite le neg add sub mul div ofBits round
-obliquity-within day none =
+mean-obliquity-within : (day : Float) → dayRefusal day ≡ 0 → Within 32 (meanObliquityOf day .0)
+unfolding meanObliquityOf meanObliquity isFinite le neg add sub mul div ofBits round
+mean-obliquity-within day none =
     let C = known (century-within day none) in
-    within 64
+    within 32
     ((con (arc n84381·448) ⊟ C ⊠ (con (arc n46·8150) ⊞ C ⊠ (con (arc n0·00059) ⊟ C ⊠ con (arc n0·001813)))) ⊠ con degree) tt
 
--- the obliquity goes into a sine
-pub obliquity-far : (day : Float) → dayRefusal day ≡ 0 → size (obliquityOf day .0) ≼ farthestAlone
-unfolding isFinite le neg round
-obliquity-far day none = near-far (obliquityOf day .0) (within 2048 (known (obliquity-within day none)) tt)
+-- the true obliquity, with nutation of 1.0 at most in size
+obliquity-within : (day : Float) (n : Rad) → dayRefusal day ≡ 0 → Within 1 (n .0) → Within 64 (trueObliquity (meanObliquityOf day) n .0)
+unfolding trueObliquity isFinite le neg add ofBits round
+obliquity-within day n none N = within 64 (known (mean-obliquity-within day none) ⊞ known N) tt
+
+module _ (day : Float) (accepted : dayRefusal day ≡ 0) where
+  nutation-small : Within 1 (nutationOf day .oblq .0)
+  nutation-small = nutation-outcome day accepted .answers (pair (nutationOf day .long .0) (nutationOf day .oblq .0)) refl .1
+
+  -- the true obliquity of an accepted day goes into a sine
+  pub obliquity-far : size (trueObliquity (meanObliquityOf day) (nutationOf day .oblq) .0) ≼ farthestAlone
+  unfolding isFinite le neg round
+  obliquity-far =
+      near-far (trueObliquity (meanObliquityOf day) (nutationOf day .oblq) .0)
+      (within 2048 (known (obliquity-within day (nutationOf day .oblq) accepted nutation-small)) tt)
+
+  -- and is never refused
+  pub obliquity-accepted : angleRefusal (trueObliquity (meanObliquityOf day) (nutationOf day .oblq)) ≡ 0
+  obliquity-accepted =
+      angle-near (trueObliquity (meanObliquityOf day) (nutationOf day .oblq)) (obliquity-within day (nutationOf day .oblq) accepted nutation-small)
 
 refused-four : (k : ℕ) (a : Answer Pair) (n : ℕ) → k ≡ 4 → unless k a ≡ refused n → n ≡ 4
 refused-four k a n f e = same (subst (λ (k : ℕ). unless k a ≡ refused n) f e)
@@ -81,6 +98,9 @@ refused-four k a n f e = same (subst (λ (k : ℕ). unless k a ≡ refused n) f 
 -- ---- the steps at the precessed point p, for nutation n
 
 module _ (p n : Pair) (day : Float) (P : IsPlace p) (N : BothWithin 1 n) (D : dayRefusal day ≡ 0) where
+  abbrev oblq : Rad
+  oblq = trueObliquity (meanObliquityOf day) (rad (second n))
+
   asc-none : angleRefusal (rad (first p)) ≡ 0
   asc-none = angle-near (rad (first p)) (P .0)
 
@@ -89,21 +109,20 @@ module _ (p n : Pair) (day : Float) (P : IsPlace p) (N : BothWithin 1 n) (D : da
   unfolding isFinite le neg round
   small-none x i = angle-near (rad x) (within 64 (known i) tt)
 
-  nutation-cases : (nutationInRefusal (point p) (rad (first n)) (rad (second n)) (obliquityOf day) ≡ 0) ⊎ (nutationInRefusal (point p) (rad (first n)) (rad (second n)) (obliquityOf day) ≡ 4)
+  nutation-cases : (nutationInRefusal (point p) (rad (first n)) (rad (second n)) oblq ≡ 0) ⊎ (nutationInRefusal (point p) (rad (first n)) (rad (second n)) oblq ≡ 4)
   nutation-cases =
       let L = small-none (first n) (N .0) in
       let O = small-none (second n) (N .1) in
-      let E = angle-near (obliquityOf day) (obliquity-within day D) in
+      let E = angle-near oblq (obliquity-within day (rad (second n)) D (N .1)) in
       elim (steep-cases (rad (second p)) (P .1)) [ inl z ↦ inl (rw (asc-none, z, L, O, E)) | inr f ↦ inr (rw (asc-none, f, L, O, E)) ]
 
   aberr-cases : (stellAberrRefusal (point p) day ≡ 0) ⊎ (stellAberrRefusal (point p) day ≡ 4)
   aberr-cases =
       elim (steep-cases (rad (second p)) (P .1)) [ inl z ↦ inl (rw (asc-none, z, D)) | inr f ↦ inr (rw (asc-none, f, D)) ]
 
-  nutation-step : Outcome (BothWithin 4194304) FourOrSeven (nutationInEqCoordsRule (point p) (rad (first n)) (rad (second n)) (obliquityOf day))
+  nutation-step : Outcome (BothWithin 4194304) FourOrSeven (nutationInEqCoordsRule (point p) (rad (first n)) (rad (second n)) oblq)
   unfolding nutationInEqCoordsRule
   nutation-step =
-      let oblq = obliquityOf day in
       let long = rad (first n) in
       let lat = rad (second n) in
       record {
@@ -139,7 +158,7 @@ module _ (p n : Pair) (day : Float) (P : IsPlace p) (N : BothWithin 1 n) (D : da
       outcome-answered (sum p s a)
       (within 8388608 ((known (P .0) ⊞ known (S .0)) ⊞ known (A .0)) tt .finite, within 8388608 ((known (P .1) ⊞ known (S .1)) ⊞ known (A .1)) tt .finite))
       (stellAberrInEqCoordsRule (point p) day) aberr-step)
-      (nutationInEqCoordsRule (point p) (rad (first n)) (rad (second n)) (obliquityOf day)) nutation-step
+      (nutationInEqCoordsRule (point p) (rad (first n)) (rad (second n)) oblq) nutation-step
 
 -- ---- the chain
 

@@ -117,7 +117,7 @@ module _ (day : Float) (accepted : dayRefusal day ≡ 0) where
       let z : Between zero zero zero = between-itself {c = zero} (unfold isFinite ofBits in tt) in
       summed-between moon near rows none (zero to zero) rows-near z z (neg one) one long-degree oblq-degree
 
-  nutation-outcome : Outcome (BothWithin 1) Never (answered (pair (nutationOf day .long .0) (nutationOf day .oblq .0)))
+  pub nutation-outcome : Outcome (BothWithin 1) Never (answered (pair (nutationOf day .long .0) (nutationOf day .oblq .0)))
   unfolding nutationOf converted isFinite le neg mul ofBits round
   nutation-outcome =
       outcome-answered (pair (nutationOf day .long .0) (nutationOf day .oblq .0))
