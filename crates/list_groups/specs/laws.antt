@@ -1,5 +1,4 @@
 -- What is proved of numbers in groups, for callers to cite. Theorems only.
-pub mod Answered
 pub mod Tails
 pub mod Inverse
 pub mod Several

@@ -1,4 +1,5 @@
 -- What theorems on answers and refusals speak of, and no promise mentions. Definitions only.
+pub mod Steps
 pub mod Computed
 pub mod Code
 pub mod Stated

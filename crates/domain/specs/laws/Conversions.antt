@@ -22,10 +22,11 @@ use Rattle.quantity.specs.declared.Radians.the-variants as radians
 use Rattle.quantity.specs.rules.Answer.{answered, refused, shownDegrees, shownRadians, unless}
 use Rattle.quantity.specs.rules.Refusal.{numberRefusal}
 use Rattle.quantity.specs.rules.Angle.{deg}
+use Rattle.quantity.specs.laws.Steps.{refused-not-answered}
 use Rattle.elementary.specs.laws.Accepted.{number-accepted}
 use Rattle.helpers.specs.rules.Angle.{secondsOfDegree, degreesOfHour, arc, hourArc, degFrmDmsRule, degFrmHmsRule, degree, radiansOf, toRadiansRule}
 use Rattle.domain_accepted.specs.notions.Outcome.{Never}
-use Rattle.domain_accepted.specs.laws.Outcome.{refused-not-answered, outcome-answered, rule-answers}
+use Rattle.domain_accepted.specs.laws.Outcome.{outcome-answered, rule-answers}
 use Rattle.domain.specs.notions.Answers.{FiniteDegrees, FiniteRadians}
 
 -- ---- a number is refused only where it is not finite, and by 1

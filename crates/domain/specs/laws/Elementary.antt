@@ -8,6 +8,7 @@ use Rattle.quantity.specs.declared.Rad.{Rad}
 use Rattle.quantity.specs.rules.Answer.{answered}
 use Rattle.quantity.specs.rules.Refusal.{past, steepest, numberRefusal}
 use Rattle.quantity.specs.laws.Refusal.{finite-steepest}
+use Rattle.quantity.specs.laws.Steps.{same-value}
 use Rattle.elementary.specs.laws.Accepted.{lower-none, answered-unless, past-accepted, number-accepted}
 use Rattle.elementary.specs.rules.Sine.{farthestAlone, aloneRefusal, sineOf, cosineOf, tangentOf, sineRule, cosineRule, tangentRefusal, tangentRule}
 use Rattle.elementary.specs.laws.Sine.{sine-finite, cosine-finite, tangent-finite}
@@ -18,9 +19,6 @@ use Rattle.elementary_arc.specs.laws.Arcsine.{arcsine-finite}
 
 -- ---- sine, cosine, tangent
 
-same-answer : {A : Type 0} (v w : A) → answered v ≡ answered w → v ≡ w
-same-answer v w e = cc
-
 finite-farthest-alone : Finite farthestAlone
 unfolding isFinite ofBits
 finite-farthest-alone = tt
@@ -29,20 +27,20 @@ pub sine-answers-finite : (x : Rad) (v : Float) → sineRule x ≡ answered v �
 unfolding sineRule
 sine-answers-finite x v e =
     let a = answered-unless (aloneRefusal x) (answered (sineOf x)) v e in
-    rw (← same-answer (sineOf x) v (a .1)) (sine-finite x (past-accepted (x .0) farthestAlone 3 (lit< tt) finite-farthest-alone (a .0)))
+    rw (← same-value (a .1)) (sine-finite x (past-accepted (x .0) farthestAlone 3 (lit< tt) finite-farthest-alone (a .0)))
 
 pub cosine-answers-finite : (x : Rad) (v : Float) → cosineRule x ≡ answered v → Finite v
 unfolding cosineRule
 cosine-answers-finite x v e =
     let a = answered-unless (aloneRefusal x) (answered (cosineOf x)) v e in
-    rw (← same-answer (cosineOf x) v (a .1)) (cosine-finite x (past-accepted (x .0) farthestAlone 3 (lit< tt) finite-farthest-alone (a .0)))
+    rw (← same-value (a .1)) (cosine-finite x (past-accepted (x .0) farthestAlone 3 (lit< tt) finite-farthest-alone (a .0)))
 
 pub tangent-answers-finite : (x : Rad) (v : Float) → tangentRule x ≡ answered v → Finite v
 unfolding tangentRule
 tangent-answers-finite x v e =
     let a = answered-unless (tangentRefusal x) (answered (tangentOf x)) v e in
     let n = lower-none (aloneRefusal x) (past (x .0) steepest 4) (a .0) in
-    rw (← same-answer (tangentOf x) v (a .1)) (tangent-finite x (past-accepted (x .0) steepest 4 (lit< tt) finite-steepest (n .1)))
+    rw (← same-value (a .1)) (tangent-finite x (past-accepted (x .0) steepest 4 (lit< tt) finite-steepest (n .1)))
 
 -- ---- arctangent, arcsine
 

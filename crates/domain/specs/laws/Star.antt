@@ -7,6 +7,7 @@ use lib.Ieee.{Float}
 use Rattle.double.specs.rules.Order.{Finite}
 use Rattle.double.specs.laws.Between.{finite-zero}
 use Rattle.quantity.specs.rules.Answer.{Answer, answered, refused, Pair, statusOf}
+use Rattle.quantity.specs.laws.Steps.{refused-not-answered}
 use Rattle.precess.specs.rules.Days.{daysRefusal}
 use Rattle.chain.specs.rules.Chain.{chainRule}
 use Rattle.list.specs.declared.Star.{Star}
@@ -15,7 +16,6 @@ use Rattle.batch.specs.rules.Star.{ascOf, decOf, starRule, firstOf, secondOf}
 use Rattle.batch.specs.laws.Star.{place-taken}
 use Rattle.domain_accepted.specs.notions.Outcome.{FourOrSeven}
 use Rattle.domain_accepted.specs.notions.Within.{BothFinite}
-use Rattle.domain_accepted.specs.laws.Outcome.{refused-not-answered}
 use Rattle.domain.specs.laws.Chain.{chain-refuses, chain-finite}
 use Rattle.domain.specs.notions.Star.{OfAStar}
 

@@ -1,28 +1,17 @@
 -- How what is known of an answer goes through the work, and what a rule that refuses first then answers. Assumes nothing.
 use Prim.Native.Nat.{ℕ}
-use native.Mathlib.Omega.{arith}
 use mathlib.Core.Path.{_≡_, refl, sym, subst}
 use mathlib.Core.Bool.{Bool, true, false, not, cond}
 use lib.Dec.{T}
 use lib.Ieee.{Float}
 use Rattle.quantity.specs.declared.Rad.{Rad}
 use Rattle.quantity.specs.rules.Answer.{Answer, answered, refused, Pair, pair, first, second, unless, with, then, both}
+use Rattle.quantity.specs.laws.Steps.{refused-not-answered, same-value, same-number}
 use Rattle.elementary.specs.laws.Accepted.{answered-unless}
 use Rattle.domain_accepted.specs.notions.Outcome.{Outcome}
 use Rattle.domain_accepted.specs.notions.Within.{Angle}
 
 -- ---- a value, and a refusal
-
-pub refused-not-answered : {A : Type 0} {n : ℕ} {v : A} → refused n ≡ answered v → ⊥
-refused-not-answered e =
-    let z : _≡_ {A = ℕ} 0 1 = cc in
-    absurd (omega arith)
-
-same-value : {A : Type 0} {v w : A} → answered v ≡ answered w → v ≡ w
-same-value e = cc
-
-same-number : {A : Type 0} {m n : ℕ} → _≡_ {A = Answer A} (refused m) (refused n) → m ≡ n
-same-number e = cc
 
 module _ {A : Type 0} {P : A → Type 0} {Q : ℕ → Type 0} where
   pub outcome-answered : (x : A) → P x → Outcome P Q (answered x)

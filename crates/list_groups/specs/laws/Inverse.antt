@@ -11,7 +11,7 @@ use Rattle.list.specs.rules.Stars.{Bytes}
 use Rattle.list_groups.specs.rules.Groups.{groupsWithin, groups}
 use Rattle.list_groups.specs.rules.Reading.{Got, lastGroup, above, numberWithin, readNumber}
 use Rattle.list_groups.specs.notions.Spelt.{Small, OneSpelt}
-use Rattle.list_groups.specs.laws.Answered.{never, changed}
+use Rattle.quantity.specs.laws.Steps.{refused-not-answered, changed}
 
 -- what groups can hold of which so many follow the first
 abbrev pub limit : ℕ → ℕ
@@ -58,7 +58,7 @@ module _ (least b : ℕ) (bs : List ℕ) (g : Got ℕ) where
     where
       go : (t : Bool) → ltb b least ≡ t → cond t (refused 12) (answered (record { value = b; rest = bs })) ≡ answered g
           → (least ≤ b) × (g ≡ record { value = b; rest = bs })
-      go true e h = absurd (never h)
+      go true e h = absurd (refused-not-answered h)
       go false e h = (ltb-false b least e, cc)
 
   back-zero : numberWithin zero least (b ∷ bs) ≡ answered g → Made zero least (b ∷ bs) g
@@ -68,7 +68,7 @@ module _ (least b : ℕ) (bs : List ℕ) (g : Got ℕ) where
       go true e h =
           let l = last-is h in
           subst (Made zero least (b ∷ bs)) (sym (l .1)) (record { bytes = refl; least-or-more = l .0; small = ltb-true b 16 e })
-      go false e h = absurd (never h)
+      go false e h = absurd (refused-not-answered h)
 
   module _ (more : ℕ) (byte : b < 256) where
     back-last : b < 128 → lastGroup least b bs ≡ answered g → Made (suc more) least (b ∷ bs) g
@@ -104,7 +104,7 @@ module _ (least b : ℕ) (bs : List ℕ) (g : Got ℕ) where
             back-more (ltb-false b 128 e) l (c .value) (c .is) (ih (c .value) (c .first))
 
 back : (more least : ℕ) (bs : List ℕ) (g : Got ℕ) → Bytes bs → least ≤ 1 → numberWithin more least bs ≡ answered g → Made more least bs g
-back more least [] g y l h = absurd (never h)
+back more least [] g y l h = absurd (refused-not-answered h)
 back zero least (b ∷ bs) g y l h = back-zero least b bs g h
 back (suc more) least (b ∷ bs) g y l h =
     back-suc least b bs g more (y 0) l (λ g. back more 1 bs g (λ (i : ℕ). y (suc i)) (omega arith)) h

@@ -1,7 +1,7 @@
 -- Several things in turn: where reading and spelling one are each other's inverse, so are reading and spelling all. Assumes nothing.
 use mathlib.Core.Path.{_≡_, refl, sym, ap, _∙_, subst}
 use mathlib.Core.List.{List, [], _∷_, _++_, append-assoc}
-use Prim.Native.Nat.{ℕ, zero, suc, _+_, _-_, _<_}
+use Prim.Native.Nat.{ℕ, zero, suc, _-_, _<_}
 use native.Mathlib.Omega.{arith}
 use lib.ListN.{length}
 use Rattle.quantity.specs.rules.Answer.{Answer, answered, refused, with}
@@ -11,7 +11,7 @@ use Rattle.list_groups.specs.rules.Reading.{Got, readNumber}
 use Rattle.list_groups.specs.rules.Several.{spellAll, before, readAll}
 use Rattle.list_groups.specs.notions.Tail.{Tail, LeavesTail}
 use Rattle.list_groups.specs.notions.Spelt.{Small, AllGood, OneSpelt, AllSpelt}
-use Rattle.list_groups.specs.laws.Answered.{stepped, changed}
+use Rattle.quantity.specs.laws.Steps.{stepped, changed}
 use Rattle.list_groups.specs.laws.Tails.{all, of-tail}
 use Rattle.list_groups.specs.laws.Inverse.{spelt-is-read, read-was-spelt}
 

@@ -10,7 +10,7 @@ use Rattle.quantity.specs.rules.Answer.{Answer, answered, refused, with, then}
 use Rattle.list_groups.specs.rules.Reading.{Got, lastGroup, above, numberWithin, readNumber}
 use Rattle.list_groups.specs.rules.Several.{before, readAll}
 use Rattle.list_groups.specs.notions.Streams.{longer, Streams}
-use Rattle.list_groups.specs.laws.Answered.{never, stepped, changed, with-refused}
+use Rattle.quantity.specs.laws.Steps.{refused-not-answered, stepped, changed, with-refused}
 
 -- ---- a number
 
@@ -20,7 +20,7 @@ module _ (least b : ℕ) (bs more : List ℕ) where
     where
       go : (t : Bool) → cond t (refused 12) (answered (record { value = b; rest = bs })) ≡ answered g
           → cond t (refused 12) (answered (record { value = b; rest = bs ++ more })) ≡ answered (longer more g)
-      go true h = absurd (never h)
+      go true h = absurd (refused-not-answered h)
       go false h = ap (λ (x : Got ℕ). answered (longer more x)) (let q : record { value = b; rest = bs } ≡ g = cc in q)
 
   last-refuses : (k : ℕ) → lastGroup least b bs ≡ refused k → lastGroup least b (bs ++ more) ≡ refused k
@@ -30,17 +30,17 @@ module _ (least b : ℕ) (bs more : List ℕ) where
           → cond {A = Answer (Got ℕ)} t (refused 12) (answered (record { value = b; rest = bs })) ≡ refused k
           → cond {A = Answer (Got ℕ)} t (refused 12) (answered (record { value = b; rest = bs ++ more })) ≡ refused k
       go true h = cc
-      go false h = absurd (never (sym h))
+      go false h = absurd (refused-not-answered (sym h))
 
 number-answers : (left least : ℕ) (bs more : List ℕ) (g : Got ℕ) → numberWithin left least bs ≡ answered g
     → numberWithin left least (bs ++ more) ≡ answered (longer more g)
-number-answers left least [] more g h = absurd (never h)
+number-answers left least [] more g h = absurd (refused-not-answered h)
 number-answers zero least (b ∷ bs) more g h = go (ltb b 16) h
   where
     go : (t : Bool) → cond t (lastGroup least b bs) (refused 12) ≡ answered g
         → cond t (lastGroup least b (bs ++ more)) (refused 12) ≡ answered (longer more g)
     go true h = last-answers least b bs more g h
-    go false h = absurd (never h)
+    go false h = absurd (refused-not-answered h)
 number-answers (suc left) least (b ∷ bs) more g h = go (ltb b 128) h (number-answers left 1 bs more)
   where
     go : (t : Bool) → cond t (lastGroup least b bs) (with (above (b - 128)) (numberWithin left 1 bs)) ≡ answered g
@@ -92,7 +92,7 @@ module _ {A : Type 0} (read : List ℕ → Answer (Got A)) (one : Streams read) 
 
   all-refuse : (n : ℕ) (bs more : List ℕ) (k : ℕ) → readAll read n bs ≡ refused k → (k ≡ 13 → ⊥) → readAll read n (bs ++ more) ≡ refused k
   unfolding readAll
-  all-refuse zero bs more k h d = absurd (never (sym h))
+  all-refuse zero bs more k h d = absurd (refused-not-answered (sym h))
   all-refuse (suc n) bs more k h d =
       go (read bs) (one .answers bs more) (one .refuses bs more k) (λ (f : Got A). all-refuse n (f .rest) more k) h d
     where

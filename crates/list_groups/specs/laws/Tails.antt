@@ -2,7 +2,7 @@
 use mathlib.Core.Path.{_≡_, refl, sym, ap, _∙_}
 use mathlib.Core.Bool.{Bool, true, false, cond}
 use mathlib.Core.List.{List, [], _∷_, _++_, append-assoc}
-use Prim.Native.Nat.{ℕ, zero, suc, _+_, _-_, _≤_}
+use Prim.Native.Nat.{ℕ, zero, suc, _-_, _≤_}
 use native.Mathlib.Omega.{arith}
 use lib.Dec.{ltb}
 use lib.ListN.{length, take, drop, length-append, length-drop, take-append-drop}
@@ -10,7 +10,7 @@ use lib.Seq.{drop-at}
 use Rattle.quantity.specs.rules.Answer.{Answer, answered, refused, with}
 use Rattle.list_groups.specs.rules.Reading.{Got, lastGroup, above, numberWithin, readNumber, Placed, withPlace, readAt}
 use Rattle.list_groups.specs.notions.Tail.{Tail, LeavesTail, Found}
-use Rattle.list_groups.specs.laws.Answered.{never, changed, with-refused}
+use Rattle.quantity.specs.laws.Steps.{refused-not-answered, changed, with-refused}
 
 -- ---- tails
 
@@ -69,16 +69,16 @@ last-tail : (least b : ℕ) (bs : List ℕ) (g : Got ℕ) → lastGroup least b 
 last-tail least b bs g = go (ltb b least)
   where
     go : (t : Bool) → cond t (refused 12) (answered (record { value = b; rest = bs })) ≡ answered g → Tail (g .rest) (b ∷ bs)
-    go true h = absurd (never h)
+    go true h = absurd (refused-not-answered h)
     go false h = record { front = b ∷ []; is = ap (λ (x : Got ℕ). b ∷ x .rest) (let q : record { value = b; rest = bs } ≡ g = cc in q) }
 
 number-tail : (more least : ℕ) (bs : List ℕ) (g : Got ℕ) → numberWithin more least bs ≡ answered g → Tail (g .rest) bs
-number-tail more least [] g h = absurd (never h)
+number-tail more least [] g h = absurd (refused-not-answered h)
 number-tail zero least (b ∷ bs) g h = go (ltb b 16) h
   where
     go : (t : Bool) → cond t (lastGroup least b bs) (refused 12) ≡ answered g → Tail (g .rest) (b ∷ bs)
     go true h = last-tail least b bs g h
-    go false h = absurd (never h)
+    go false h = absurd (refused-not-answered h)
 number-tail (suc more) least (b ∷ bs) g h = go (ltb b 128) h (number-tail more 1 bs)
   where
     go : (t : Bool) → cond t (lastGroup least b bs) (with (above (b - 128)) (numberWithin more 1 bs)) ≡ answered g

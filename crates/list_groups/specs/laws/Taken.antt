@@ -10,7 +10,7 @@ use Rattle.quantity.specs.rules.Answer.{Answer, answered, refused, with, then}
 use Rattle.list_groups.specs.rules.Reading.{Got, lastGroup, above, numberWithin, readNumber}
 use Rattle.list_groups.specs.rules.Several.{before, readAll}
 use Rattle.list_groups.specs.notions.Streams.{TakesAtMost}
-use Rattle.list_groups.specs.laws.Answered.{never, stepped, changed, with-refused}
+use Rattle.quantity.specs.laws.Steps.{refused-not-answered, stepped, changed, with-refused}
 
 -- ---- a number
 
@@ -18,7 +18,7 @@ last-takes : (least b : ℕ) (bs : List ℕ) (g : Got ℕ) → lastGroup least b
 last-takes least b bs g = go (ltb b least)
   where
     go : (t : Bool) → cond t (refused 12) (answered (record { value = b; rest = bs })) ≡ answered g → length bs ≡ length (g .rest)
-    go true h = absurd (never h)
+    go true h = absurd (refused-not-answered h)
     go false h = ap (λ (x : Got ℕ). length (x .rest)) (let q : record { value = b; rest = bs } ≡ g = cc in q)
 
 last-ends : (least b : ℕ) (bs : List ℕ) → lastGroup least b bs ≡ refused 13 → ⊥
@@ -26,7 +26,7 @@ last-ends least b bs = go (ltb b least)
   where
     go : (t : Bool) → cond {A = Answer (Got ℕ)} t (refused 12) (answered (record { value = b; rest = bs })) ≡ refused 13 → ⊥
     go true h = let z : _≡_ {A = ℕ} 12 13 = cc in omega arith
-    go false h = never (sym h)
+    go false h = refused-not-answered (sym h)
 
 number-takes : (more least : ℕ) (bs : List ℕ) (g : Got ℕ) → numberWithin more least bs ≡ answered g
     → length bs ≤ suc more + length (g .rest)
@@ -35,7 +35,7 @@ number-takes zero least (b ∷ bs) g h = go (ltb b 16) h
   where
     go : (t : Bool) → cond t (lastGroup least b bs) (refused 12) ≡ answered g → length (b ∷ bs) ≤ 1 + length (g .rest)
     go true h = omega (arith, last-takes least b bs g h)
-    go false h = absurd (never h)
+    go false h = absurd (refused-not-answered h)
 number-takes (suc more) least (b ∷ bs) g h = go (ltb b 128) h (number-takes more 1 bs)
   where
     go : (t : Bool) → cond t (lastGroup least b bs) (with (above (b - 128)) (numberWithin more 1 bs)) ≡ answered g
@@ -78,7 +78,7 @@ module _ {A : Type 0} (most : ℕ) (read : List ℕ → Answer (Got A)) (one : T
 
   all-end : (n : ℕ) (bs : List ℕ) → readAll read n bs ≡ refused 13 → length bs < n * most
   unfolding readAll then
-  all-end zero bs h = absurd (never (sym h))
+  all-end zero bs h = absurd (refused-not-answered (sym h))
   all-end (suc n) bs h = go (read bs) refl (all-end n) h
     where
       go : (x : Answer (Got A)) → read bs ≡ x → ((l : List ℕ) → readAll read n l ≡ refused 13 → length l < n * most)

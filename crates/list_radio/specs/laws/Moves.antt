@@ -14,7 +14,7 @@ use Rattle.list.specs.laws.RoundTrips.{length-list}
 use Rattle.list_groups.specs.rules.Groups.{groups}
 use Rattle.list_groups.specs.rules.Reading.{Got}
 use Rattle.list_groups.specs.rules.Several.{spellAll, before, readAll}
-use Rattle.list_groups.specs.laws.Answered.{never, stepped, changed, with-refused}
+use Rattle.quantity.specs.laws.Steps.{refused-not-answered, stepped, changed, with-refused}
 use Rattle.list_groups.specs.laws.Several.{spell-append}
 use Rattle.list_radio.specs.rules.Star.{starGroups, readStar}
 use Rattle.list_radio.specs.rules.Radio.{headBytes, radioBytes, nothingOver, starsOf}
@@ -119,7 +119,7 @@ module _ (s : List ℕ) (list : isList s ≡ true) where
     where
       go : (t : Bool) → refused k ≡ cond t (answered (length (spellAll starGroups (stars s)))) (refused 9)
           → cond t (answered (radioBytes (stars s))) (refused 9) ≡ refused k
-      go true e = absurd (never e)
+      go true e = absurd (refused-not-answered e)
       go false e = cc
 
   pub record Sized (size : ℕ) : Type 0 where
@@ -133,7 +133,7 @@ module _ (s : List ℕ) (list : isList s ≡ true) where
       go : (t : Bool) → answered size ≡ cond t (answered (length (spellAll starGroups (stars s)))) (refused 9)
           → (t ≡ true) × (size ≡ length (spellAll starGroups (stars s)))
       go true e = (refl, cc)
-      go false e = absurd (never (sym e))
+      go false e = absurd (refused-not-answered (sym e))
 
   pub length-radio : length (radioBytes (stars s)) ≡ 1 + length (groups (countOf s)) + length (spellAll starGroups (stars s))
   unfolding radioBytes

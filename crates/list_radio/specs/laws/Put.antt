@@ -14,7 +14,7 @@ use Rattle.list.specs.declared.Star.{Star}
 use Rattle.list.specs.rules.Record.{inRange}
 use Rattle.list.specs.rules.Stars.{mostStars}
 use Rattle.list_groups.specs.rules.Groups.{groups}
-use Rattle.list_groups.specs.laws.Answered.{never}
+use Rattle.quantity.specs.laws.Steps.{refused-not-answered}
 use Rattle.list_radio.specs.rules.Star.{starGroups}
 use Rattle.list_radio.specs.rules.Radio.{headBytes}
 use Rattle.list_radio.specs.rules.Put.{shownWritten, roomFor, Put, headText, starText}
@@ -53,11 +53,11 @@ module _ (text : Answer (List ℕ)) (old : List ℕ) (at : ℕ) where
 pub place-inside : (text : Answer (List ℕ)) {old new : List ℕ} {at next : ℕ} {r : Written} → Put text old at new r
     → r ≡ To next → next ≤ length new
 unfolding roomFor
-place-inside (refused k) p is = absurd (never (sym (p .answer) ∙ ap shownWritten is))
+place-inside (refused k) p is = absurd (refused-not-answered (sym (p .answer) ∙ ap shownWritten is))
 place-inside (answered t) {old} {new} {at} {next} p is = by-room (leb (at + length t) (length old)) refl
   where
     by-room : (b : Bool) → leb (at + length t) (length old) ≡ b → next ≤ length new
-    by-room false e = absurd (never (rw e at (sym (p .answer) ∙ ap shownWritten is)))
+    by-room false e = absurd (refused-not-answered (rw e at (sym (p .answer) ∙ ap shownWritten is)))
     by-room true e =
         let h = leb-true (at + length t) (length old) e in
         let q : answered (at + length t) ≡ answered next = rw e at (sym (p .answer) ∙ ap shownWritten is) in

@@ -13,7 +13,7 @@ use Rattle.list.specs.rules.Stars.{mostStars, Bytes}
 use Rattle.list_groups.specs.rules.Groups.{groups}
 use Rattle.list_groups.specs.rules.Reading.{Got, readNumber}
 use Rattle.list_groups.specs.rules.Several.{spellAll, readAll}
-use Rattle.list_groups.specs.laws.Answered.{never, stepped}
+use Rattle.quantity.specs.laws.Steps.{refused-not-answered, stepped}
 use Rattle.list_groups.specs.notions.Tail.{Tail, LeavesTail}
 use Rattle.list_groups.specs.laws.Tails.{number-leaves-tail}
 use Rattle.list_groups.specs.laws.Inverse.{spelt-is-read, read-was-spelt}
@@ -35,7 +35,7 @@ few-back f g = go (leb (f .value) mostStars) refl
   where
     go : (t : Bool) → leb (f .value) mostStars ≡ t → cond t (answered f) (refused 8) ≡ answered g → Few f g
     go true e h = record { is = cc; most = leb-true (f .value) mostStars e }
-    go false e h = absurd (never h)
+    go false e h = absurd (refused-not-answered h)
 
 pub count-leaves-tail : LeavesTail readCount
 unfolding readCount
@@ -55,7 +55,7 @@ over-back g rs = go (eqb (length (g .rest)) 0) refl
     go : (t : Bool) → eqb (length (g .rest)) 0 ≡ t → cond t (answered (g .value)) (refused 13) ≡ answered rs
         → (g .rest ≡ []) × (rs ≡ g .value)
     go true e h = (empty (g .rest) (eqb-true (length (g .rest)) 0 e), cc)
-    go false e h = absurd (never h)
+    go false e h = absurd (refused-not-answered h)
 
 record Listed (bs : List ℕ) (rs : List Star) (n : ℕ) : Type 0 where
   pub bytes : bs ≡ spellAll starGroups rs
@@ -106,14 +106,14 @@ after-mark bs rs y h =
 -- a list that is answered is the spelling of its stars
 pub radio-read-was-spelt : (s : List ℕ) (rs : List Star) → Bytes s → radioStars s ≡ answered rs → Radio s rs
 unfolding radioStars markRefusal
-radio-read-was-spelt [] rs y h = absurd (never h)
+radio-read-was-spelt [] rs y h = absurd (refused-not-answered h)
 radio-read-was-spelt (b ∷ bs) rs y h = go (eqb b mark) refl h
   where
     go : (t : Bool) → eqb b mark ≡ t
         → unless (cond t 0 11) (then (readCount bs) (λ (g : Got ℕ). starsOf (g .value) (g .rest))) ≡ answered rs
         → Radio (b ∷ bs) rs
     go true e h = subst (λ (x : ℕ). Radio (x ∷ bs) rs) (sym (eqb-true b mark e)) (after-mark bs rs (λ (i : ℕ). y (suc i)) h)
-    go false e h = absurd (never h)
+    go false e h = absurd (refused-not-answered h)
 
 -- exactly one spelling of a list: two that have the same stars have the same bytes
 pub one-spelling : (s t : List ℕ) (rs : List Star) → Bytes s → Bytes t → radioStars s ≡ answered rs → radioStars t ≡ answered rs → s ≡ t

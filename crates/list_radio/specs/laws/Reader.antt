@@ -8,7 +8,7 @@ use lib.ListN.{length, drop}
 use Rattle.quantity.specs.rules.Answer.{Answer, answered, refused, with, then}
 use Rattle.list.specs.declared.Star.{Star}
 use Rattle.list_groups.specs.rules.Reading.{Got, readAt}
-use Rattle.list_groups.specs.laws.Answered.{never}
+use Rattle.quantity.specs.laws.Steps.{refused-not-answered}
 use Rattle.list_groups.specs.laws.Tails.{found, not-found}
 use Rattle.list_radio.specs.rules.Radio.{markRefusal, readCount, starsOf, radioStars}
 use Rattle.list_radio.specs.rules.Reader.{openRule, acceptRule}
@@ -36,7 +36,7 @@ module _ (s : List ℕ) where
       go : (t : Bool) → answered (record { value = n; place = first }) ≡ cond t (readAt readCount s 1) (refused (markRefusal s))
           → cond t (then (readCount (drop 1 s)) stars) (refused (markRefusal s)) ≡ starsOf n (drop first s)
       go true e = rw (found readCount s 1 count-leaves-tail n first e .read-so)
-      go false e = absurd (never (sym e))
+      go false e = absurd (refused-not-answered (sym e))
 
   pub accept-refused : (k : ℕ) → refused k ≡ openRule s → refused k ≡ acceptRule s
   unfolding acceptRule

@@ -3,7 +3,7 @@
 use mathlib.Core.Path.{_≡_, refl, sym, ap, _∙_}
 use mathlib.Core.Bool.{Bool, true, false, cond}
 use mathlib.Core.List.{List, [], _∷_, _++_}
-use Prim.Native.Nat.{ℕ, suc, _+_, _*_, _≤_, _<_}
+use Prim.Native.Nat.{ℕ, suc, _*_, _≤_, _<_}
 use native.Mathlib.Omega.{arith}
 use lib.Dec.{eqb, ltb, leb}
 use lib.ListN.{length, length-append}
@@ -17,7 +17,7 @@ use Rattle.list_groups.specs.rules.Groups.{groups}
 use Rattle.list_groups.specs.rules.Reading.{Got, readNumber}
 use Rattle.list_groups.specs.rules.Several.{spellAll, readAll}
 use Rattle.list_groups.specs.notions.Streams.{longer, TakesAtMost}
-use Rattle.list_groups.specs.laws.Answered.{never, stepped}
+use Rattle.quantity.specs.laws.Steps.{refused-not-answered, stepped}
 use Rattle.list_groups.specs.laws.Length.{one-group, two-groups}
 use Rattle.list_groups.specs.laws.Inverse.{read-was-spelt}
 use Rattle.list_groups.specs.laws.Streams.{all-stream}
@@ -57,8 +57,8 @@ moved-has-room s t h = go (isList s) refl (allInRange (stars s)) h
     go true l true h =
         let e : radioBytes (stars s) ≡ t = cc in
         omega (arith, radio-short (stars s) (omega (arith, few s l, length-stars s)), ap length e)
-    go true l false h = absurd (never h)
-    go false l c h = absurd (never h)
+    go true l false h = absurd (refused-not-answered h)
+    go false l c h = absurd (refused-not-answered h)
 
 -- what is accepted
 pub accepted-has-room : (s : List ℕ) (rs : List Star) → Bytes s → radioStars s ≡ answered rs → length s ≤ mostBytes
@@ -79,7 +79,7 @@ star-takes-fifteen =
             → cond t (answered (record { value = starOf (g .value); rest = g .rest })) (refused 9) ≡ answered h
             → length (g .rest) ≡ length (h .rest)
         go true e = ap (λ (x : Got Star). length (x .rest)) (let q : record { value = starOf (g .value); rest = g .rest } ≡ h = cc in q)
-        go false e = absurd (never e)
+        go false e = absurd (refused-not-answered e)
 
     other : (g : Got (List ℕ)) → ranged g ≡ refused 13 → ⊥
     other g = go (inRange (starOf (g .value)))
@@ -87,7 +87,7 @@ star-takes-fifteen =
         go : (t : Bool)
             → cond {A = Answer (Got Star)} t (answered (record { value = starOf (g .value); rest = g .rest })) (refused 9) ≡ refused 13
             → ⊥
-        go true e = never (sym e)
+        go true e = refused-not-answered (sym e)
         go false e = let z : _≡_ {A = ℕ} 9 13 = cc in omega arith
 
 count-takes-five : TakesAtMost 5 readCount
@@ -101,7 +101,7 @@ count-takes-five = then-takes-at-most 5 readNumber number-takes-five radio.few k
     other g = go (leb (g .value) mostStars)
       where
         go : (t : Bool) → cond {A = Answer (Got ℕ)} t (answered g) (refused 8) ≡ refused 13 → ⊥
-        go true e = never (sym e)
+        go true e = refused-not-answered (sym e)
         go false e = let z : _≡_ {A = ℕ} 8 13 = cc in omega arith
 
 still-over : (g : Got (List Star)) (more : List ℕ) → nothingOver g ≡ refused 13 → nothingOver (longer more g) ≡ refused 13
@@ -109,7 +109,7 @@ still-over g more = go (eqb (length (g .rest)) 0) refl
   where
     go : (t : Bool) → eqb (length (g .rest)) 0 ≡ t → cond t (answered (g .value)) (refused 13) ≡ refused 13
         → nothingOver (longer more g) ≡ refused 13
-    go true e h = absurd (never (sym h))
+    go true e h = absurd (refused-not-answered (sym h))
     go false e h =
         rw
         (ne-eqb (length (g .rest ++ more)) 0 (λ z. eqb-false (length (g .rest)) 0 e (omega (arith, length-append (g .rest) more))))

@@ -15,7 +15,7 @@ use Rattle.list.specs.rules.Record.{width, inRange}
 use Rattle.list.specs.rules.Stars.{mostStars, isList, stars, listBytes, AllFitting, Bytes}
 use Rattle.list.specs.laws.Stars.{whole, length-stars, few}
 use Rattle.list.specs.laws.RoundTrips.{length-list, stars-back, bytes-back}
-use Rattle.list_groups.specs.laws.Answered.{never, stepped, changed}
+use Rattle.quantity.specs.laws.Steps.{same-value, refused-not-answered, stepped, changed}
 use Rattle.list_groups.specs.notions.Spelt.{AllGood}
 use Rattle.list_radio.specs.notions.Good.{Good}
 use Rattle.list_radio.specs.notions.Moves.{ThereAndBack}
@@ -48,9 +48,6 @@ is-list rs h =
     rw
     (le-leb (length (listBytes rs)) (width * mostStars) (omega (arith, length-list rs)), eq-eqb (length (listBytes rs) % width) 0 (omega (arith, length-list rs)))
 
-answered-is : {A : Type 0} (x y : A) → answered x ≡ answered y → x ≡ y
-answered-is x y e = cc
-
 in-range-moves : (s : List ℕ) → isList s ≡ true → allInRange (stars s) ≡ true → toRadio s ≡ answered (radioBytes (stars s))
 unfolding toRadio
 in-range-moves s l r = rw (l, r)
@@ -70,18 +67,18 @@ module _ (s t : List ℕ) (y : Bytes s) where
       back l r e =
           let w = bytes-back s (whole s l .1) y in
           let d = radio-spelt-is-read (stars s) (all-good (stars s) (w .fitting) r) (omega (arith, few s l, length-stars s)) in
-          ap toList (answered-is _ _ (sym e)) ∙ rw d (ap answered (w .bytes))
+          ap toList (same-value (sym e)) ∙ rw d (ap answered (w .bytes))
 
       ranged : isList s ≡ true → (b : Bool) → allInRange (stars s) ≡ b
           → cond b (answered (radioBytes (stars s))) (refused 9) ≡ answered t → toList t ≡ answered s
       ranged l true r h = back l r h
-      ranged l false r h = absurd (never h)
+      ranged l false r h = absurd (refused-not-answered h)
 
       go : (b : Bool) → isList s ≡ b
           → cond b (cond (allInRange (stars s)) (answered (radioBytes (stars s))) (refused 9)) (refused 8) ≡ answered t
           → toList t ≡ answered s
       go true l h = ranged l (allInRange (stars s)) refl h
-      go false l h = absurd (never h)
+      go false l h = absurd (refused-not-answered h)
 
   to-list-undone : toList s ≡ answered t → toRadio t ≡ answered s
   unfolding toRadio toList
@@ -127,17 +124,17 @@ put-text text old new n p =
   where
     kept : (b : Bool) (t u : List ℕ) → cond b (answered t) (refused 8) ≡ answered u → u ≡ t
     kept true t u h = cc
-    kept false t u h = absurd (never h)
+    kept false t u h = absurd (refused-not-answered h)
 
 module _ (s old new : List ℕ) (n : ℕ) (old′ new′ : List ℕ) (m : ℕ) (y : Bytes s) where
   pub moved-to-radio-and-back : Put (toRadio s) old 0 new (To n) → Put (toList (take n new)) old′ 0 new′ (To m) → take m new′ ≡ s
   moved-to-radio-and-back p q =
       let a = put-text (toRadio s) old new n p in
       let b = put-text (toList (take n new)) old′ new′ m q in
-      b .front ∙ answered-is _ _ (sym (b .is) ∙ ap toList (a .front) ∙ to-radio-undone s (a .t) y (a .is))
+      b .front ∙ same-value (sym (b .is) ∙ ap toList (a .front) ∙ to-radio-undone s (a .t) y (a .is))
 
   pub moved-to-list-and-back : Put (toList s) old 0 new (To n) → Put (toRadio (take n new)) old′ 0 new′ (To m) → take m new′ ≡ s
   moved-to-list-and-back p q =
       let a = put-text (toList s) old new n p in
       let b = put-text (toRadio (take n new)) old′ new′ m q in
-      b .front ∙ answered-is _ _ (sym (b .is) ∙ ap toRadio (a .front) ∙ to-list-undone s (a .t) y (a .is))
+      b .front ∙ same-value (sym (b .is) ∙ ap toRadio (a .front) ∙ to-list-undone s (a .t) y (a .is))

@@ -13,7 +13,7 @@ use Rattle.list_groups.specs.rules.Groups.{groups}
 use Rattle.list_groups.specs.rules.Reading.{Got, readNumber}
 use Rattle.list_groups.specs.rules.Several.{spellAll, readAll}
 use Rattle.list_groups.specs.rules.Fold.{folded}
-use Rattle.list_groups.specs.laws.Answered.{never, stepped}
+use Rattle.quantity.specs.laws.Steps.{refused-not-answered, stepped}
 use Rattle.list_groups.specs.notions.Tail.{LeavesTail}
 use Rattle.list_groups.specs.laws.Tails.{number-leaves-tail}
 use Rattle.list_groups.specs.notions.Spelt.{OneSpelt, Small, AllGood}
@@ -66,7 +66,7 @@ ranged-back f g = go (inRange (starOf (f .value))) refl
     go : (t : Bool) → inRange (starOf (f .value)) ≡ t
         → cond t (answered (record { value = starOf (f .value); rest = f .rest })) (refused 9) ≡ answered g → Ranged f g
     go true e h = record { range = e; is = cc }
-    go false e h = absurd (never h)
+    go false e h = absurd (refused-not-answered h)
 
 pub star-read-was-spelt : (bs : List ℕ) (g : Got Star) → Bytes bs → readStar bs ≡ answered g → OneSpelt starGroups Good bs g
 unfolding readStar starGroups

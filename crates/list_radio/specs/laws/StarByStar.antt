@@ -12,7 +12,7 @@ use Rattle.quantity.specs.rules.Answer.{Answer, answered, refused, unless, with
 use Rattle.list.specs.declared.Star.{Star}
 use Rattle.list_groups.specs.rules.Reading.{Got, Placed, withPlace, readAt}
 use Rattle.list_groups.specs.rules.Several.{before, readAll}
-use Rattle.list_groups.specs.laws.Answered.{never}
+use Rattle.quantity.specs.laws.Steps.{refused-not-answered}
 use Rattle.list_groups.specs.laws.Tails.{found, not-found, shorter, dropped, of-tail}
 use Rattle.list_groups.specs.laws.Several.{none, first, stops, all-leave-tail}
 use Rattle.list_radio.specs.rules.Star.{readStar}
@@ -87,7 +87,7 @@ opened s n at = go (eqb (markRefusal s) 0) refl
         → answered (record { value = n; place = at }) ≡ cond t (readAt readCount s 1) (refused (markRefusal s))
         → Opened s at
     go true q e = record { marked = eqb-true (markRefusal s) 0 q; inside = found readCount s 1 count-leaves-tail n at e .inside }
-    go false q e = absurd (never (sym e))
+    go false q e = absurd (refused-not-answered (sym e))
 
 pub accepted-star-by-star : (s : List ℕ) (n at : ℕ) → answered (record { value = n; place = at }) ≡ openRule s
     → acceptRule s ≡ with length (then (starByStar s n at) (atEnd s))

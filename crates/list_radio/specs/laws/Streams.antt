@@ -13,7 +13,7 @@ use Rattle.list.specs.rules.Record.{inRange}
 use Rattle.list.specs.rules.Stars.{mostStars}
 use Rattle.list_groups.specs.rules.Reading.{Got, readNumber}
 use Rattle.list_groups.specs.rules.Several.{readAll}
-use Rattle.list_groups.specs.laws.Answered.{never, with-refused}
+use Rattle.quantity.specs.laws.Steps.{refused-not-answered, with-refused}
 use Rattle.list_groups.specs.notions.Streams.{longer, Streams}
 use Rattle.list_groups.specs.laws.Streams.{number-streams, all-stream, then-streams}
 use Rattle.list_radio.specs.rules.Star.{numberCount, starOf, ranged, readStar}
@@ -29,7 +29,7 @@ ranged-passes g h more = go (inRange (starOf (g .value)))
     go : (t : Bool) → cond t (answered (record { value = starOf (g .value); rest = g .rest })) (refused 9) ≡ answered h
         → cond t (answered (record { value = starOf (g .value); rest = g .rest ++ more })) (refused 9) ≡ answered (longer more h)
     go true e = ap (λ (x : Got Star). answered (longer more x)) (let q : record { value = starOf (g .value); rest = g .rest } ≡ h = cc in q)
-    go false e = absurd (never e)
+    go false e = absurd (refused-not-answered e)
 
 ranged-stops : (g : Got (List ℕ)) (k : ℕ) (more : List ℕ) → ranged g ≡ refused k → ranged (longer more g) ≡ refused k
 ranged-stops g k more = go (inRange (starOf (g .value)))
@@ -37,7 +37,7 @@ ranged-stops g k more = go (inRange (starOf (g .value)))
     go : (t : Bool)
         → cond {A = Answer (Got Star)} t (answered (record { value = starOf (g .value); rest = g .rest })) (refused 9) ≡ refused k
         → cond {A = Answer (Got Star)} t (answered (record { value = starOf (g .value); rest = g .rest ++ more })) (refused 9) ≡ refused k
-    go true e = absurd (never (sym e))
+    go true e = absurd (refused-not-answered (sym e))
     go false e = e
 
 pub star-streams : Streams readStar
@@ -52,14 +52,14 @@ few-passes g h more = go (leb (g .value) mostStars)
     go : (t : Bool) → cond t (answered g) (refused 8) ≡ answered h
         → cond t (answered (longer more g)) (refused 8) ≡ answered (longer more h)
     go true e = ap (λ (x : Got ℕ). answered (longer more x)) (let q : g ≡ h = cc in q)
-    go false e = absurd (never e)
+    go false e = absurd (refused-not-answered e)
 
 few-stops : (g : Got ℕ) (k : ℕ) (more : List ℕ) → few g ≡ refused k → few (longer more g) ≡ refused k
 few-stops g k more = go (leb (g .value) mostStars)
   where
     go : (t : Bool) → cond {A = Answer (Got ℕ)} t (answered g) (refused 8) ≡ refused k
         → cond {A = Answer (Got ℕ)} t (answered (longer more g)) (refused 8) ≡ refused k
-    go true e = absurd (never (sym e))
+    go true e = absurd (refused-not-answered (sym e))
     go false e = e
 
 pub count-streams : Streams readCount
@@ -72,7 +72,7 @@ over-only-thirteen : (g : Got (List Star)) (k : ℕ) → nothingOver g ≡ refus
 over-only-thirteen g k = go (eqb (length (g .rest)) 0)
   where
     go : (t : Bool) → cond {A = Answer (List Star)} t (answered (g .value)) (refused 13) ≡ refused k → k ≡ 13
-    go true e = absurd (never (sym e))
+    go true e = absurd (refused-not-answered (sym e))
     go false e = cc
 
 module _ (k : ℕ) (other : k ≡ 13 → ⊥) (more : List ℕ) where
