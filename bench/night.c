@@ -30,6 +30,13 @@ static void batch(size_t stars, double day)
         exit(1);
 }
 
+static void batch_published(size_t stars, double day)
+{
+    uint32_t tally[20];
+    if (brundelak_batch_published(bytes, 12 * stars, J2000, day, status, stars, asc, stars, dec, stars, tally) != 0 || tally[0] != stars)
+        exit(1);
+}
+
 static void chain(size_t stars, double day)
 {
     for (size_t i = 0; i < stars; i++)
@@ -80,6 +87,7 @@ static void nova(size_t stars, double day)
 
 static const struct { const char *name; void (*work)(size_t, double); } works[] = {
     {"batch", batch},
+    {"batch_published", batch_published},
     {"chain", chain},
 #ifdef WITH_ERFA
     {"erfa_quick", erfa_quick},

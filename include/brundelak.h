@@ -14,7 +14,8 @@
  *        (1.5707963267948966) in size; for sine, cosine and tangent called alone: exceeds 400000.0
  *    4   an angle that goes into a tangent, or whose cosine divides, exceeds 1.57 in size
  *    5   a distance outside 0.0001 to 1000000.0 AU, a height outside -1000.0 to 100000.0 m, the root of a number below 0
- *    6   the sine of the new inclination, or N in topopcent_ecl_coords, is zero
+ *    6   the sine of the new inclination, or N in topopcent_ecl_coords, is zero; in topopcent_ecl_coords_published also the
+ *        cosine of the topocentric longitude
  *    7   the argument of an arcsine exceeds 1 in size
  *    8   list bytes not a multiple of 12, or more than 60000; a lent slice shorter than the star count; a place past the
  *        end of the list or not at a record's start (the end itself is accepted); a count to be raised already at 60000;
@@ -31,6 +32,9 @@
  * heights in metres above sea level. Azimuth is counted from south, west positive: the true heading, from north and
  * clockwise, is azimuth plus half a turn. Geographical longitude is positive west of Greenwich, latitude positive north.
  * Meeus: J. Meeus, Astronomical Algorithms, 2nd edition.
+ *
+ * Editions: where the ported crate's rule is not Meeus's, the plain name is the crate's, by which past files reproduce, and
+ * the name with _published is Meeus's, for new files. Arguments and answers are the same.
  *
  * The archive is x86-64 code; link with -lbrundelak -lm.
  */
@@ -206,6 +210,12 @@ uint8_t brundelak_hr_angl_frm_hz(double az, double alt, double observer_lat, dou
  * Note:      Meeus has cos alt cos az where the crate has cos az twice: docs/DIFFERENCES.md. */
 uint8_t brundelak_dec_frm_hz(double az, double alt, double observer_lat, double *out);
 
+/* The same in the published edition.
+ * Given:     as brundelak_dec_frm_hz
+ * Returned:  out            arcsine of (sin lat sin alt - cos lat cos alt cos az)
+ * Refusals:  1, 3, 7 */
+uint8_t brundelak_dec_frm_hz_published(double az, double alt, double observer_lat, double *out);
+
 /* Galactic longitude from equatorial coordinates of B1950.0.
  * Given:     asc, dec   right ascension, declination (size at most 1.57)
  * Returned:  out        galactic longitude
@@ -243,6 +253,11 @@ uint8_t brundelak_annual_precess(double asc, double dec, double day, double *fir
 uint8_t brundelak_precess_eq_coords(double old_asc, double old_dec, double day1, double day2,
                                     double *first, double *second);
 
+/* The same in the published edition, with Meeus's signs.
+ * Given, Returned, Refusals:  as brundelak_precess_eq_coords */
+uint8_t brundelak_precess_eq_coords_published(double old_asc, double old_dec, double day1, double day2,
+                                              double *first, double *second);
+
 /* Coordinates of the FK4 system from one day to another, as the ported crate has it.
  * Given:     old_asc, old_dec   right ascension, declination on day1
  *            day1, day2         Julian days
@@ -251,6 +266,11 @@ uint8_t brundelak_precess_eq_coords(double old_asc, double old_dec, double day1,
  * Note:      the crate takes counts of degrees as radians here: docs/DIFFERENCES.md. */
 uint8_t brundelak_precess_eq_coords_fk5(double old_asc, double old_dec, double day1, double day2,
                                         double *first, double *second);
+
+/* The same in the published edition: each angle is converted to radians.
+ * Given, Returned, Refusals:  as brundelak_precess_eq_coords_fk5 */
+uint8_t brundelak_precess_eq_coords_fk5_published(double old_asc, double old_dec, double day1, double day2,
+                                                  double *first, double *second);
 
 /* Ecliptic coordinates from one day to another.
  * Given:     old_long, old_lat   ecliptic longitude, latitude on day1
@@ -337,6 +357,14 @@ uint8_t brundelak_topopcent_ecl_coords(double ecl_long, double ecl_lat, double p
                                        double height, double sidereal, double oblq, double semidiameter,
                                        double *first, double *second, double *third);
 
+/* The same in the published edition: Meeus's latitude, which for N < 0 too lies on this side of the pole, and the
+ * semidiameter by it.
+ * Given, Returned:  as brundelak_topopcent_ecl_coords
+ * Refusals:         1, 3, 4, 5, then 6 (N is zero), 6 (the cosine of the topocentric longitude is zero), 7 */
+uint8_t brundelak_topopcent_ecl_coords_published(double ecl_long, double ecl_lat, double parallax, double long_, double lat,
+                                                 double height, double sidereal, double oblq, double semidiameter,
+                                                 double *first, double *second, double *third);
+
 /* ---- the chain --------------------------------------------------------------------------------------------------- */
 
 /* A star's place from one day to another: precession, then nutation and aberration at the precessed point.
@@ -346,6 +374,10 @@ uint8_t brundelak_topopcent_ecl_coords(double ecl_long, double ecl_lat, double p
  * Refusals:  1, 2, 3, then 7 (precession), then 4 on the precessed declination
  * Note:      the obliquity is the true one on day2; files made by the mean one differ as docs/DIFFERENCES.md shows. */
 uint8_t brundelak_chain(double asc, double dec, double day1, double day2, double *first, double *second);
+
+/* The same in the published edition: precession has Meeus's signs.
+ * Given, Returned, Refusals:  as brundelak_chain */
+uint8_t brundelak_chain_published(double asc, double dec, double day1, double day2, double *first, double *second);
 
 /* ---- the stored list ---------------------------------------------------------------------------------------------
  * A list is at most 5000 records of 12 bytes, little-endian: number (uint32), right ascension in milliarcseconds
@@ -381,6 +413,12 @@ uint8_t brundelak_find(const uint8_t *bytes, size_t len, uint32_t number, size_t
  * Refusals:  1, 2, then 8; all that is lent stays unchanged */
 uint8_t brundelak_batch(const uint8_t *bytes, size_t len, double day1, double day2, uint8_t *status, size_t status_len,
                         double *asc, size_t asc_len, double *dec, size_t dec_len, uint32_t *tally);
+
+/* The same in the published edition: each star by brundelak_chain_published.
+ * Given, Returned, Refusals:  as brundelak_batch */
+uint8_t brundelak_batch_published(const uint8_t *bytes, size_t len, double day1, double day2, uint8_t *status,
+                                  size_t status_len, double *asc, size_t asc_len, double *dec, size_t dec_len,
+                                  uint32_t *tally);
 
 /* One status counted in a tally.
  * Given:     status   0, or a refusal number up to 13

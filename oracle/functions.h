@@ -25,7 +25,9 @@ typedef uint8_t call(const double *a, double *const *o);
     F(precess_eq_coords_fk5, A4, O2) F(precess_ecl_coords, A4, O2) F(precess_orb_elements, A5, O3) \
     F(nutation, A1, O2) F(nutation_in_eq_coords, A5, O2) F(sol_aberr, A1, O1) \
     F(stell_aberr_in_eq_coords, A3, O2) F(eq_hz_parallax, A1, O1) F(topocent_eq_coords, A7, O2) \
-    F(topopcent_ecl_coords, A9, O3) F(chain, A4, O2)
+    F(topopcent_ecl_coords, A9, O3) F(chain, A4, O2) F(dec_frm_hz_published, A3, O1) \
+    F(precess_eq_coords_published, A4, O2) F(precess_eq_coords_fk5_published, A4, O2) \
+    F(topopcent_ecl_coords_published, A9, O3) F(chain_published, A4, O2)
 
 #define DEFINE(name, given, answered) \
     static uint8_t name(const double *a, double *const *o) { return brundelak_##name(given, answered); }

@@ -168,8 +168,8 @@ static void fault(int signal)
 
 /* ---- calls ---- */
 
-/* star, find, batch, tally_raise and those of radio lists stand behind the functions of numbers. */
-enum { KINDS = FUNCTION_COUNT + 11 };
+/* star, find, both batches, tally_raise and those of radio lists stand behind the functions of numbers. */
+enum { KINDS = FUNCTION_COUNT + 12 };
 static uint64_t answered[KINDS], refused[KINDS], unsound;
 static size_t which;
 
@@ -288,16 +288,17 @@ static size_t length(size_t stars)
     return by == 0 ? 0 : by == 1 && stars > 0 ? stars - 1 : by == 2 ? stars + below(9) : stars;
 }
 
-static void batch(void)
+typedef uint8_t batch_call(const uint8_t *, size_t, double, double, uint8_t *, size_t, double *, size_t, double *, size_t, uint32_t *);
+
+static void batch_by(batch_call *call)
 {
-    name = "batch";
     size_t len = list(), stars = len / 12, lens[3] = {length(stars), length(stars), length(stars)};
     args[0] = any_day();
     args[1] = any_day();
     uint8_t *status_of = lend(&statuses, lens[0]);
     double *asc = lend(&ascs, 8 * lens[1]), *dec = lend(&decs, 8 * lens[2]);
     uint32_t *counts = lend(&tally, 80), sum = 0;
-    uint8_t status = brundelak_batch(bytes.at, len, args[0], args[1], status_of, lens[0], asc, lens[1], dec, lens[2], counts);
+    uint8_t status = call(bytes.at, len, args[0], args[1], status_of, lens[0], asc, lens[1], dec, lens[2], counts);
     int bad = bad_list(len) || lens[0] < stars || lens[1] < stars || lens[2] < stars;
     int sound = kept(&bytes) && (status <= 2 || status == 8) && (status == 1 || status == 2 || (status == 8) == bad);
     if (status != 0) {
@@ -312,6 +313,18 @@ static void batch(void)
     for (size_t i = 0; i < 20; i++)
         sum += counts[i];
     judge(status, sound && sum == stars);
+}
+
+static void batch(void)
+{
+    name = "batch";
+    batch_by(brundelak_batch);
+}
+
+static void batch_published(void)
+{
+    name = "batch_published";
+    batch_by(brundelak_batch_published);
 }
 
 static void tally_raise(void)
@@ -601,7 +614,8 @@ int main(int argc, char **argv)
     signal(SIGBUS, fault);
     signal(SIGFPE, fault);
     static void (*const others[KINDS - FUNCTION_COUNT])(void) = {
-        star, find, batch, tally_raise, radio_open, radio_star, radio_accept, radio_put_head, radio_put_star, radio_to_list, list_to_radio};
+        star, find, batch, batch_published, tally_raise, radio_open, radio_star, radio_accept, radio_put_head, radio_put_star, radio_to_list,
+        list_to_radio};
     for (at_call = 0; at_call < calls; at_call++) {
         which = below(KINDS);
         memset(args, 0, sizeof args);

@@ -93,7 +93,9 @@ static unsigned sought(void)
     return agrees ? status : 999;
 }
 
-static unsigned batch(void)
+typedef uint8_t batch_call(const uint8_t *, size_t, double, double, uint8_t *, size_t, double *, size_t, double *, size_t, uint32_t *);
+
+static unsigned batch(batch_call *call)
 {
     size_t stars = list_len / 12;
     uint8_t statuses[ROOM], want_statuses[ROOM];
@@ -124,7 +126,7 @@ static unsigned batch(void)
         all_raised &= brundelak_tally_raise(want_statuses[i], raised) == 0;
     if (status == 0)
         all_raised &= memcmp(want_tally, raised, sizeof raised) == 0;
-    int agrees = all_raised && brundelak_batch(list, list_len, day1, day2, statuses, stars, asc, stars, dec, stars, tally) == status
+    int agrees = all_raised && call(list, list_len, day1, day2, statuses, stars, asc, stars, dec, stars, tally) == status
         && memcmp(want_statuses, statuses, sizeof statuses) == 0 && memcmp(want_asc, asc, sizeof asc) == 0
         && memcmp(want_dec, dec, sizeof dec) == 0 && memcmp(want_tally, tally, sizeof tally) == 0;
     return agrees ? status : 999;
@@ -231,7 +233,9 @@ int main(void)
         } else if (strcmp(word, "find") == 0) {
             status = sought();
         } else if (strcmp(word, "batch") == 0) {
-            status = batch();
+            status = batch(brundelak_batch);
+        } else if (strcmp(word, "batch_published") == 0) {
+            status = batch(brundelak_batch_published);
         } else if (strcmp(word, "radio_open") == 0) {
             status = radio_open();
         } else if (strcmp(word, "radio_star") == 0) {

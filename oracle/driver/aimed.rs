@@ -49,6 +49,12 @@ pub fn input(r: &mut Random, name: &str) -> Option<Vec<f64>> {
         "brundelak_precess_eq_coords" => to_the_pole(port::brundelak_precess_eq_coords, day1, day2),
         "brundelak_precess_eq_coords_fk5" => to_the_pole(port::brundelak_precess_eq_coords_fk5, day1, day2),
         "brundelak_chain" => to_the_pole(port::brundelak_precess_eq_coords, day1, day2),
+        "brundelak_precess_eq_coords_published" | "brundelak_chain_published" => {
+            to_the_pole(port::brundelak_precess_eq_coords_published, day1, day2)
+        }
+        "brundelak_precess_eq_coords_fk5_published" => to_the_pole(port::brundelak_precess_eq_coords_fk5_published, day1, day2),
+        // The pole stands where the azimuth is half a turn and the altitude the observer's latitude.
+        "brundelak_dec_frm_hz_published" => vec![PI, angle, angle],
         "brundelak_precess_ecl_coords" => {
             let (nu, node) = ecliptic_turn(day1, day2);
             vec![node - FRAC_PI_2, FRAC_PI_2 - nu.abs(), day1, day2]
@@ -67,7 +73,7 @@ pub fn input(r: &mut Random, name: &str) -> Option<Vec<f64>> {
             vec![inc, 0.5, node + from_node, day1, day2]
         }
         // N is zero: parallax a quarter turn, observer on the equator at sea level.
-        "brundelak_topopcent_ecl_coords" => vec![angle, 0.0, FRAC_PI_2, 0.3, 0.0, 0.0, angle, 0.4, 0.005],
+        "brundelak_topopcent_ecl_coords" | "brundelak_topopcent_ecl_coords_published" => vec![angle, 0.0, FRAC_PI_2, 0.3, 0.0, 0.0, angle, 0.4, 0.005],
         _ => return None,
     })
 }

@@ -2,6 +2,7 @@
 //! The Rust's modules go by the routed text; what no Rust is supplied for goes by `written`.
 use own;
 use port::{self, Lent};
+use published::{self, OWN, WRITTEN};
 use routed::library::{first_refusal, forget, last_sine};
 use routed::{aberr, coords, nutation, parallax, precess};
 use table::Sort::{self, *};
@@ -61,7 +62,17 @@ fn n_of(a: &[f64]) -> f64 {
 
 /// The chain, composed of the routed Rust's steps; each step's refusal is the chain's.
 fn chain_in(a: &[f64]) -> Outcome {
-    let moved = match met(&|| pair(precess::precess_eq_coords(a[0], a[1], a[2], a[3]))) {
+    from_precessed(met(&|| pair(precess::precess_eq_coords(a[0], a[1], a[2], a[3]))), a)
+}
+
+/// The same, from Meeus's precession.
+fn published_chain_in(a: &[f64]) -> Outcome {
+    from_precessed(WRITTEN.precess_eq_coords(a), a)
+}
+
+/// Nutation and aberration at the precessed point.
+fn from_precessed(precessed: Outcome, a: &[f64]) -> Outcome {
+    let moved = match precessed {
         Refused(n) => return Refused(n),
         Answer(p) => p,
     };
@@ -79,8 +90,16 @@ fn chain_in(a: &[f64]) -> Outcome {
 
 /// The chain with its own refusals.
 pub fn chain_outcome(a: &[f64]) -> Outcome {
+    refused_or(a, chain_in)
+}
+
+pub fn published_chain_outcome(a: &[f64]) -> Outcome {
+    refused_or(a, published_chain_in)
+}
+
+fn refused_or(a: &[f64], work: fn(&[f64]) -> Outcome) -> Outcome {
     match first_of(&CHAIN, a) {
-        0 => chain_in(a),
+        0 => work(a),
         n => Refused(n),
     }
 }
@@ -89,7 +108,15 @@ const CHAIN: [Sort; 4] = [Angle, Latitude, Day, Day];
 
 /// The chain over Rust's own library functions.
 pub fn own_chain(a: &[f64]) -> Vec<f64> {
-    let moved = own::precess::precess_eq_coords(a[0], a[1], a[2], a[3]);
+    own_from(own::precess::precess_eq_coords(a[0], a[1], a[2], a[3]), a)
+}
+
+fn own_published_chain(a: &[f64]) -> Vec<f64> {
+    let p = published::numbers(OWN.precess_eq_coords(a));
+    own_from((p[0], p[1]), a)
+}
+
+fn own_from(moved: (f64, f64), a: &[f64]) -> Vec<f64> {
     let (long, oblq) = own::nutation::nutation(a[3]);
     let tru = written::obliquity(written::century(a[3])) + oblq;
     let point = own::coords::EqPoint { asc: moved.0, dec: moved.1 };
@@ -248,6 +275,22 @@ pub fn all() -> Vec<Function> {
             port: port::brundelak_chain,
             expected: chain_in,
             own: own_chain,
+        },
+        function!(rule brundelak_dec_frm_hz_published [Angle, Latitude, Latitude] (1, 3, 7)
+            |a| WRITTEN.dec_frm_hz(a), published::numbers(OWN.dec_frm_hz(a))),
+        function!(rule brundelak_precess_eq_coords_published [Angle, Latitude, Day, Day] (1, 2, 3, 7)
+            |a| WRITTEN.precess_eq_coords(a), published::numbers(OWN.precess_eq_coords(a))),
+        function!(rule brundelak_precess_eq_coords_fk5_published [Angle, Latitude, Day, Day] (1, 2, 3, 7)
+            |a| WRITTEN.precess_eq_coords_fk5(a), published::numbers(OWN.precess_eq_coords_fk5(a))),
+        function!(rule brundelak_topopcent_ecl_coords_published [Angle, Latitude, Angle, Angle, Steep, Height, Angle, Angle, Angle] (1, 3, 4, 5, 6, 7)
+            |a| WRITTEN.topopcent_ecl_coords(a), published::numbers(OWN.topopcent_ecl_coords(a))),
+        Function {
+            name: "brundelak_chain_published",
+            sorts: &CHAIN,
+            meets: &[1, 2, 3, 4, 7],
+            port: port::brundelak_chain_published,
+            expected: published_chain_in,
+            own: own_published_chain,
         },
     ]
 }

@@ -23,8 +23,35 @@ extern "C" {
         dec_len: usize,
         tally: *mut u32,
     ) -> u8;
+    fn brundelak_batch_published(
+        bytes: *const u8,
+        len: usize,
+        day1: f64,
+        day2: f64,
+        status: *mut u8,
+        status_len: usize,
+        asc: *mut f64,
+        asc_len: usize,
+        dec: *mut f64,
+        dec_len: usize,
+        tally: *mut u32,
+    ) -> u8;
     fn brundelak_tally_raise(status: u8, tally: *mut u32) -> u8;
 }
+
+type BatchCall =
+    unsafe extern "C" fn(*const u8, usize, f64, f64, *mut u8, usize, *mut f64, usize, *mut f64, usize, *mut u32) -> u8;
+
+/// An edition of the batch: its name, the port's call, and the chain that it must answer by.
+struct Edition {
+    name: &'static str,
+    call: BatchCall,
+    chain: fn(&[f64]) -> Outcome,
+}
+
+const CRATE: Edition = Edition { name: "batch", call: brundelak_batch, chain: ::functions::chain_outcome };
+const PUBLISHED: Edition =
+    Edition { name: "batch_published", call: brundelak_batch_published, chain: ::functions::published_chain_outcome };
 
 // ---- section 7
 
@@ -83,12 +110,12 @@ fn find(bytes: &[u8], number: u32) -> (u8, Option<(usize, Record)>) {
 }
 
 /// A star's status and two angles.
-fn reduced(r: Record, day1: f64, day2: f64) -> (u8, f64, f64) {
+fn reduced(edition: &Edition, r: Record, day1: f64, day2: f64) -> (u8, f64, f64) {
     if !r.in_range() {
         return (9, 0.0, 0.0);
     }
     let (asc, dec) = r.place();
-    match ::functions::chain_outcome(&[asc, dec, day1, day2]) {
+    match (edition.chain)(&[asc, dec, day1, day2]) {
         Outcome::Answer(p) => (0, p[0], p[1]),
         Outcome::Refused(n) => (n, 0.0, 0.0),
     }
@@ -218,7 +245,14 @@ fn room(r: &mut Random, stars: usize) -> usize {
     }
 }
 
-fn compare_batch(bytes: &[u8], lens: [usize; 3], (day1, day2): (f64, f64), count: &mut Count, statuses: &mut Count) {
+fn compare_batch(
+    edition: &Edition,
+    bytes: &[u8],
+    lens: [usize; 3],
+    (day1, day2): (f64, f64),
+    count: &mut Count,
+    statuses: &mut Count,
+) {
     let stars = bytes.len() / 12;
     let expected = batch_status(bytes, lens, (day1, day2));
     let mut want = (lent(lens[0], 0xA5u8), lent(lens[1], -1e300), lent(lens[2], -2e300), [0xA5A5A5A5u32; 22]);
@@ -226,7 +260,7 @@ fn compare_batch(bytes: &[u8], lens: [usize; 3], (day1, day2): (f64, f64), count
     if expected == 0 {
         want.3[1..21].iter_mut().for_each(|c| *c = 0);
         for i in 0..stars {
-            let (status, asc, dec) = reduced(Record::at(bytes, 12 * i), day1, day2);
+            let (status, asc, dec) = reduced(edition, Record::at(bytes, 12 * i), day1, day2);
             want.0[8 + i] = status;
             want.1[8 + i] = asc;
             want.2[8 + i] = dec;
@@ -234,7 +268,7 @@ fn compare_batch(bytes: &[u8], lens: [usize; 3], (day1, day2): (f64, f64), count
         }
     }
     let status = unsafe {
-        brundelak_batch(
+        (edition.call)(
             bytes.as_ptr(),
             bytes.len(),
             day1,
@@ -250,7 +284,7 @@ fn compare_batch(bytes: &[u8], lens: [usize; 3], (day1, day2): (f64, f64), count
     };
     let same = got.0 == want.0 && ::bits(&got.1) == ::bits(&want.1) && ::bits(&got.2) == ::bits(&want.2) && got.3 == want.3;
     count.tell(status, status == expected && same, || {
-        format!("batch: days {:?} {:?}, lengths {:?}, status {} for {}, {:?}", day1, day2, lens, status, expected, bytes)
+        format!("{}: days {:?} {:?}, lengths {:?}, status {} for {}, {:?}", edition.name, day1, day2, lens, status, expected, bytes)
     });
     if status == 0 {
         for i in 0..stars {
@@ -278,6 +312,7 @@ fn compare_raise(r: &mut Random, count: &mut Count) {
 pub fn compare(n: u64) -> (u64, u64) {
     let mut r = Random(::SEED);
     let (mut stars, mut finds, mut batches, mut statuses) = (Count::new(), Count::new(), Count::new(), Count::new());
+    let (mut published, mut published_statuses) = (Count::new(), Count::new());
     let mut raises = Count::new();
     let mut both = (2451545.0, 2462088.69);
     for i in 0..n {
@@ -292,13 +327,15 @@ pub fn compare(n: u64) -> (u64, u64) {
         if i % 4 == 0 {
             let stars = bytes.len() / 12;
             let lens = [room(&mut r, stars), room(&mut r, stars), room(&mut r, stars)];
-            compare_batch(&bytes, lens, both, &mut batches, &mut statuses);
+            compare_batch(&CRATE, &bytes, lens, both, &mut batches, &mut statuses);
+            compare_batch(&PUBLISHED, &bytes, lens, both, &mut published, &mut published_statuses);
         }
     }
     // The longest list, and one star more.
     let full: Vec<u8> = (0..5001).flat_map(|_| record(&mut r, 5000, 2415020.5, 2462088.69).bytes()).collect();
     for &len in [60000, 60012].iter() {
-        compare_batch(&full[..len], [len / 12; 3], (2415020.5, 2462088.69), &mut batches, &mut statuses);
+        compare_batch(&CRATE, &full[..len], [len / 12; 3], (2415020.5, 2462088.69), &mut batches, &mut statuses);
+        compare_batch(&PUBLISHED, &full[..len], [len / 12; 3], (2415020.5, 2462088.69), &mut published, &mut published_statuses);
         compare_star(&mut r, &full[..len], &mut stars);
         compare_find(&mut r, &full[..len], &mut finds);
     }
@@ -306,24 +343,28 @@ pub fn compare(n: u64) -> (u64, u64) {
     println!("{}", finds.line("find"));
     println!("{}", batches.line("batch"));
     println!("{}", statuses.line("stars of the batches"));
+    println!("{}", published.line("batch_published"));
+    println!("{}", published_statuses.line("stars of those"));
     println!("{}", raises.line("tally_raise"));
     let met = |c: &Count, numbers: &[usize]| numbers.iter().all(|&k| c.by[k] > 0);
     let all = met(&stars, &[0, 8, 255])
         && met(&finds, &[0, 8, 9, 10])
         && met(&batches, &[0, 1, 2, 8])
         && met(&statuses, &[0, 4, 7, 9])
+        && met(&published, &[0, 1, 2, 8])
+        && met(&published_statuses, &[0, 4, 9])
         && met(&raises, &[0, 8, 9]);
     if !all {
         println!("lists: a refusal that was never met");
     }
-    let calls = stars.calls + finds.calls + batches.calls + raises.calls;
-    (calls, stars.differing + finds.differing + batches.differing + raises.differing + !all as u64)
+    let calls = stars.calls + finds.calls + batches.calls + published.calls + raises.calls;
+    (calls, stars.differing + finds.differing + batches.differing + published.differing + raises.differing + !all as u64)
 }
 
 /// The sample's lists: of each some stars shown, some sought, and all in a batch.
 pub fn sample(n: u64) {
     println!("# A list in hexadecimal, then calls on it: star PLACE = status, number, right ascension, declination, next place;");
-    println!("# find NUMBER = status, index, right ascension, declination; batch DAY DAY = status, each star's status, angles if it is 0.");
+    println!("# find NUMBER = status, index, right ascension, declination; batch DAY DAY = status, each star's status, angles if it is 0; batch_published alike.");
     let mut r = Random(::SEED);
     let mut both = (2451545.0, 2462088.69);
     for _ in 0..n {
@@ -342,11 +383,13 @@ pub fn sample(n: u64) {
             println!("find {} = {}{}", number, status, answer);
         }
         let status = batch_status(&bytes, [bytes.len() / 12; 3], both);
-        let mut answer = String::new();
-        for i in 0..if status == 0 { bytes.len() / 12 } else { 0 } {
-            let (status, asc, dec) = reduced(Record::at(&bytes, 12 * i), both.0, both.1);
-            answer += &format!(" {}{}", status, if status == 0 { ::hex(&[asc, dec]) } else { String::new() });
+        for edition in [CRATE, PUBLISHED].iter() {
+            let mut answer = String::new();
+            for i in 0..if status == 0 { bytes.len() / 12 } else { 0 } {
+                let (status, asc, dec) = reduced(edition, Record::at(&bytes, 12 * i), both.0, both.1);
+                answer += &format!(" {}{}", status, if status == 0 { ::hex(&[asc, dec]) } else { String::new() });
+            }
+            println!("{}{} = {}{}", edition.name, ::hex(&[both.0, both.1]), status, answer);
         }
-        println!("batch{} = {}{}", ::hex(&[both.0, both.1]), status, answer);
     }
 }

@@ -11,6 +11,7 @@ mod functions;
 mod inputs;
 mod lists;
 mod port;
+mod published;
 mod radio;
 mod table;
 mod written;

@@ -60,4 +60,9 @@ exported! {
     brundelak_topocent_eq_coords(x, y, z, u, v, w, t)(a, b);
     brundelak_topopcent_ecl_coords(x, y, z, u, v, w, t, s, r)(a, b, c);
     brundelak_chain(x, y, z, u)(a, b);
+    brundelak_dec_frm_hz_published(x, y, z)(a);
+    brundelak_precess_eq_coords_published(x, y, z, u)(a, b);
+    brundelak_precess_eq_coords_fk5_published(x, y, z, u)(a, b);
+    brundelak_topopcent_ecl_coords_published(x, y, z, u, v, w, t, s, r)(a, b, c);
+    brundelak_chain_published(x, y, z, u)(a, b);
 }

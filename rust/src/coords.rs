@@ -1,5 +1,5 @@
 //! Changes of frame.
-use crate::{ffi, Refusal};
+use crate::{ffi, Edition, Refusal};
 
 /// A point on the Earth.
 #[derive(Clone, Copy, Debug, PartialEq)]
@@ -75,7 +75,15 @@ pub fn hr_angl_frm_hz(az: f64, alt: f64, observer_lat: f64) -> Result<f64, Refus
 
 /// The declination from horizontal coordinates, as astro has it: not Meeus's formula. Refusals: 1, 3, 7.
 pub fn dec_frm_hz(az: f64, alt: f64, observer_lat: f64) -> Result<f64, Refusal> {
-    ffi::dec_frm_hz(az, alt, observer_lat)
+    dec_frm_hz_by(Edition::Crate, az, alt, observer_lat)
+}
+
+/// The same in an edition. Refusals: 1, 3, 7.
+pub fn dec_frm_hz_by(edition: Edition, az: f64, alt: f64, observer_lat: f64) -> Result<f64, Refusal> {
+    match edition {
+        Edition::Crate => ffi::dec_frm_hz(az, alt, observer_lat),
+        Edition::Published => ffi::dec_frm_hz_published(az, alt, observer_lat),
+    }
 }
 
 /// The galactic longitude from coordinates of B1950.0. Refusals: 1, 3, 4.

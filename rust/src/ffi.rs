@@ -1,5 +1,5 @@
 //! The C boundary. All that is unsafe stands here: each call lends floats of its own frame, valid and distinct.
-use crate::Refusal;
+use crate::{Edition, Refusal};
 
 macro_rules! boundary {
     ($($symbol:ident $name:ident ($($arg:ident),*) -> ($($out:ident),*);)*) => {
@@ -61,6 +61,12 @@ boundary! {
     brundelak_topopcent_ecl_coords topopcent_ecl_coords(long, lat, parallax, place_long, place_lat, height, sidereal, oblq, semidiameter)
         -> (a, b, c);
     brundelak_chain chain(asc, dec, day1, day2) -> (a, b);
+    brundelak_dec_frm_hz_published dec_frm_hz_published(az, alt, lat) -> (a);
+    brundelak_precess_eq_coords_published precess_eq_coords_published(asc, dec, day1, day2) -> (a, b);
+    brundelak_precess_eq_coords_fk5_published precess_eq_coords_fk5_published(asc, dec, day1, day2) -> (a, b);
+    brundelak_topopcent_ecl_coords_published topopcent_ecl_coords_published(long, lat, parallax, place_long, place_lat, height, sidereal, oblq, semidiameter)
+        -> (a, b, c);
+    brundelak_chain_published chain_published(asc, dec, day1, day2) -> (a, b);
 }
 
 // ---- the stored list: the slices' own lengths go with them
@@ -85,6 +91,19 @@ mod stored {
             dec: *mut i32,
         ) -> u8;
         pub fn brundelak_batch(
+            bytes: *const u8,
+            len: usize,
+            day1: f64,
+            day2: f64,
+            status: *mut u8,
+            status_len: usize,
+            asc: *mut f64,
+            asc_len: usize,
+            dec: *mut f64,
+            dec_len: usize,
+            tally: *mut u32,
+        ) -> u8;
+        pub fn brundelak_batch_published(
             bytes: *const u8,
             len: usize,
             day1: f64,
@@ -124,6 +143,7 @@ pub fn find(bytes: &[u8], number: u32) -> Result<(usize, u32, i32), Refusal> {
 
 /// The tally.
 pub fn batch(
+    edition: Edition,
     bytes: &[u8],
     day1: f64,
     day2: f64,
@@ -132,8 +152,12 @@ pub fn batch(
     dec: &mut [f64],
 ) -> Result<[u32; 20], Refusal> {
     let mut tally = [0; 20];
+    let call = match edition {
+        Edition::Crate => stored::brundelak_batch,
+        Edition::Published => stored::brundelak_batch_published,
+    };
     let answer = unsafe {
-        stored::brundelak_batch(
+        call(
             bytes.as_ptr(),
             bytes.len(),
             day1,

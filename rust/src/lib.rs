@@ -18,6 +18,7 @@
 //! ```
 #![deny(missing_docs, unsafe_code)]
 
+mod edition;
 #[allow(unsafe_code)]
 mod ffi;
 mod refusal;
@@ -36,4 +37,5 @@ pub mod precess;
 pub mod radio;
 pub mod time;
 
+pub use edition::Edition;
 pub use refusal::Refusal;

@@ -7,6 +7,7 @@ ghost use Rattle.batch.specs.rules.Star.{degreesOf, ascOf, decOf, reduce
 ghost use Rattle.batch.specs.rules.Batch.{batchRefusal};
 ghost use Rattle.batch.specs.rules.Batch.{Batch as Batch·Batch};
 use chain::Night;
+use edition::Edition;
 use helpers::angle;
 use list::Star;
 use list_tally::Tally;
@@ -119,6 +120,7 @@ fn batch_refusal(bytes: &[u8], day1: f64, day2: f64, status: usize, asc: usize, 
 // Every star of the list from the first day to the second: its status, 0 or its refusal, and its two angles, 0.0 and 0.0 where
 // it is refused. Places past the stars stay. Refusals of the call, which changes nothing lent: 1; 2; then 8.
 pub fn batch(
+    edition: Edition,
     bytes: &[u8],
     day1: f64,
     day2: f64,
@@ -126,14 +128,14 @@ pub fn batch(
     asc: &mut [f64],
     dec: &mut [f64],
 ) -> Batched
-    ensures { λ r. ⌜ Batch·Batch (now (bytes .entry)) day1 day2 (now (status .entry)) (now (asc .entry)) (now (dec .entry)) r (now (status .exit)) (now (asc .exit)) (now (dec .exit)) ⌝ }
+    ensures { λ r. ⌜ Batch·Batch edition (now (bytes .entry)) day1 day2 (now (status .entry)) (now (asc .entry)) (now (dec .entry)) r (now (status .exit)) (now (asc .exit)) (now (dec .exit)) ⌝ }
 {
     let no = batch_refusal(bytes, day1, day2, status.len(), asc.len(), dec.len());
     let mut tally = Tally::new();
     if no != 0 {
         return Batched { refusal: no, tally };
     }
-    let night = chain::night_of(day1, day2);
+    let night = chain::night_of(edition, day1, day2);
     let n = list::count(bytes);
     let mut i = 0;
     while i < n {

@@ -1,10 +1,12 @@
 // Changes of frame.
 ghost use Rattle.brundelak_handed.specs.rules.Boundary.{Told, numberOfRadians};
+ghost use Rattle.edition.specs.declared.Edition.the-variants.{Crate};
 ghost use Rattle.coords.specs.rules.HourAngle.{hrAnglFrmObserverLongRule, hrAnglFrmLocSidrRule};
 ghost use Rattle.coords_ecl.specs.rules.Ecliptic.{eclLongFrmEqRule, eclLatFrmEqRule, ascFrmEclRule, decFrmEclRule};
 ghost use Rattle.coords.specs.rules.Horizon.{azFrmEqRule, altFrmEqRule, hrAnglFrmHzRule, decFrmHzRule};
 ghost use Rattle.coords_gal.specs.rules.Galactic.{galLongFrmEqRule, galLatFrmEqRule, ascFrmGalRule};
 use brundelak_handed::give_radians;
+use edition::Edition;
 use quantity::Rad;
 
 // The hour angle from the sidereal time at Greenwich. Refusals: 1; 3.
@@ -144,10 +146,10 @@ pub extern "C" fn brundelak_hr_angl_frm_hz(
 // The declination from horizontal coordinates. Refusals: 1; 3; 7.
 #[no_mangle]
 pub extern "C" fn brundelak_dec_frm_hz(az: f64, alt: f64, observer_lat: f64, out: &mut f64) -> u8
-    ensures { λ n. ⌜ Told (numberOfRadians (decFrmHzRule (record { 0 = az }) (record { 0 = alt }) (record { 0 = «observer_lat» }))) n (now (out .entry)) (now (out .exit)) ⌝ }
+    ensures { λ n. ⌜ Told (numberOfRadians (decFrmHzRule Crate (record { 0 = az }) (record { 0 = alt }) (record { 0 = «observer_lat» }))) n (now (out .entry)) (now (out .exit)) ⌝ }
 {
     give_radians(
-        coords::dec_frm_hz(Rad(az), Rad(alt), Rad(observer_lat)),
+        coords::dec_frm_hz(Edition::Crate, Rad(az), Rad(alt), Rad(observer_lat)),
         out,
     )
 }

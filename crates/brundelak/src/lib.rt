@@ -7,4 +7,5 @@ pub mod frames; // changes of frame
 pub mod reduction; // precession, nutation, aberration, the chain
 pub mod observer; // parallax
 pub mod stored; // the stored list and the batch
+pub mod published; // the published edition of what has two
 pub mod radio; // lists over the radio link

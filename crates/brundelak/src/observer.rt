@@ -1,11 +1,13 @@
 // What depends on the observer: parallax.
 ghost use Rattle.brundelak_handed.specs.rules.Boundary.{Told, ToldTwo, ToldThree, numberOfRadians, numbersOfPoint};
+ghost use Rattle.edition.specs.declared.Edition.the-variants.{Crate};
 ghost use Rattle.parallax.specs.rules.Horizontal.{eqHzParallaxRule};
 ghost use Rattle.parallax.specs.rules.Equatorial.{topocentEqCoordsRule};
 ghost use Rattle.parallax_ecl.specs.rules.Ecliptic.{topopcentEclCoordsRule};
 use brundelak_handed::give_point;
 use brundelak_handed::give_radians;
 use brundelak_handed::give_three;
+use edition::Edition;
 use quantity::EclPoint;
 use quantity::EqPoint;
 use quantity::GeographPoint;
@@ -66,10 +68,11 @@ pub extern "C" fn brundelak_topopcent_ecl_coords(
     second: &mut f64,
     third: &mut f64,
 ) -> u8
-    ensures { λ n. ⌜ ToldThree (topopcentEclCoordsRule (record { long = «ecl_long»; lat = «ecl_lat» }) (record { 0 = parallax }) (record { long = long; lat = lat }) height (record { 0 = sidereal }) (record { 0 = oblq }) (record { 0 = semidiameter })) n (now (first .entry)) (now (second .entry)) (now (third .entry)) (now (first .exit)) (now (second .exit)) (now (third .exit)) ⌝ }
+    ensures { λ n. ⌜ ToldThree (topopcentEclCoordsRule Crate (record { long = «ecl_long»; lat = «ecl_lat» }) (record { 0 = parallax }) (record { long = long; lat = lat }) height (record { 0 = sidereal }) (record { 0 = oblq }) (record { 0 = semidiameter })) n (now (first .entry)) (now (second .entry)) (now (third .entry)) (now (first .exit)) (now (second .exit)) (now (third .exit)) ⌝ }
 {
     give_three(
         parallax_ecl::topopcent_ecl_coords(
+            Edition::Crate,
             EclPoint {
                 long: ecl_long,
                 lat: ecl_lat,

@@ -1,5 +1,6 @@
 // What leads from a catalogue place to a place on a day: precession, nutation, aberration and the chain.
 ghost use Rattle.brundelak_handed.specs.rules.Boundary.{Told, ToldTwo, ToldThree, numberOfRadians};
+ghost use Rattle.edition.specs.declared.Edition.the-variants.{Crate};
 ghost use Rattle.precess.specs.rules.Annual.{annualPrecessRule};
 ghost use Rattle.precess.specs.rules.Equatorial.{precessEqCoordsRule};
 ghost use Rattle.precess.specs.rules.Fk4.{precessEqCoordsFK5Rule};
@@ -13,6 +14,7 @@ ghost use Rattle.chain.specs.rules.Chain.{chainRule};
 use brundelak_handed::give_radians;
 use brundelak_handed::give_three;
 use brundelak_handed::give_two;
+use edition::Edition;
 use quantity::EqPoint;
 use quantity::Rad;
 
@@ -44,10 +46,10 @@ pub extern "C" fn brundelak_precess_eq_coords(
     first: &mut f64,
     second: &mut f64,
 ) -> u8
-    ensures { λ n. ⌜ ToldTwo (precessEqCoordsRule (record { 0 = «old_asc» }) (record { 0 = «old_dec» }) day1 day2) n (now (first .entry)) (now (second .entry)) (now (first .exit)) (now (second .exit)) ⌝ }
+    ensures { λ n. ⌜ ToldTwo (precessEqCoordsRule Crate (record { 0 = «old_asc» }) (record { 0 = «old_dec» }) day1 day2) n (now (first .entry)) (now (second .entry)) (now (first .exit)) (now (second .exit)) ⌝ }
 {
     give_two(
-        precess::precess_eq_coords(Rad(old_asc), Rad(old_dec), day1, day2),
+        precess::precess_eq_coords(Edition::Crate, Rad(old_asc), Rad(old_dec), day1, day2),
         first,
         second,
     )
@@ -63,10 +65,10 @@ pub extern "C" fn brundelak_precess_eq_coords_fk5(
     first: &mut f64,
     second: &mut f64,
 ) -> u8
-    ensures { λ n. ⌜ ToldTwo (precessEqCoordsFK5Rule (record { 0 = «old_asc» }) (record { 0 = «old_dec» }) day1 day2) n (now (first .entry)) (now (second .entry)) (now (first .exit)) (now (second .exit)) ⌝ }
+    ensures { λ n. ⌜ ToldTwo (precessEqCoordsFK5Rule Crate (record { 0 = «old_asc» }) (record { 0 = «old_dec» }) day1 day2) n (now (first .entry)) (now (second .entry)) (now (first .exit)) (now (second .exit)) ⌝ }
 {
     give_two(
-        precess::precess_eq_coords_FK5(Rad(old_asc), Rad(old_dec), day1, day2),
+        precess::precess_eq_coords_FK5(Edition::Crate, Rad(old_asc), Rad(old_dec), day1, day2),
         first,
         second,
     )
@@ -188,7 +190,11 @@ pub extern "C" fn brundelak_chain(
     first: &mut f64,
     second: &mut f64,
 ) -> u8
-    ensures { λ n. ⌜ ToldTwo (chainRule (record { 0 = asc }) (record { 0 = dec }) day1 day2) n (now (first .entry)) (now (second .entry)) (now (first .exit)) (now (second .exit)) ⌝ }
+    ensures { λ n. ⌜ ToldTwo (chainRule Crate (record { 0 = asc }) (record { 0 = dec }) day1 day2) n (now (first .entry)) (now (second .entry)) (now (first .exit)) (now (second .exit)) ⌝ }
 {
-    give_two(chain::chain(Rad(asc), Rad(dec), day1, day2), first, second)
+    give_two(
+        chain::chain(Edition::Crate, Rad(asc), Rad(dec), day1, day2),
+        first,
+        second,
+    )
 }

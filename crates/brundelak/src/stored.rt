@@ -1,7 +1,9 @@
 // The stored list: a star shown, find and the batch.
+ghost use Rattle.edition.specs.declared.Edition.the-variants.{Crate, Published};
 ghost use Rattle.list.specs.rules.Find.{findRule};
 ghost use Rattle.list.specs.rules.Reader.{readRule};
 ghost use Rattle.brundelak.specs.rules.Stored.{ToldFound, ToldStar, ToldBatch, ToldRaise};
+use edition::Edition;
 use list::Found;
 use list::Shown;
 use list_tally::Tally;
@@ -54,6 +56,29 @@ pub extern "C" fn brundelak_star(
     }
 }
 
+// The batch in an edition, with its counts handed over. Refusals: 1; 2; 8.
+fn hand_batch(
+    edition: Edition,
+    bytes: &[u8],
+    day1: f64,
+    day2: f64,
+    status: &mut [u8],
+    asc: &mut [f64],
+    dec: &mut [f64],
+    counts: &mut [u32; 20],
+) -> u8
+    ensures { λ n. ⌜ ToldBatch edition (now (bytes .entry)) day1 day2 (now (status .entry)) (now (asc .entry)) (now (dec .entry)) (now (counts .entry)) n (now (status .exit)) (now (asc .exit)) (now (dec .exit)) (now (counts .exit)) ⌝ }
+{
+    let b = batch::batch(edition, bytes, day1, day2, status, asc, dec);
+    if b.refusal != 0 {
+        return b.refusal;
+    }
+    let tally = b.tally;
+    let all = tally.counts;
+    *counts = all;
+    0
+}
+
 // Every star of a list from the first day to the second: status, right ascension and declination of each into the lent slices, and
 // the 20 counts of the tally. Refusals, which leave all lent memory unchanged: 1; 2; 8.
 #[no_mangle]
@@ -66,16 +91,34 @@ pub extern "C" fn brundelak_batch(
     dec: &mut [f64],
     counts: &mut [u32; 20],
 ) -> u8
-    ensures { λ n. ⌜ ToldBatch (now (bytes .entry)) day1 day2 (now (status .entry)) (now (asc .entry)) (now (dec .entry)) (now (counts .entry)) n (now (status .exit)) (now (asc .exit)) (now (dec .exit)) (now (counts .exit)) ⌝ }
+    ensures { λ n. ⌜ ToldBatch Crate (now (bytes .entry)) day1 day2 (now (status .entry)) (now (asc .entry)) (now (dec .entry)) (now (counts .entry)) n (now (status .exit)) (now (asc .exit)) (now (dec .exit)) (now (counts .exit)) ⌝ }
 {
-    let b = batch::batch(bytes, day1, day2, status, asc, dec);
-    if b.refusal != 0 {
-        return b.refusal;
-    }
-    let tally = b.tally;
-    let all = tally.counts;
-    *counts = all;
-    0
+    hand_batch(Edition::Crate, bytes, day1, day2, status, asc, dec, counts)
+}
+
+// The same in the published edition.
+#[no_mangle]
+pub extern "C" fn brundelak_batch_published(
+    bytes: &[u8],
+    day1: f64,
+    day2: f64,
+    status: &mut [u8],
+    asc: &mut [f64],
+    dec: &mut [f64],
+    counts: &mut [u32; 20],
+) -> u8
+    ensures { λ n. ⌜ ToldBatch Published (now (bytes .entry)) day1 day2 (now (status .entry)) (now (asc .entry)) (now (dec .entry)) (now (counts .entry)) n (now (status .exit)) (now (asc .exit)) (now (dec .exit)) (now (counts .exit)) ⌝ }
+{
+    hand_batch(
+        Edition::Published,
+        bytes,
+        day1,
+        day2,
+        status,
+        asc,
+        dec,
+        counts,
+    )
 }
 
 // One status counted in the 20 counts of a tally. Refusals, which leave them unchanged: 9 for a status that is not known, then 8 for

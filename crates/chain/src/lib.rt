@@ -7,6 +7,7 @@ ghost use Rattle.chain.specs.rules.Obliquity.{meanObliquity, meanObliqui
 ghost use Rattle.chain.specs.rules.Chain.{pointRefusal, anglesRefusal, chainRule};
 ghost use Rattle.chain.specs.rules.Night.{nightFrom, nightOf, moved, reducedAt, reducedIn};
 use aberr_rows::Velocity;
+use edition::Edition;
 use helpers::angle;
 use helpers::time;
 use nutation_args::Nutations;
@@ -86,14 +87,14 @@ fn night_from(turns: EqTurns, n: Nutations, oblq: Rad, v: Velocity) -> Night
     }
 }
 
-// The night of two days.
-pub fn night_of(day1: f64, day2: f64) -> Night
-    ensures { λ r. ⌜ r ≡ nightOf day1 day2 ⌝ }
+// The night of two days. The editions differ in precession's turns alone.
+pub fn night_of(edition: Edition, day1: f64, day2: f64) -> Night
+    ensures { λ r. ⌜ r ≡ nightOf edition day1 day2 ⌝ }
 {
     let n = nutation_table::nutation_on(day2);
     let in_oblq = n.oblq;
     night_from(
-        precess::eq_turns(day1, day2),
+        precess::eq_turns(edition, day1, day2),
         n,
         true_obliquity(mean_obliquity_on(day2), in_oblq),
         aberr_velocity::velocity_on(day2),
@@ -156,12 +157,12 @@ pub fn reduced_in(asc: Rad, dec: Rad, night: Night) -> Two
 // ---- the chain
 
 // A star's place on the second day from its place on the first. Refusals: 1; 2; 3; then 7, and 4 for the precessed declination.
-pub fn chain(asc: Rad, dec: Rad, day1: f64, day2: f64) -> Two
-    ensures { λ r. ⌜ shownTwo r ≡ chainRule asc dec day1 day2 ⌝ }
+pub fn chain(edition: Edition, asc: Rad, dec: Rad, day1: f64, day2: f64) -> Two
+    ensures { λ r. ⌜ shownTwo r ≡ chainRule edition asc dec day1 day2 ⌝ }
 {
     let no = precess::place_refusal(asc, dec, day1, day2);
     if no != 0 {
         return Two::Refused(no);
     }
-    reduced_in(asc, dec, night_of(day1, day2))
+    reduced_in(asc, dec, night_of(edition, day1, day2))
 }

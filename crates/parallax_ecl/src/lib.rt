@@ -2,7 +2,8 @@
 // Rules: specs/rules, in reading order in specs/rules.antt.
 ghost use mathlib.Core.Path.{_≡_};
 ghost use Rattle.quantity.specs.rules.Answer.{shownRadians, shownThree};
-ghost use Rattle.parallax_ecl.specs.rules.Ecliptic.{nearby, longTop, latTop, semidiameterIn, eclipticFrom, eclipticAlong, eclipticAt, eclipticIn, topopcentRefusal, topopcentEclCoordsRule};
+ghost use Rattle.parallax_ecl.specs.rules.Ecliptic.{nearby, longTop, upward, latOfCrate, latPublished, latTop, semidiameterIn, eclipticFrom, eclipticAlong, eclipticAt, eclipticIn, topopcentRefusal, topopcentEclCoordsRule};
+use edition::Edition;
 use elementary::Folded;
 use helpers::angle;
 use helpers::earth::Earth;
@@ -34,15 +35,38 @@ fn long_top(c: Centre, l: Folded, b: Folded, s: Folded, e: Folded, n: f64) -> Ra
     )
 }
 
-// The topocentric latitude, from the cosine of the longitude.
-fn lat_top(c: Centre, b: Folded, s: Folded, e: Folded, cos_long: f64, n: f64) -> Radians
-    ensures { λ r. ⌜ shownRadians r ≡ latTop c b s e «cos_long» n ⌝ }
+// What the latitude's arctangent goes by.
+fn upward(c: Centre, b: Folded, s: Folded, e: Folded) -> f64
+    ensures { λ r. ⌜ r ≡ upward c b s e ⌝ }
 {
-    elementary_arc::arctangent_in(
-        cos_long
-            * (b.sine() - c.parallax * (c.rho_sin * e.cosine() - c.rho_cos * e.sine() * s.sine())),
-        n,
-    )
+    b.sine() - c.parallax * (c.rho_sin * e.cosine() - c.rho_cos * e.sine() * s.sine())
+}
+
+// The crate's topocentric latitude, from the cosine of the longitude: beyond the pole where N is below zero.
+fn lat_of_crate(up: f64, cos_long: f64, n: f64) -> Radians
+    ensures { λ r. ⌜ shownRadians r ≡ latOfCrate up «cos_long» n ⌝ }
+{
+    elementary_arc::arctangent_in(cos_long * up, n)
+}
+
+// Meeus's. Refusals: 6 where the cosine is zero.
+fn lat_published(up: f64, cos_long: f64, n: f64) -> Radians
+    ensures { λ r. ⌜ shownRadians r ≡ latPublished up «cos_long» n ⌝ }
+{
+    if cos_long == 0.0 {
+        return Radians::Refused(6);
+    }
+    elementary_arc::arctangent_in(up, n / cos_long)
+}
+
+// The topocentric latitude. Refusals: 6.
+fn lat_top(edition: Edition, up: f64, cos_long: f64, n: f64) -> Radians
+    ensures { λ r. ⌜ shownRadians r ≡ latTop edition up «cos_long» n ⌝ }
+{
+    match edition {
+        Edition::Crate => lat_of_crate(up, cos_long, n),
+        Edition::Published => lat_published(up, cos_long, n),
+    }
 }
 
 // The topocentric semidiameter. Refusals: 7.
@@ -64,41 +88,43 @@ fn ecliptic_from(long: Rad, cos_long: f64, lat: Rad, semidiameter: Rad, n: f64) 
     }
 }
 
-// All three, from the longitude. Refusals: 7.
-fn ecliptic_along(
-    c: Centre,
-    b: Folded,
-    s: Folded,
-    e: Folded,
-    long: Rad,
-    semidiameter: Rad,
-    n: f64,
-) -> Three
-    ensures { λ r. ⌜ shownThree r ≡ eclipticAlong c b s e long semidiameter n ⌝ }
+// All three, from the longitude. Refusals: 6; 7.
+fn ecliptic_along(edition: Edition, up: f64, long: Rad, semidiameter: Rad, n: f64) -> Three
+    ensures { λ r. ⌜ shownThree r ≡ eclipticAlong edition up long semidiameter n ⌝ }
 {
     let cos_long = elementary::fold(long).cosine();
-    match lat_top(c, b, s, e, cos_long, n) {
+    match lat_top(edition, up, cos_long, n) {
         Radians::Are(lat) => ecliptic_from(long, cos_long, lat, semidiameter, n),
         Radians::Refused(k) => Three::Refused(k),
     }
 }
 
-// All three, from the longitude l, the latitude b, the sidereal time s and the obliquity e. Refusals: 6 where N is zero; 7.
-fn ecliptic_at(c: Centre, l: Folded, b: Folded, s: Folded, e: Folded, semidiameter: Rad) -> Three
-    ensures { λ r. ⌜ shownThree r ≡ eclipticAt c l b s e semidiameter ⌝ }
+// All three, from the longitude l, the latitude b, the sidereal time s and the obliquity e.
+// Refusals: 6 where N is zero; 6 where the longitude's cosine is, in the published edition; 7.
+fn ecliptic_at(
+    edition: Edition,
+    c: Centre,
+    l: Folded,
+    b: Folded,
+    s: Folded,
+    e: Folded,
+    semidiameter: Rad,
+) -> Three
+    ensures { λ r. ⌜ shownThree r ≡ eclipticAt edition c l b s e semidiameter ⌝ }
 {
     let n = nearby(c, l, b, s);
     if n == 0.0 {
         return Three::Refused(6);
     }
     match long_top(c, l, b, s, e, n) {
-        Radians::Are(long) => ecliptic_along(c, b, s, e, long, semidiameter, n),
+        Radians::Are(long) => ecliptic_along(edition, upward(c, b, s, e), long, semidiameter, n),
         Radians::Refused(k) => Three::Refused(k),
     }
 }
 
 // All three, of arguments that are not refused. Refusals: 6; 7.
 fn ecliptic_in(
+    edition: Edition,
     p: EclPoint,
     parallax: Rad,
     place: GeographPoint,
@@ -107,10 +133,11 @@ fn ecliptic_in(
     oblq: Rad,
     semidiameter: Rad,
 ) -> Three
-    ensures { λ r. ⌜ shownThree r ≡ eclipticIn p parallax place height sidereal oblq semidiameter ⌝ }
+    ensures { λ r. ⌜ shownThree r ≡ eclipticIn edition p parallax place height sidereal oblq semidiameter ⌝ }
 {
     match Earth::rho_in(Rad(place.lat), height) {
         Two::Are(s, c) => ecliptic_at(
+            edition,
             parallax::centre_of(s, c, parallax),
             elementary::fold(Rad(p.long)),
             elementary::fold(Rad(p.lat)),
@@ -151,8 +178,10 @@ fn topopcent_refusal(
 
 // The topocentric ecliptic longitude, latitude and semidiameter of a body. Given: its ecliptic point, its equatorial horizontal
 // parallax, the observer's place and height, the local sidereal time, the obliquity and the geocentric semidiameter.
-// Refusals: 1; 3; 4 past 1.57 for the observer's latitude; 5; then 6 where N is zero; 7.
+// Refusals: 1; 3; 4 past 1.57 for the observer's latitude; 5; then 6 where N is zero; in the published edition 6 also where the
+// topocentric longitude's cosine is zero; 7.
 pub fn topopcent_ecl_coords(
+    edition: Edition,
     ecl_point: EclPoint,
     eq_hz_parllx: Rad,
     geograph_point: GeographPoint,
@@ -161,7 +190,7 @@ pub fn topopcent_ecl_coords(
     eclip_oblq: Rad,
     geocent_semdia: Rad,
 ) -> Three
-    ensures { λ r. ⌜ shownThree r ≡ topopcentEclCoordsRule «ecl_point» «eq_hz_parllx» «geograph_point» «observer_ht» «loc_sidr» «eclip_oblq» «geocent_semdia» ⌝ }
+    ensures { λ r. ⌜ shownThree r ≡ topopcentEclCoordsRule edition «ecl_point» «eq_hz_parllx» «geograph_point» «observer_ht» «loc_sidr» «eclip_oblq» «geocent_semdia» ⌝ }
 {
     let no = topopcent_refusal(
         ecl_point,
@@ -176,6 +205,7 @@ pub fn topopcent_ecl_coords(
         return Three::Refused(no);
     }
     ecliptic_in(
+        edition,
         ecl_point,
         eq_hz_parllx,
         geograph_point,

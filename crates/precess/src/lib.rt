@@ -1,4 +1,4 @@
-// Precession (section 4), with the crate's grouping and the crate's signs. Angles are in radians.
+// Precession (section 4), with the crate's grouping; its signs, or Meeus's, as the edition says. Angles are in radians.
 // Precession of the ecliptic, its places and orbits, stands in precess_ecl.
 // Rules: specs/rules, in reading order in specs/rules.antt.
 ghost use mathlib.Core.Path.{_≡_};
@@ -6,7 +6,8 @@ ghost use Rattle.quantity.specs.rules.Answer.{shownTwo};
 ghost use Rattle.precess.specs.rules.Days.{spanOf, daysRefusal, placeRefusal};
 ghost use Rattle.precess.specs.rules.Annual.{annualM, annualN, annualAt, annualIn, annualRefusal, annualPrecessRule};
 ghost use Rattle.precess.specs.rules.Equatorial.{eqXi, eqZeta, eqTheta, turnsOf, eqTurnsOf, placed, turnedIn, precessEqCoordsRule};
-ghost use Rattle.precess.specs.rules.Fk4.{fk4Century, fk4Span, fk4Xi, fk4Zeta, fk4Theta, degreesAsRadians, fk4TurnsOf, precessEqCoordsFK5Rule};
+ghost use Rattle.precess.specs.rules.Fk4.{fk4Century, fk4Span, fk4Xi, fk4Zeta, fk4Theta, degreesAsRadians, fk4Angle, fk4TurnsOf, precessEqCoordsFK5Rule};
+use edition::Edition;
 use elementary::Direction;
 use elementary::Folded;
 use helpers::angle;
@@ -102,7 +103,7 @@ pub fn annual_precess(asc: Rad, dec: Rad, day: f64) -> Two
     annual_in(asc, dec, day)
 }
 
-// ---- equatorial coordinates (Meeus 21.2 to 21.4, with the crate's signs)
+// ---- equatorial coordinates (Meeus 21.2 to 21.4; the crate's edition has two signs otherwise)
 
 // What two days fix of equatorial precession: two angles, and the sine and cosine of the third.
 pub struct EqTurns {
@@ -121,21 +122,27 @@ fn eq_xi(c: f64, t: f64) -> Deg
 }
 
 // The second angle.
-fn eq_zeta(c: f64, t: f64) -> Deg
-    ensures { λ r. ⌜ r ≡ eqZeta c t ⌝ }
+fn eq_zeta(edition: Edition, c: f64, t: f64) -> Deg
+    ensures { λ r. ⌜ r ≡ eqZeta edition c t ⌝ }
 {
-    let x = t * (2306.2181 / 3600.0 + c * (1.39656 / 3600.0 - c * (0.000139 / 3600.0)));
-    Deg(x + t * t * ((1.09468 / 3600.0 - c * (0.000066 / 3600.0)) + t * (0.018203 / 3600.0)))
+    let x = 1.09468 / 3600.0;
+    let y = c * (0.000066 / 3600.0);
+    let z = edition::chosen(edition, x - y, x + y);
+    Deg(
+        t * (2306.2181 / 3600.0 + c * (1.39656 / 3600.0 - c * (0.000139 / 3600.0)))
+            + t * t * (z + t * (0.018203 / 3600.0)),
+    )
 }
 
 // The third angle.
-fn eq_theta(c: f64, t: f64) -> Deg
-    ensures { λ r. ⌜ r ≡ eqTheta c t ⌝ }
+fn eq_theta(edition: Edition, c: f64, t: f64) -> Deg
+    ensures { λ r. ⌜ r ≡ eqTheta edition c t ⌝ }
 {
+    let x = edition::chosen(edition, 0.8533 / 3600.0, -(0.8533 / 3600.0));
     let y = c * (0.000217 / 3600.0);
     Deg(
         t
-            * (2004.3109 / 3600.0 + c * (0.8533 / 3600.0 - y)
+            * (2004.3109 / 3600.0 + c * (x - y)
                 - t * ((0.42665 / 3600.0 + y) + t * (0.041833 / 3600.0))),
     )
 }
@@ -154,15 +161,15 @@ fn turns_of(xi: Rad, zeta: Rad, theta: Rad) -> EqTurns
 }
 
 // The turns from the first day to the second.
-pub fn eq_turns(day1: f64, day2: f64) -> EqTurns
-    ensures { λ r. ⌜ r ≡ eqTurnsOf day1 day2 ⌝ }
+pub fn eq_turns(edition: Edition, day1: f64, day2: f64) -> EqTurns
+    ensures { λ r. ⌜ r ≡ eqTurnsOf edition day1 day2 ⌝ }
 {
     let c = time::century(day1);
     let t = span(day1, day2);
     turns_of(
         angle::radians(eq_xi(c, t)),
-        angle::radians(eq_zeta(c, t)),
-        angle::radians(eq_theta(c, t)),
+        angle::radians(eq_zeta(edition, c, t)),
+        angle::radians(eq_theta(edition, c, t)),
     )
 }
 
@@ -195,14 +202,14 @@ pub fn turned_in(asc: Rad, dec: Rad, turns: EqTurns) -> Two
 }
 
 // Equatorial coordinates reduced from the first day to the second. Refusals: 1; 2; 3; then 7.
-pub fn precess_eq_coords(old_asc: Rad, old_dec: Rad, day1: f64, day2: f64) -> Two
-    ensures { λ r. ⌜ shownTwo r ≡ precessEqCoordsRule «old_asc» «old_dec» day1 day2 ⌝ }
+pub fn precess_eq_coords(edition: Edition, old_asc: Rad, old_dec: Rad, day1: f64, day2: f64) -> Two
+    ensures { λ r. ⌜ shownTwo r ≡ precessEqCoordsRule edition «old_asc» «old_dec» day1 day2 ⌝ }
 {
     let no = place_refusal(old_asc, old_dec, day1, day2);
     if no != 0 {
         return Two::Refused(no);
     }
-    turned_in(old_asc, old_dec, eq_turns(day1, day2))
+    turned_in(old_asc, old_dec, eq_turns(edition, day1, day2))
 }
 
 // ---- equatorial coordinates of the FK4 system
@@ -254,27 +261,43 @@ fn degrees_as_radians(x: Deg) -> Rad
     Rad(x.0)
 }
 
+// Each of the three angles: taken for radians, or converted.
+fn fk4_angle(edition: Edition, x: Deg) -> Rad
+    ensures { λ r. ⌜ r ≡ fk4Angle edition x ⌝ }
+{
+    match edition {
+        Edition::Crate => degrees_as_radians(x),
+        Edition::Published => angle::radians(x),
+    }
+}
+
 // The turns from the first day to the second.
-fn fk4_turns(day1: f64, day2: f64) -> EqTurns
-    ensures { λ r. ⌜ r ≡ fk4TurnsOf day1 day2 ⌝ }
+fn fk4_turns(edition: Edition, day1: f64, day2: f64) -> EqTurns
+    ensures { λ r. ⌜ r ≡ fk4TurnsOf edition day1 day2 ⌝ }
 {
     let c = fk4_century(day1);
     let t = fk4_span(day1, day2);
     let xi = fk4_xi(c, t);
     turns_of(
-        degrees_as_radians(xi),
-        degrees_as_radians(fk4_zeta(xi, t)),
-        degrees_as_radians(fk4_theta(c, t)),
+        fk4_angle(edition, xi),
+        fk4_angle(edition, fk4_zeta(xi, t)),
+        fk4_angle(edition, fk4_theta(c, t)),
     )
 }
 
 // Equatorial coordinates of the FK4 system reduced from the first day to the second. Refusals: 1; 2; 3; then 7.
-pub fn precess_eq_coords_FK5(old_asc: Rad, old_dec: Rad, day1: f64, day2: f64) -> Two
-    ensures { λ r. ⌜ shownTwo r ≡ precessEqCoordsFK5Rule «old_asc» «old_dec» day1 day2 ⌝ }
+pub fn precess_eq_coords_FK5(
+    edition: Edition,
+    old_asc: Rad,
+    old_dec: Rad,
+    day1: f64,
+    day2: f64,
+) -> Two
+    ensures { λ r. ⌜ shownTwo r ≡ precessEqCoordsFK5Rule edition «old_asc» «old_dec» day1 day2 ⌝ }
 {
     let no = place_refusal(old_asc, old_dec, day1, day2);
     if no != 0 {
         return Two::Refused(no);
     }
-    turned_in(old_asc, old_dec, fk4_turns(day1, day2))
+    turned_in(old_asc, old_dec, fk4_turns(edition, day1, day2))
 }

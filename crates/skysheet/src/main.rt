@@ -1,6 +1,7 @@
 // The sky sheet by program: section 10's cases that are not theorems, and the worked examples of Meeus. A line for each case, in the
 // order of the file `figures`: the 16 hexadecimal digits of each number of the answer, or `refused` and the number. `tools/skysheet` reads
 // the lines, prints them with their names beside the published figures, and holds them to those.
+use edition::Edition;
 use helpers::angle;
 use helpers::earth::Earth;
 use helpers::time;
@@ -122,7 +123,12 @@ fn horizon_and_galaxy() {
         deg(38.92138888888889),
     ));
     radians(coords::hr_angl_frm_hz(deg(68.0337), deg(15.1249), deg(38.92138888888889)));
-    radians(coords::dec_frm_hz(deg(68.0337), deg(15.1249), deg(38.92138888888889)));
+    radians(coords::dec_frm_hz(
+        Edition::Crate,
+        deg(68.0337),
+        deg(15.1249),
+        deg(38.92138888888889),
+    ));
     radians(coords_gal::gal_long_frm_eq(deg(267.2489166666667), deg(-14.718944444444444)));
     radians(coords_gal::gal_lat_frm_eq(deg(267.2489166666667), deg(-14.718944444444444)));
 }
@@ -132,11 +138,17 @@ fn polaris(day: f64) {
     let years = (day - J2000) / 365.25;
     let asc = deg((9108.704 + 0.19877 * years) / 240.0);
     let dec = deg((321350.72 - 0.0152 * years) / 3600.0);
-    two(precess::precess_eq_coords(asc, dec, J2000, day));
+    two(precess::precess_eq_coords(Edition::Crate, asc, dec, J2000, day));
 }
 
 fn precessions() {
-    two(precess::precess_eq_coords(deg(41.054063), deg(49.22775), J2000, 2462088.69));
+    two(precess::precess_eq_coords(
+        Edition::Crate,
+        deg(41.054063),
+        deg(49.22775),
+        J2000,
+        2462088.69,
+    ));
     polaris(2415020.3135);
     polaris(2469807.5);
     polaris(2488070.0);
@@ -177,22 +189,10 @@ fn reductions() {
     radians(aberr::sol_aberr(0.99766));
 }
 
-fn parallaxes() {
-    radians(parallax::eq_hz_parallax(0.37276));
-    point(parallax::topocent_eq_coords(
-        EqPoint {
-            asc: deg(339.530208).0,
-            dec: deg(-15.771083).0,
-        },
-        deg(23.592 / 3600.0),
-        GeographPoint {
-            long: deg(116.8625).0,
-            lat: deg(33.35611111111111).0,
-        },
-        1706.0,
-        deg(25.1875),
-    ));
+// The exercise of chapter 40.
+fn exercise(edition: Edition) {
     three(parallax_ecl::topopcent_ecl_coords(
+        edition,
         EclPoint {
             long: deg(181.77291666666667).0,
             lat: deg(2.2906111111111113).0,
@@ -209,6 +209,54 @@ fn parallaxes() {
     ));
 }
 
+fn parallaxes() {
+    radians(parallax::eq_hz_parallax(0.37276));
+    point(parallax::topocent_eq_coords(
+        EqPoint {
+            asc: deg(339.530208).0,
+            dec: deg(-15.771083).0,
+        },
+        deg(23.592 / 3600.0),
+        GeographPoint {
+            long: deg(116.8625).0,
+            lat: deg(33.35611111111111).0,
+        },
+        1706.0,
+        deg(25.1875),
+    ));
+    exercise(Edition::Crate);
+}
+
+// Example 13.b back from the azimuth and altitude that it gives, unrounded.
+fn venus_back(edition: Edition) {
+    let hour = deg(64.352133);
+    let dec = deg(-6.719891666666667);
+    let lat = deg(38.92138888888889);
+    match coords::az_frm_eq(hour, dec, lat) {
+        Radians::Are(az) => match coords::alt_frm_eq(hour, dec, lat) {
+            Radians::Are(alt) => {
+                radians(coords::dec_frm_hz(edition, az, alt, lat));
+            }
+            Radians::Refused(n) => refusal(n),
+        },
+        Radians::Refused(n) => refusal(n),
+    }
+}
+
+// Example 21.b back: from its second day, which is not J2000, to its first.
+fn persei_back(edition: Edition) {
+    two(precess::precess_eq_coords(edition, deg(41.547214), deg(49.348483), 2462088.69, J2000));
+}
+
+// What the editions have otherwise, in either.
+fn editions() {
+    venus_back(Edition::Crate);
+    venus_back(Edition::Published);
+    persei_back(Edition::Crate);
+    persei_back(Edition::Published);
+    exercise(Edition::Published);
+}
+
 fn main() {
     limits();
     earth_and_ecliptic();
@@ -216,4 +264,5 @@ fn main() {
     precessions();
     reductions();
     parallaxes();
+    editions();
 }

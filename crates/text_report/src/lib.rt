@@ -1,4 +1,4 @@
-// The text that `reduce` prints: a reduced list, star by star, and its tally.
+// The text that `reduce` prints: its edition where that is the published one, a reduced list, star by star, and its tally.
 // Rules: specs/rules, in reading order in specs/rules.antt.
 ghost use mathlib.Core.Path.{_≡_};
 ghost use lib.ListN.{getD};
@@ -6,13 +6,14 @@ ghost use Prim.Native.Nat.{_+_};
 ghost use Rattle.lent.specs.rules.Writing.{Wrote};
 ghost use Rattle.list.specs.rules.Stars.{countOf};
 ghost use Rattle.list_tally.specs.rules.Status.{highestStatus};
-ghost use Rattle.text_report.specs.rules.Report.{texts, angleAt, lentLine, countText, countAt, tallyText, doneText, reportOf};
+ghost use Rattle.text_report.specs.rules.Report.{texts, angleAt, lentLine, countText, countAt, tallyText, editionText, doneText, reportOf};
 use batch::Batched;
+use edition::Edition;
 use list_tally::Tally;
 use quantity::Rad;
 
-// Bytes of the longest report, at most: a hundred a star, and those of a tally of twenty counts.
-pub const ROOM: usize = 426 + 100 * list::MOST_STARS;
+// Bytes of the longest report, at most: a hundred a star, those of a tally of twenty counts, and the edition's line.
+pub const ROOM: usize = 444 + 100 * list::MOST_STARS;
 
 // How many statuses are known.
 const KNOWN: usize = list_tally::HIGHEST_STATUS as usize + 1;
@@ -115,32 +116,44 @@ fn put_tally(out: &mut [u8], at: usize, tally: Tally) -> usize
     lent::put_byte(out, b, b'\n')
 }
 
-// What a call of the batch answered and left: its lines and its tally, or its refusal alone.
+// The edition in a line, where it is the published one.
+fn put_edition(out: &mut [u8], edition: Edition) -> usize
+    ensures { λ r. ⌜ Wrote (now (out .entry)) 0 (editionText edition) (now (out .exit)) r ⌝ }
+{
+    match edition {
+        Edition::Crate => 0,
+        Edition::Published => lent::put(out, 0, b"edition published\n"),
+    }
+}
+
+// What a call of the batch answered and left: its edition, its lines and its tally, or its refusal alone.
 fn put_done<'a>(
     out: &mut [u8],
+    edition: Edition,
     bytes: &'a [u8],
     status: &'a [u8],
     asc: &'a [f64],
     dec: &'a [f64],
     done: Batched,
 ) -> usize
-    ensures { λ r. ⌜ Wrote (now (out .entry)) 0 (doneText (now (bytes .entry)) (now (status .entry)) (now (asc .entry)) (now (dec .entry)) done) (now (out .exit)) r ⌝ }
+    ensures { λ r. ⌜ Wrote (now (out .entry)) 0 (doneText edition (now (bytes .entry)) (now (status .entry)) (now (asc .entry)) (now (dec .entry)) done) (now (out .exit)) r ⌝ }
 {
     if done.refusal != 0 {
         return text_number::put_refused(out, 0, done.refusal);
     }
     let tally = done.tally;
-    let a = put_lines(out, 0, bytes, status, asc, dec);
-    put_tally(out, a, tally)
+    let a = put_edition(out, edition);
+    let b = put_lines(out, a, bytes, status, asc, dec);
+    put_tally(out, b, tally)
 }
 
 // The list reduced from the first day to the second, as text from the slice's start on; and the place after it.
-pub fn put_report(out: &mut [u8], bytes: &[u8], day1: f64, day2: f64) -> usize
-    ensures { λ r. ⌜ Wrote (now (out .entry)) 0 (reportOf (now (bytes .entry)) day1 day2) (now (out .exit)) r ⌝ }
+pub fn put_report(out: &mut [u8], edition: Edition, bytes: &[u8], day1: f64, day2: f64) -> usize
+    ensures { λ r. ⌜ Wrote (now (out .entry)) 0 (reportOf edition (now (bytes .entry)) day1 day2) (now (out .exit)) r ⌝ }
 {
     let mut status = [0u8; list::MOST_STARS];
     let mut asc = [0.0; list::MOST_STARS];
     let mut dec = [0.0; list::MOST_STARS];
-    let done = batch::batch(bytes, day1, day2, &mut status, &mut asc, &mut dec);
-    put_done(out, bytes, &status, &asc, &dec, done)
+    let done = batch::batch(edition, bytes, day1, day2, &mut status, &mut asc, &mut dec);
+    put_done(out, edition, bytes, &status, &asc, &dec, done)
 }

@@ -3,34 +3,51 @@
 use borrow.Author.Needs.{needs}
 use borrow.Author.Tests.{eq-eqb, ne-eqb}
 use mathlib.Core.Path.{_≡_, sym, ap, _∙_}
-use mathlib.Core.List.{map}
-use Prim.Native.Nat.{_-_, _≤_, _<_}
+use mathlib.Core.List.{List, _++_, map}
+use Prim.Native.Nat.{ℕ, _-_, _≤_, _<_}
 use native.Mathlib.Omega.{arith}
-use lib.ListN.{length, take}
+use lib.ListN.{length, take, drop}
 use Rattle.double.specs.laws.Calls.{asks-nothing}
 use Rattle.quantity.specs.rules.Answer.{Answer, Pair, shownTwo, statusOf}
 use Rattle.lent.specs.notions.Rows.{Row}
 use Rattle.lent.specs.laws.Rows.{start, store, finish}
+use Rattle.chain.specs.declared.Night.{Night}
 use Rattle.list.specs.declared.Star.{Star}
-use Rattle.list.specs.rules.Stars.{mostStars, countOf, nth}
+use Rattle.list.specs.rules.Stars.{mostStars, countOf, stars, nth}
 use Rattle.list.specs.laws.Stars.{few}
+use Rattle.list_tally.specs.rules.Status.{highestStatus}
 use Rattle.list_tally.specs.rules.Tally.{tallyOf}
-use Rattle.batch.specs.rules.Star.{starRule, reduceStar, firstOf, secondOf}
-use Rattle.batch.specs.rules.Batch.{answersOf, statusesOf}
-use Rattle.batch.specs.laws.Star.{star-under-a-night}
+use Rattle.batch.specs.rules.Star.{reduceStar, firstOf, secondOf}
+use Rattle.batch.specs.rules.Batch.{answersOf}
+use Rattle.batch.specs.laws.Known.{known-under}
+use Rattle.batch.specs.laws.Star.{answers-under-a-night}
 use Rattle.batch.specs.notions.Accepted.{Accepted}
 use Rattle.batch.specs.laws.Batch.{accepted, how-many, value, raised-at, raised-all}
 use Rattle.batch.proofs.batch.Statement.{statement}
 use Rattle.batch.proofs.batch.Tie as tie
 
+-- what the stars are answered under the night
+abbrev under : Night → Star → Answer Pair
+under night star = reduceStar star night
+
+abbrev answers : Night → List ℕ → List (Answer Pair)
+answers night s = map (under night) (stars s)
+
+abbrev statuses : Night → List ℕ → List ℕ
+statuses night s = map statusOf (answers night s)
+
+-- their values over a slice's front
+abbrev laid : {A : Type 0} → (Answer Pair → A) → List A → List (Answer Pair) → List A
+laid f old l = map f l ++ drop (length (map f l)) old
+
 abbrev Inv-loop : tie.InvT-loop
 Inv-loop bytes day1 day2 status₀ asc₀ dec₀ why tally₀ night n i₀ status asc dec tally i =
     (i ≤ n)
     × ((n ≡ countOf bytes)
-    × ((tally ≡ tallyOf (take i (statusesOf bytes day1 day2)))
-    × (Row (statusesOf bytes day1 day2) status₀ status n i
-    × (Row (map firstOf (answersOf bytes day1 day2)) asc₀ asc n i
-    × Row (map secondOf (answersOf bytes day1 day2)) dec₀ dec n i))))
+    × ((tally ≡ tallyOf (take i (statuses night bytes)))
+    × (Row (statuses night bytes) status₀ status n i
+    × (Row (map firstOf (answers night bytes)) asc₀ asc n i
+    × Row (map secondOf (answers night bytes)) dec₀ dec n i))))
 
 abbrev μ-loop : tie.MeasureT-loop
 μ-loop bytes day1 day2 status₀ asc₀ dec₀ why tally₀ night n i₀ status asc dec tally i = n - i
@@ -54,9 +71,22 @@ module _ (c : tie.After-count Inv-loop μ-loop) where
   allowed : Accepted (begin .args .bytes .now) (begin .args .day1) (begin .args .day2) (length (begin .args .status .now)) (length (begin .args .asc .now)) (length (begin .args .dec .now))
   allowed = accepted _ _ _ _ _ _ (sym (c .before .before .before .before .batch-refusal .ensures) ∙ c .before .before .if1 .left)
 
+  abbrev night : Night
+  night = c .before .night-of .result
+
   -- a value for each star
-  all : {A : Type 0} (f : Answer Pair → A) → length (map f (answersOf (begin .args .bytes .now) (begin .args .day1) (begin .args .day2))) ≡ c .count .result
-  all f = how-many f (begin .args .bytes .now) (begin .args .day1) (begin .args .day2) ∙ sym (c .count .ensures)
+  all : {A : Type 0} (f : Answer Pair → A) → length (map f (answers night (begin .args .bytes .now))) ≡ c .count .result
+  all f = how-many f (under night) (begin .args .bytes .now) ∙ sym (c .count .ensures)
+
+  -- each status is one that the tally knows
+  known : (star : Star) → statusOf (reduceStar star night) ≤ highestStatus
+  known star = rw (c .before .night-of .ensures) (known-under (begin .args .edition) star (begin .args .day1) (begin .args .day2))
+
+  -- what the night answers is what the batch promises
+  promised : answers night (begin .args .bytes .now) ≡ answersOf (begin .args .edition) (begin .args .bytes .now) (begin .args .day1) (begin .args .day2)
+  promised =
+      ap (λ (n : Night). answers n (begin .args .bytes .now)) (c .before .night-of .ensures)
+      ∙ answers-under-a-night (begin .args .edition) _ _ _ (allowed .days)
 
 loop-holds : tie.Need-loop-holds Inv-loop μ-loop
 loop-holds c =
@@ -90,13 +120,9 @@ loop-less : tie.Need-loop-less Inv-loop μ-loop
 loop-less c = search needs
 
 -- what a star was answered
-star-answer : (c : tie.After-reduce-star Inv-loop μ-loop) → shownTwo (c .reduce-star .result) ≡ starRule (nth (begin (c .before .before .before .before) .args .bytes .now) (c .before .before .before .loop .i)) (begin (c .before .before .before .before) .args .day1) (begin (c .before .before .before .before) .args .day2)
-star-answer c =
-    let at-night = c .before .before .before .before .before in
-    c .reduce-star .ensures
-    ∙ ap (λ (star : Star). reduceStar star (at-night .night-of .result)) (c .before .nth .ensures)
-    ∙ ap (reduceStar _) (at-night .night-of .ensures)
-    ∙ star-under-a-night _ _ _ (allowed (c .before .before .before .before) .days)
+star-answer : (c : tie.After-reduce-star Inv-loop μ-loop)
+    → shownTwo (c .reduce-star .result) ≡ reduceStar (nth (begin (c .before .before .before .before) .args .bytes .now) (c .before .before .before .loop .i)) (night (c .before .before .before .before))
+star-answer c = c .reduce-star .ensures ∙ ap (under (night (c .before .before .before .before))) (c .before .nth .ensures)
 
 loop-again : tie.Need-loop-again Inv-loop μ-loop
 loop-again c =
@@ -107,8 +133,7 @@ loop-again c =
     let turn = at-star .before .before in
     let counted = turn .before .before in
     let s = begin counted .args .bytes .now in
-    let day1 = begin counted .args .day1 in
-    let day2 = begin counted .args .day2 in
+    let by = under (night counted) in
     let i = turn .before .loop .i in
     let inv = turn .before .loop .inv .1 in
     let a = star-answer at-star in
@@ -117,12 +142,12 @@ loop-again c =
       (
         inv .0,
         (
-          raised-at s day1 day2 (allowed counted .days) (allowed counted .list) i (rw (inv .0) at (turn .loop-test .taken)) _ _ _ (inv .1 .0) status (c .before .raise .ensures),
+          raised-at by (known counted) s (allowed counted .list) i (rw (inv .0) at (turn .loop-test .taken)) _ _ _ (inv .1 .0) status (c .before .raise .ensures),
           (
-            store _ _ _ (all counted statusOf) _ i _ _ (turn .loop-test .taken) (inv .1 .1 .0) (status ∙ value statusOf s day1 day2 i),
+            store _ _ _ (all counted statusOf) _ i _ _ (turn .loop-test .taken) (inv .1 .1 .0) (status ∙ value statusOf by s i),
             (
-              store _ _ _ (all counted firstOf) _ i _ _ (turn .loop-test .taken) (inv .1 .1 .1 .0) (at-first .first-of .ensures ∙ ap firstOf a ∙ value firstOf s day1 day2 i),
-              store _ _ _ (all counted secondOf) _ i _ _ (turn .loop-test .taken) (inv .1 .1 .1 .1) (at-second .second-of .ensures ∙ ap secondOf a ∙ value secondOf s day1 day2 i),
+              store _ _ _ (all counted firstOf) _ i _ _ (turn .loop-test .taken) (inv .1 .1 .1 .0) (at-first .first-of .ensures ∙ ap firstOf a ∙ value firstOf by s i),
+              store _ _ _ (all counted secondOf) _ i _ _ (turn .loop-test .taken) (inv .1 .1 .1 .1) (at-second .second-of .ensures ∙ ap secondOf a ∙ value secondOf by s i),
             ),
           ),
         ),
@@ -142,17 +167,17 @@ returns-2 : tie.Need-returns-2 Inv-loop μ-loop
 returns-2 c =
     let counted = c .before .before in
     let s = begin counted .args .bytes .now in
-    let day1 = begin counted .args .day1 in
-    let day2 = begin counted .args .day2 in
     let none = sym (counted .before .before .before .before .batch-refusal .ensures) ∙ counted .before .before .if1 .left in
     let goes = eq-eqb _ 0 none in
     let inv = c .before .loop .inv in
     let end : c .before .loop .i ≡ counted .count .result = omega (arith, inv .0, c .loop-test .left) in
+    let every = raised-all (under (night counted)) (known counted) s _ (end ∙ counted .count .ensures) in
+    let p = promised counted in
     record {
-      answer = simp goes (λ j. record { refusal = sym none j; tally = (inv .1 .1 .0 ∙ ap tallyOf (raised-all s day1 day2 _ (end ∙ counted .count .ensures))) j });
-      statuses = simp goes (finish _ _ _ (all counted statusOf) _ _ end (inv .1 .1 .1 .0));
-      ascs = simp goes (finish _ _ _ (all counted firstOf) _ _ end (inv .1 .1 .1 .1 .0));
-      decs = simp goes (finish _ _ _ (all counted secondOf) _ _ end (inv .1 .1 .1 .1 .1));
+      answer = simp goes (λ j. record { refusal = sym none j; tally = (inv .1 .1 .0 ∙ ap tallyOf (every ∙ ap (map statusOf) p)) j });
+      statuses = simp goes (finish _ _ _ (all counted statusOf) _ _ end (inv .1 .1 .1 .0) ∙ ap (laid statusOf _) p);
+      ascs = simp goes (finish _ _ _ (all counted firstOf) _ _ end (inv .1 .1 .1 .1 .0) ∙ ap (laid firstOf _) p);
+      decs = simp goes (finish _ _ _ (all counted secondOf) _ _ end (inv .1 .1 .1 .1 .1) ∙ ap (laid secondOf _) p);
     }
 
 pub batch-spec : {M : Type 1} → statement M

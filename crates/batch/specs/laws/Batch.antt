@@ -12,6 +12,7 @@ use lib.Seq.{length-take-le, take-suc, take-length, take-at}
 use borrow.Author.Tests.{leb-true, eq-eqb, eqb-true, eqb-false}
 use Rattle.double.specs.rules.Operations.{zero as zero64}
 use Rattle.quantity.specs.rules.Answer.{Answer, Pair, statusOf}
+use Rattle.edition.specs.declared.Edition.{Edition}
 use Rattle.precess.specs.rules.Days.{daysRefusal}
 use Rattle.lent.specs.laws.Flags.{both-hold}
 use Rattle.lent.specs.laws.Upto.{getD-upto}
@@ -54,64 +55,65 @@ any-default [] i d e h = absurd (omega arith)
 any-default (x ∷ l) zero d e h = refl
 any-default (x ∷ l) (suc i) d e h = any-default l i d e (omega arith)
 
-module _ {A : Type 0} (f : Answer Pair → A) (s : List ℕ) (day1 day2 : Float) where
-  pub how-many : length (map f (answersOf s day1 day2)) ≡ countOf s
-  unfolding answersOf
-  how-many = length-map (answersOf s day1 day2) f ∙ length-map (stars s) (λ (star : Star). starRule star day1 day2) ∙ length-stars s
+-- what the stars of a list are answered, by a rule
+module _ {A : Type 0} (f : Answer Pair → A) (answer : Star → Answer Pair) (s : List ℕ) where
+  abbrev values : List A
+  values = map f (map answer (stars s))
 
-  pub value : (i : ℕ) → f (starRule (nth s i) day1 day2) ≡ getD (map f (answersOf s day1 day2)) i (f (starRule nought day1 day2))
-  unfolding answersOf
-  value i =
-      sym
-      (List·getD-map f (answersOf s day1 day2) i (starRule nought day1 day2)
-      ∙ ap f (List·getD-map (λ (star : Star). starRule star day1 day2) (stars s) i nought))
+  pub how-many : length values ≡ countOf s
+  how-many = length-map (map answer (stars s)) f ∙ length-map (stars s) answer ∙ length-stars s
+
+  pub value : (i : ℕ) → f (answer (nth s i)) ≡ getD values i (f (answer nought))
+  value i = sym (List·getD-map f (map answer (stars s)) i (answer nought) ∙ ap f (List·getD-map answer (stars s) i nought))
 
   -- the same at any default, in a slice whose front is the values
-  pub stored : (old : List A) (i : ℕ) (d : A) → i < countOf s
-      → getD (map f (answersOf s day1 day2) ++ drop (length (map f (answersOf s day1 day2))) old) i d ≡ f (starRule (nth s i) day1 day2)
+  pub stored : (old : List A) (i : ℕ) (d : A) → i < countOf s → getD (values ++ drop (length values) old) i d ≡ f (answer (nth s i))
   stored old i d h =
-      let k : i < length (map f (answersOf s day1 day2)) = omega (arith, how-many) in
-      List·getD-append (map f (answersOf s day1 day2)) (drop (length (map f (answersOf s day1 day2))) old) d i k
-      ∙ any-default (map f (answersOf s day1 day2)) i d (f (starRule nought day1 day2)) k
-      ∙ sym (value i)
+      let k : i < length values = omega (arith, how-many) in
+      List·getD-append values (drop (length values) old) d i k ∙ any-default values i d (f (answer nought)) k ∙ sym (value i)
 
 -- ---- the tally
 
-module _ (s : List ℕ) (day1 day2 : Float) (days : daysRefusal day1 day2 ≡ 0) where
-  all-known : AllKnown (statusesOf s day1 day2)
-  unfolding answersOf
+module _ (answer : Star → Answer Pair) (known : (star : Star) → statusOf (answer star) ≤ highestStatus) (s : List ℕ) where
+  abbrev statuses : List ℕ
+  statuses = map statusOf (map answer (stars s))
+
+  all-known : AllKnown statuses
   all-known = each (stars s)
     where
-      each : (l : List Star) → AllKnown (map statusOf (map (λ (star : Star). starRule star day1 day2) l))
+      each : (l : List Star) → AllKnown (map statusOf (map answer l))
       each [] = tt
-      each (star ∷ l) = (status-known star day1 day2 days, each l)
+      each (star ∷ l) = (known star, each l)
 
   -- one turn: star i's status raises the tally of those before it
   pub raised-at : isList s ≡ true → (i : ℕ) → i < countOf s → (t : Tally) (x : ℕ) (r : Raised)
-      → t ≡ tallyOf (take i (statusesOf s day1 day2)) → x ≡ statusOf (starRule (nth s i) day1 day2) → r ≡ raiseRule t x
-      → r .tally ≡ tallyOf (take (i + 1) (statusesOf s day1 day2))
+      → t ≡ tallyOf (take i statuses) → x ≡ statusOf (answer (nth s i)) → r ≡ raiseRule t x
+      → r .tally ≡ tallyOf (take (i + 1) statuses)
   raised-at whole i h t x r before status raised =
-      let all = how-many statusOf s day1 day2 in
-      let known : x ≤ highestStatus = rw status (status-known (nth s i) day1 day2 days) in
+      let all = how-many statusOf answer s in
+      let few-before = length-take-le i statuses (omega arith) in
       ap (λ (q : Raised). q .tally)
-      (raised ∙ ap (λ (q : Tally). raiseRule q x) before ∙ raise-more (take i (statusesOf s day1 day2)) x known (omega (arith, times-most x (take i (statusesOf s day1 day2)), length-take-le i (statusesOf s day1 day2) (omega arith), few s whole)))
+      (raised ∙ ap (λ (q : Tally). raiseRule q x) before
+      ∙ raise-more (take i statuses) x (rw status (known (nth s i))) (omega (arith, times-most x (take i statuses), few-before, few s whole)))
       ∙ ap tallyOf
-      (ap (λ (n : ℕ). take i (statusesOf s day1 day2) ++ (n ∷ [])) (status ∙ value statusOf s day1 day2 i) ∙ sym (rw add-one (take-suc (statusesOf s day1 day2) i (statusOf (starRule nought day1 day2)) (omega arith))))
+      (ap (λ (n : ℕ). take i statuses ++ (n ∷ [])) (status ∙ value statusOf answer s i)
+      ∙ sym (rw add-one (take-suc statuses i (statusOf (answer nought)) (omega arith))))
 
--- after the last turn
-pub raised-all : (s : List ℕ) (day1 day2 : Float) (i : ℕ) → i ≡ countOf s → take i (statusesOf s day1 day2) ≡ statusesOf s day1 day2
-raised-all s day1 day2 i e =
-    ap (λ (n : ℕ). take n (statusesOf s day1 day2)) (e ∙ sym (how-many statusOf s day1 day2))
-    ∙ take-length (statusesOf s day1 day2)
+  -- after the last turn
+  pub raised-all : (i : ℕ) → i ≡ countOf s → take i statuses ≡ statuses
+  raised-all i e = ap (λ (n : ℕ). take n statuses) (e ∙ sym (how-many statusOf answer s)) ∙ take-length statuses
 
 -- ---- what the rule of a call says of its tally, and that it fixes all
 
-module _ {s : List ℕ} {day1 day2 : Float} {status : List ℕ} {asc dec : List Float} {r : Batched} {status′ : List ℕ} {asc′ dec′ : List Float} (b : Batch s day1 day2 status asc dec r status′ asc′ dec′) where
+module _ {edition : Edition} {s : List ℕ} {day1 day2 : Float} {status : List ℕ} {asc dec : List Float} {r : Batched} {status′ : List ℕ} {asc′ dec′ : List Float} (b : Batch edition s day1 day2 status asc dec r status′ asc′ dec′) where
+  abbrev answer : Star → Answer Pair
+  answer star = starRule edition star day1 day2
+
   module _ (none : batchRefusal s day1 day2 (length status) (length asc) (length dec) ≡ 0) where
-    pub tally-is : r .tally ≡ tallyOf (statusesOf s day1 day2)
+    pub tally-is : r .tally ≡ tallyOf (statusesOf edition s day1 day2)
     tally-is =
         ap (λ (q : Batched). q .tally) (b .answer)
-        ∙ ap (λ (t : Bool). cond t (tallyOf (statusesOf s day1 day2)) empty) (eq-eqb _ 0 none)
+        ∙ ap (λ (t : Bool). cond t (tallyOf (statusesOf edition s day1 day2)) empty) (eq-eqb _ 0 none)
 
     -- a slice's front is the values
     front : {A : Type 0} (new old cur : List A)
@@ -120,44 +122,49 @@ module _ {s : List ℕ} {day1 day2 : Float} {status : List ℕ} {asc dec : List 
     front new old cur e = e ∙ ap (λ (t : Bool). cond t (new ++ drop (length new) old) old) (eq-eqb _ 0 none)
 
     -- star i's status and angles are the chain's at that star
-    pub status-at : (i : ℕ) → i < countOf s → getD status′ i 0 ≡ statusOf (starRule (nth s i) day1 day2)
+    pub status-at : (i : ℕ) → i < countOf s → getD status′ i 0 ≡ statusOf (starRule edition (nth s i) day1 day2)
+    unfolding answersOf
     status-at i h =
-        ap (λ (l : List ℕ). getD l i 0) (front (statusesOf s day1 day2) status status′ (b .statuses))
-        ∙ stored statusOf s day1 day2 status i 0 h
+        ap (λ (l : List ℕ). getD l i 0) (front (statusesOf edition s day1 day2) status status′ (b .statuses))
+        ∙ stored statusOf answer s status i 0 h
 
-    pub asc-at : (i : ℕ) → i < countOf s → getD asc′ i zero64 ≡ firstOf (starRule (nth s i) day1 day2)
+    pub asc-at : (i : ℕ) → i < countOf s → getD asc′ i zero64 ≡ firstOf (starRule edition (nth s i) day1 day2)
+    unfolding answersOf
     asc-at i h =
-        ap (λ (l : List Float). getD l i zero64) (front (map firstOf (answersOf s day1 day2)) asc asc′ (b .ascs))
-        ∙ stored firstOf s day1 day2 asc i zero64 h
+        ap (λ (l : List Float). getD l i zero64) (front (map firstOf (answersOf edition s day1 day2)) asc asc′ (b .ascs))
+        ∙ stored firstOf answer s asc i zero64 h
 
-    pub dec-at : (i : ℕ) → i < countOf s → getD dec′ i zero64 ≡ secondOf (starRule (nth s i) day1 day2)
+    pub dec-at : (i : ℕ) → i < countOf s → getD dec′ i zero64 ≡ secondOf (starRule edition (nth s i) day1 day2)
+    unfolding answersOf
     dec-at i h =
-        ap (λ (l : List Float). getD l i zero64) (front (map secondOf (answersOf s day1 day2)) dec dec′ (b .decs))
-        ∙ stored secondOf s day1 day2 dec i zero64 h
+        ap (λ (l : List Float). getD l i zero64) (front (map secondOf (answersOf edition s day1 day2)) dec dec′ (b .decs))
+        ∙ stored secondOf answer s dec i zero64 h
 
     -- the slice's first bytes are the stars' statuses
-    bytes-are : take (countOf s) status′ ≡ statusesOf s day1 day2
+    bytes-are : take (countOf s) status′ ≡ statusesOf edition s day1 day2
+    unfolding answersOf
     bytes-are =
-        ap (take (countOf s)) (front (statusesOf s day1 day2) status status′ (b .statuses))
-        ∙ take-at (statusesOf s day1 day2) (drop (length (statusesOf s day1 day2)) status) (countOf s) (how-many statusOf s day1 day2)
+        ap (take (countOf s)) (front (statusesOf edition s day1 day2) status status′ (b .statuses))
+        ∙ take-at (statusesOf edition s day1 day2) (drop (length (statusesOf edition s day1 day2)) status) (countOf s) (how-many statusOf answer s)
 
     -- each count is the number of status bytes of that value
     pub tally-counts-bytes : (k : ℕ) → k < places → getD (r .tally .counts) k 0 ≡ times k (take (countOf s) status′)
     unfolding tallyOf
     tally-counts-bytes k h =
         ap (λ (t : Tally). getD (t .counts) k 0) tally-is
-        ∙ getD-upto places (λ (j : ℕ). times j (statusesOf s day1 day2)) k 0 h
+        ∙ getD-upto places (λ (j : ℕ). times j (statusesOf edition s day1 day2)) k 0 h
         ∙ ap (times k) (sym bytes-are)
 
     -- the tally is the empty one, raised by each star's status in the list's order
-    pub tally-raised : r .tally ≡ raisedBy empty (statusesOf s day1 day2)
+    pub tally-raised : r .tally ≡ raisedBy empty (statusesOf edition s day1 day2)
+    unfolding answersOf
     tally-raised =
         let a = accepted s day1 day2 (length status) (length asc) (length dec) none in
         tally-is
-        ∙ sym (counts-all (statusesOf s day1 day2) (all-known s day1 day2 (a .days)) (omega (arith, how-many statusOf s day1 day2, few s (a .list))))
+        ∙ sym (counts-all (statusesOf edition s day1 day2) (all-known answer (λ star. status-known star day1 day2 (a .days) edition) s) (omega (arith, how-many statusOf answer s, few s (a .list))))
 
   -- two calls that meet one contract answer alike and leave the slices alike
   pub batch-fixes-all : {q : Batched} {status″ : List ℕ} {asc″ dec″ : List Float}
-      → Batch s day1 day2 status asc dec q status″ asc″ dec″
+      → Batch edition s day1 day2 status asc dec q status″ asc″ dec″
       → (r ≡ q) × ((status′ ≡ status″) × ((asc′ ≡ asc″) × (dec′ ≡ dec″)))
   batch-fixes-all d = (b .answer ∙ sym (d .answer), (b .statuses ∙ sym (d .statuses), (b .ascs ∙ sym (d .ascs), b .decs ∙ sym (d .decs))))

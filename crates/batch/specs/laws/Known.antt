@@ -10,6 +10,7 @@ use Rattle.quantity.specs.declared.Rad.{Rad}
 use Rattle.quantity.specs.declared.EqPoint.{EqPoint}
 use Rattle.quantity.specs.rules.Answer.{Answer, answered, refused, Pair, unless, then, plus, both, statusOf}
 use Rattle.quantity.specs.rules.Refusal.{lower, past, angleRefusal, latitudeRefusal, steepRefusal}
+use Rattle.edition.specs.declared.Edition.{Edition}
 use Rattle.root.specs.rules.Root.{rootRule, rootRefusal}
 use Rattle.elementary_arc.specs.rules.Arctangent.{arctangentIn}
 use Rattle.elementary_arc.specs.rules.Arcsine.{arcsineIn}
@@ -94,9 +95,9 @@ known-turned : (asc dec : Rad) (turns : EqTurns) → statusOf (turnedIn asc dec 
 unfolding turnedIn placed
 known-turned asc dec turns = known-both _ _ (known-plus _ _ (known-arctangent _ _)) (known-arcsine _)
 
-known-night : (day1 day2 : Float) → nightOf day1 day2 .refusal ≤ highestStatus
+known-night : (edition : Edition) (day1 day2 : Float) → nightOf edition day1 day2 .refusal ≤ highestStatus
 unfolding nightOf nightFrom
-known-night day1 day2 = known-lower _ _ (known-angle _) (known-lower _ _ (known-angle _) (known-angle _))
+known-night edition day1 day2 = known-lower _ _ (known-angle _) (known-lower _ _ (known-angle _) (known-angle _))
 
 module _ (night : Night) (h : night .refusal ≤ highestStatus) where
   known-at : (p : EqPoint) → statusOf (reducedAt p night) ≤ highestStatus
@@ -112,5 +113,5 @@ module _ (night : Night) (h : night .refusal ≤ highestStatus) where
   known-star star =
       known-choice (inRange star) _ (refused 9) (known-in (ascOf star) (decOf star)) (omega arith)
 
-pub known-under : (star : Star) (day1 day2 : Float) → statusOf (reduceStar star (nightOf day1 day2)) ≤ highestStatus
-known-under star day1 day2 = known-star (nightOf day1 day2) (known-night day1 day2) star
+pub known-under : (edition : Edition) (star : Star) (day1 day2 : Float) → statusOf (reduceStar star (nightOf edition day1 day2)) ≤ highestStatus
+known-under edition star day1 day2 = known-star (nightOf edition day1 day2) (known-night edition day1 day2) star

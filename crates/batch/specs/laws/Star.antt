@@ -2,9 +2,11 @@
 use Prim.Native.Nat.{ℕ, _≤_}
 use mathlib.Core.Path.{_≡_, refl, sym, ap, _∙_}
 use mathlib.Core.Bool.{Bool, true, false, cond}
+use mathlib.Core.List.{List, map}
 use lib.Ieee.{Float}
 use Rattle.quantity.specs.rules.Answer.{refused, unless, statusOf}
 use Rattle.quantity.specs.rules.Refusal.{lower}
+use Rattle.edition.specs.declared.Edition.{Edition}
 use Rattle.precess.specs.rules.Days.{daysRefusal, placeRefusal}
 use Rattle.chain.specs.rules.Chain.{chainRule}
 use Rattle.chain.specs.rules.Night.{nightOf, reducedIn}
@@ -12,6 +14,8 @@ use Rattle.chain.specs.laws.Night.{chain-under-a-night}
 use Rattle.list_tally.specs.rules.Status.{highestStatus}
 use Rattle.list.specs.declared.Star.{Star}
 use Rattle.list.specs.rules.Record.{inRange}
+use Rattle.list.specs.rules.Stars.{stars}
+use Rattle.batch.specs.rules.Batch.{answersOf}
 use Rattle.batch.specs.rules.Star.{ascOf, decOf, starRule, reduceStar}
 use Rattle.batch.specs.laws.InRange.{angles-taken}
 use Rattle.batch.specs.laws.Known.{known-under}
@@ -21,17 +25,24 @@ module _ (star : Star) (day1 day2 : Float) (days : daysRefusal day1 day2 ≡ 0) 
   pub place-taken : inRange star ≡ true → placeRefusal (ascOf star) (decOf star) day1 day2 ≡ 0
   place-taken r = ap (λ (n : ℕ). lower n (daysRefusal day1 day2)) (angles-taken star r) ∙ days
 
-  pub star-under-a-night : reduceStar star (nightOf day1 day2) ≡ starRule star day1 day2
+  pub star-under-a-night : (edition : Edition) → reduceStar star (nightOf edition day1 day2) ≡ starRule edition star day1 day2
   unfolding reduceStar starRule
-  star-under-a-night = by-range (inRange star) (λ e. e)
+  star-under-a-night edition = by-range (inRange star) (λ e. e)
     where
       by-range : (b : Bool) → (b ≡ true → inRange star ≡ true)
-          → cond b (reducedIn (ascOf star) (decOf star) (nightOf day1 day2)) (refused 9) ≡ cond b (chainRule (ascOf star) (decOf star) day1 day2) (refused 9)
+          → cond b (reducedIn (ascOf star) (decOf star) (nightOf edition day1 day2)) (refused 9) ≡ cond b (chainRule edition (ascOf star) (decOf star) day1 day2) (refused 9)
       by-range true r =
-          ap (λ (n : ℕ). unless n (reducedIn (ascOf star) (decOf star) (nightOf day1 day2))) (sym (place-taken (r refl)))
-          ∙ sym (chain-under-a-night (ascOf star) (decOf star) day1 day2)
+          ap (λ (n : ℕ). unless n (reducedIn (ascOf star) (decOf star) (nightOf edition day1 day2))) (sym (place-taken (r refl)))
+          ∙ sym (chain-under-a-night edition (ascOf star) (decOf star) day1 day2)
       by-range false r = refl
 
   -- so its status is one that the tally knows
-  pub status-known : statusOf (starRule star day1 day2) ≤ highestStatus
-  status-known = rw star-under-a-night at (known-under star day1 day2)
+  pub status-known : (edition : Edition) → statusOf (starRule edition star day1 day2) ≤ highestStatus
+  status-known edition = rw (star-under-a-night edition) at (known-under edition star day1 day2)
+
+-- and so are all of a list
+pub answers-under-a-night : (edition : Edition) (s : List ℕ) (day1 day2 : Float) → daysRefusal day1 day2 ≡ 0
+    → map (λ (star : Star). reduceStar star (nightOf edition day1 day2)) (stars s) ≡ answersOf edition s day1 day2
+unfolding answersOf
+answers-under-a-night edition s day1 day2 days =
+    λ j. map (λ (star : Star). star-under-a-night star day1 day2 days edition j) (stars s)

@@ -13,6 +13,7 @@ use Rattle.quantity.specs.rules.Answer.{Answer, answered, refused, Pair, pair, 
 use Rattle.quantity.specs.rules.Refusal.{epoch}
 use Rattle.quantity.specs.notions.Code.{ofFloat, ofAnswer, ofSecond}
 use Rattle.quantity.specs.notions.Varies.{Varies}
+use Rattle.edition.specs.declared.Edition.{Edition}
 use Rattle.chain.specs.notions.Computed.{computed}
 use Rattle.chain.specs.notions.Still.{still}
 use Rattle.list.specs.declared.Star.{Star}
@@ -45,9 +46,9 @@ seconds-for-milliarcseconds-excluded = apart (ofAnswer ofSecond) refl
 abbrev oneTwo : Answer Pair
 oneTwo = answered (pair one two)
 
-pub status-always-good-excluded : statusAlwaysGood (starRule beyond epoch epoch) ≢ statusOf (starRule beyond epoch epoch)
+pub status-always-good-excluded : (edition : Edition) → statusAlwaysGood (starRule edition beyond epoch epoch) ≢ statusOf (starRule edition beyond epoch epoch)
 unfolding starRule inRange
-status-always-good-excluded = apart ofNumber refl
+status-always-good-excluded edition = apart ofNumber refl
 
 pub angle-always-zero-excluded : angleAlwaysZero oneTwo ≢ firstOf oneTwo
 unfolding computed

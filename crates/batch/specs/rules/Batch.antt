@@ -7,6 +7,7 @@ use lib.Dec.{eqb, leb}
 use lib.Ieee.{Float}
 use lib.ListN.{length, drop}
 use Rattle.quantity.specs.rules.Answer.{Answer, Pair, statusOf}
+use Rattle.edition.specs.declared.Edition.{Edition}
 use Rattle.precess.specs.rules.Days.{daysRefusal}
 use Rattle.list.specs.declared.Star.{Star}
 use Rattle.list.specs.rules.Stars.{isList, countOf, stars}
@@ -26,11 +27,11 @@ batchRefusal s day1 day2 status asc dec =
     (daysRefusal day1 day2)
 
 -- every star's answer, in the list's order
-unfoldable pub answersOf : List ℕ → Float → Float → List (Answer Pair)
-answersOf s day1 day2 = map (λ (star : Star). starRule star day1 day2) (stars s)
+unfoldable pub answersOf : Edition → List ℕ → Float → Float → List (Answer Pair)
+answersOf edition s day1 day2 = map (λ (star : Star). starRule edition star day1 day2) (stars s)
 
-abbrev pub statusesOf : List ℕ → Float → Float → List ℕ
-statusesOf s day1 day2 = map statusOf (answersOf s day1 day2)
+abbrev pub statusesOf : Edition → List ℕ → Float → Float → List ℕ
+statusesOf edition s day1 day2 = map statusOf (answersOf edition s day1 day2)
 
 -- the tally of every star's status; of a refused call, of none
 abbrev pub batchedRule : ℕ → List ℕ → Batched
@@ -41,8 +42,8 @@ abbrev pub lentRule : {A : Type 0} → ℕ → List A → List A → List A
 lentRule refusal new old = cond (eqb refusal 0) (new ++ drop (length new) old) old
 
 -- what a call leaves: its answer, and the contents of the three slices
-pub record Batch (s : List ℕ) (day1 day2 : Float) (status : List ℕ) (asc dec : List Float) (r : Batched) (status′ : List ℕ) (asc′ dec′ : List Float) : Type 0 where
-  pub answer : r ≡ batchedRule (batchRefusal s day1 day2 (length status) (length asc) (length dec)) (statusesOf s day1 day2)
-  pub statuses : status′ ≡ lentRule (batchRefusal s day1 day2 (length status) (length asc) (length dec)) (statusesOf s day1 day2) status
-  pub ascs : asc′ ≡ lentRule (batchRefusal s day1 day2 (length status) (length asc) (length dec)) (map firstOf (answersOf s day1 day2)) asc
-  pub decs : dec′ ≡ lentRule (batchRefusal s day1 day2 (length status) (length asc) (length dec)) (map secondOf (answersOf s day1 day2)) dec
+pub record Batch (edition : Edition) (s : List ℕ) (day1 day2 : Float) (status : List ℕ) (asc dec : List Float) (r : Batched) (status′ : List ℕ) (asc′ dec′ : List Float) : Type 0 where
+  pub answer : r ≡ batchedRule (batchRefusal s day1 day2 (length status) (length asc) (length dec)) (statusesOf edition s day1 day2)
+  pub statuses : status′ ≡ lentRule (batchRefusal s day1 day2 (length status) (length asc) (length dec)) (statusesOf edition s day1 day2) status
+  pub ascs : asc′ ≡ lentRule (batchRefusal s day1 day2 (length status) (length asc) (length dec)) (map firstOf (answersOf edition s day1 day2)) asc
+  pub decs : dec′ ≡ lentRule (batchRefusal s day1 day2 (length status) (length asc) (length dec)) (map secondOf (answersOf edition s day1 day2)) dec

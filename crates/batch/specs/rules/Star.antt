@@ -6,6 +6,7 @@ use Rattle.double.specs.rules.Operations.{bits, zero, _⊘_}
 use Rattle.quantity.specs.declared.Deg.{Deg}
 use Rattle.quantity.specs.declared.Rad.{Rad}
 use Rattle.quantity.specs.rules.Answer.{Answer, answered, refused, Pair, first, second}
+use Rattle.edition.specs.declared.Edition.{Edition}
 use Rattle.helpers.specs.rules.Angle.{radiansOf}
 use Rattle.chain.specs.declared.Night.{Night}
 use Rattle.chain.specs.rules.Chain.{chainRule}
@@ -28,8 +29,8 @@ abbrev pub decOf : Star → Rad
 decOf star = radiansOf (degreesOf (star .dec))
 
 -- the chain's answer at the star, or 9 where its record is out of range
-unfoldable pub starRule : Star → Float → Float → Answer Pair
-starRule star day1 day2 = cond (inRange star) (chainRule (ascOf star) (decOf star) day1 day2) (refused 9)
+unfoldable pub starRule : Edition → Star → Float → Float → Answer Pair
+starRule edition star day1 day2 = cond (inRange star) (chainRule edition (ascOf star) (decOf star) day1 day2) (refused 9)
 
 -- the same under a night, whose days are not refused; the angles of a star in range never are
 unfoldable pub reduceStar : Star → Night → Answer Pair

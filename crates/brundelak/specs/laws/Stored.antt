@@ -6,6 +6,7 @@ use lib.IntN.{ℤ}
 use lib.Ieee.{Float}
 use borrow.Author.Tests.{eq-eqb, ne-eqb}
 use Rattle.quantity.specs.rules.Answer.{Answer}
+use Rattle.edition.specs.declared.Edition.{Edition}
 use Rattle.list.specs.declared.Star.{Star}
 use Rattle.list.specs.declared.Shown.{Shown}
 use Rattle.list.specs.declared.Shown.the-variants as shown
@@ -40,9 +41,9 @@ pub not-shown-told : {a : Answer Sight} {r : Shown} {n number asc next : ℕ} {d
 not-shown-told p e =
     rw (← p, e) (record { answers = refl; leaves-number = refl; leaves-asc = refl; leaves-dec = refl; leaves-next = refl })
 
-module _ {s : List ℕ} {day1 day2 : Float} {status : List ℕ} {asc dec : List Float} {counts : List ℕ} {status′ : List ℕ} {asc′ dec′ : List Float} (b : Batched) (done : Batch s day1 day2 status asc dec b status′ asc′ dec′) where
-  pub batch-refused : (b .refusal ≡ 0 → ⊥) → ToldBatch s day1 day2 status asc dec counts (b .refusal) status′ asc′ dec′ counts
+module _ {edition : Edition} {s : List ℕ} {day1 day2 : Float} {status : List ℕ} {asc dec : List Float} {counts : List ℕ} {status′ : List ℕ} {asc′ dec′ : List Float} (b : Batched) (done : Batch edition s day1 day2 status asc dec b status′ asc′ dec′) where
+  pub batch-refused : (b .refusal ≡ 0 → ⊥) → ToldBatch edition s day1 day2 status asc dec counts (b .refusal) status′ asc′ dec′ counts
   batch-refused h = record { batched = b; batch = done; answers = refl; leaves-counts = rw (ne-eqb (b .refusal) 0 h) }
 
-  pub batch-done : b .refusal ≡ 0 → ToldBatch s day1 day2 status asc dec counts 0 status′ asc′ dec′ (b .tally .counts)
+  pub batch-done : b .refusal ≡ 0 → ToldBatch edition s day1 day2 status asc dec counts 0 status′ asc′ dec′ (b .tally .counts)
   batch-done e = record { batched = b; batch = done; answers = sym e; leaves-counts = rw (eq-eqb (b .refusal) 0 e) }

@@ -11,6 +11,7 @@ use Rattle.list.specs.rules.Find.{Entry}
 use Rattle.list.specs.rules.Reader.{Sight}
 use Rattle.list.specs.declared.Star.{Star}
 use Rattle.list_groups.specs.rules.Reading.{Placed}
+use Rattle.edition.specs.declared.Edition.{Edition}
 use Rattle.batch.specs.declared.Batched.{Batched}
 use Rattle.batch.specs.laws.Batch.{batch-fixes-all}
 use Rattle.brundelak.specs.rules.Stored.{ToldFound, ToldStar, ToldBatch, ToldRaise}
@@ -31,8 +32,8 @@ pub one-told-raise : {status n m : ℕ} {counts c c′ : List ℕ} → ToldRaise
     → ToldRaise status counts m c′ → (n ≡ m) × (c ≡ c′)
 one-told-raise t u = (t .answers ∙ sym (u .answers), t .leaves-counts ∙ sym (u .leaves-counts))
 
-pub one-told-batch : {s status counts : List ℕ} {day1 day2 : Float} {asc dec : List Float} {n m : ℕ} {z z′ c c′ : List ℕ} {x x′ y y′ : List Float}
-    → ToldBatch s day1 day2 status asc dec counts n z x y c → ToldBatch s day1 day2 status asc dec counts m z′ x′ y′ c′
+pub one-told-batch : {edition : Edition} {s status counts : List ℕ} {day1 day2 : Float} {asc dec : List Float} {n m : ℕ} {z z′ c c′ : List ℕ} {x x′ y y′ : List Float}
+    → ToldBatch edition s day1 day2 status asc dec counts n z x y c → ToldBatch edition s day1 day2 status asc dec counts m z′ x′ y′ c′
     → (n ≡ m) × ((c ≡ c′) × ((z ≡ z′) × ((x ≡ x′) × (y ≡ y′))))
 one-told-batch {counts = counts} t u =
     let f = batch-fixes-all (t .batch) (u .batch) in

@@ -18,6 +18,7 @@ use Rattle.list_radio.specs.rules.Reader.{openRule, starAtRule, acceptRule}
 use Rattle.list_radio.specs.rules.Put.{headText}
 use Rattle.list_radio.specs.rules.Moves.{toList}
 use Rattle.list_radio.specs.notions.Computed as radio
+use Rattle.edition.specs.declared.Edition.{Edition}
 use Rattle.batch.specs.declared.Batched.{Batched}
 use Rattle.batch.specs.rules.Batch.{batchRefusal}
 use Rattle.brundelak.specs.rules.Stored.{ToldFound, ToldBatch, ToldRaise}
@@ -28,9 +29,9 @@ pub found-asc-lost-excluded : ¬ ToldFound (answered (record { index = 7; asc = 
 found-asc-lost-excluded wrong = apart ofNumber refl (wrong .leaves-asc)
 
 -- the first day is no number
-pub batch-always-refused-by-eight-excluded : ¬ ToldBatch [] (inf false) epoch [] [] [] [] 8 [] [] [] []
+pub batch-always-refused-by-eight-excluded : (edition : Edition) → ¬ ToldBatch edition [] (inf false) epoch [] [] [] [] 8 [] [] [] []
 unfolding computed batchRefusal daysRefusal
-batch-always-refused-by-eight-excluded wrong =
+batch-always-refused-by-eight-excluded edition wrong =
     apart ofNumber refl (wrong .answers ∙ ap (λ (b : Batched). b .refusal) (wrong .batch .answer))
 
 -- the status 3, and 0 is counted

@@ -7,6 +7,7 @@ use lib.Dec.{eqb}
 use lib.IntN.{ℤ}
 use lib.Ieee.{Float}
 use Rattle.quantity.specs.rules.Answer.{Answer, answered, refused, statusOf}
+use Rattle.edition.specs.declared.Edition.{Edition}
 use Rattle.list.specs.declared.Star.{Star}
 use Rattle.list.specs.rules.Find.{Entry}
 use Rattle.list.specs.rules.Reader.{Sight, sight, none}
@@ -43,9 +44,9 @@ pub record ToldStar (a : Answer Sight) (n : ℕ) (number asc : ℕ) (dec : ℤ) 
   pub leaves-next : next′ ≡ keptSight (λ (r : Star) (k : ℕ). k) a next
 
 -- the batch: its refusal, the three slices, and the 20 counts where it is not refused
-pub record ToldBatch (s : List ℕ) (day1 day2 : Float) (status : List ℕ) (asc dec : List Float) (counts : List ℕ) (n : ℕ) (status′ : List ℕ) (asc′ dec′ : List Float) (counts′ : List ℕ) : Type 0 where
+pub record ToldBatch (edition : Edition) (s : List ℕ) (day1 day2 : Float) (status : List ℕ) (asc dec : List Float) (counts : List ℕ) (n : ℕ) (status′ : List ℕ) (asc′ dec′ : List Float) (counts′ : List ℕ) : Type 0 where
   pub batched : Batched
-  pub batch : Batch s day1 day2 status asc dec batched status′ asc′ dec′
+  pub batch : Batch edition s day1 day2 status asc dec batched status′ asc′ dec′
   pub answers : n ≡ batched .refusal
   pub leaves-counts : counts′ ≡ cond (eqb (batched .refusal) 0) (batched .tally .counts) counts
 

@@ -7,6 +7,7 @@ use Rattle.quantity.specs.rules.Angle.{rad}
 use Rattle.quantity.specs.rules.Answer.{Answer, answered, Pair, pair, first, second, unless, then}
 use Rattle.quantity.specs.rules.Refusal.{lower, dayRefusal, angleRefusal, latitudeRefusal}
 use Rattle.quantity.specs.laws.Answer.{then-unless, unless-cong, then-cong}
+use Rattle.edition.specs.declared.Edition.{Edition}
 use Rattle.elementary.specs.laws.Accepted.{lower-none}
 use Rattle.precess.specs.rules.Days.{daysRefusal, placeRefusal}
 use Rattle.precess.specs.rules.Equatorial.{turnedIn, eqTurnsOf}
@@ -36,7 +37,7 @@ two-steps {A = A} {B = B} {C = C} m n d x y f ok =
     none : lower m n ≡ 0 → lower m d ≡ 0
     none e = rw (lower-none m n e .0, ok)
 
-module _ (asc dec : Rad) (day1 day2 : Float) where
+module _ (edition : Edition) (asc dec : Rad) (day1 day2 : Float) where
   abbrev nutations : Pair
   nutations = pair (nutationOf day2 .long .0) (nutationOf day2 .oblq .0)
 
@@ -44,7 +45,7 @@ module _ (asc dec : Rad) (day1 day2 : Float) where
   oblq = trueObliquity (meanObliquityOf day2) (nutationOf day2 .oblq)
 
   -- at a precessed point, the second day being accepted
-  at-point : (p : Pair) → dayRefusal day2 ≡ 0 → fromPoint p nutations day2 ≡ reducedAt (point p) (nightOf day1 day2)
+  at-point : (p : Pair) → dayRefusal day2 ≡ 0 → fromPoint p nutations day2 ≡ reducedAt (point p) (nightOf edition day1 day2)
   unfolding nutationInEqCoordsRule stellAberrInEqCoordsRule nutationInEqCoordsIn stellAberrInEqCoordsIn reducedAt moved nightOf nightFrom
   at-point p ok =
       two-steps (pointRefusal (point p)) (anglesRefusal (nutationOf day2) oblq) (dayRefusal day2)
@@ -57,7 +58,7 @@ module _ (asc dec : Rad) (day1 day2 : Float) where
   steps p = then (nutationRule day2) (λ (n : Pair). fromPoint p n day2)
 
   abbrev under : Pair → Answer Pair
-  under p = reducedAt (point p) (nightOf day1 day2)
+  under p = reducedAt (point p) (nightOf edition day1 day2)
 
   -- an accepted place has an accepted second day
   second-day : placeRefusal asc dec day1 day2 ≡ 0 → dayRefusal day2 ≡ 0
@@ -72,10 +73,10 @@ module _ (asc dec : Rad) (day1 day2 : Float) where
       ap (λ (a : Answer Pair). then a (λ (n : Pair). fromPoint p n day2)) (unless-none (dayRefusal day2) (answered nutations) ok)
       ∙ at-point p ok
 
-  pub chain-under-a-night : chainRule asc dec day1 day2 ≡ unless (placeRefusal asc dec day1 day2) (reducedIn asc dec (nightOf day1 day2))
+  pub chain-under-a-night : chainRule edition asc dec day1 day2 ≡ unless (placeRefusal asc dec day1 day2) (reducedIn asc dec (nightOf edition day1 day2))
   unfolding chainRule reducedIn nightOf nightFrom
   chain-under-a-night =
-      then-unless (placeRefusal asc dec day1 day2) (turnedIn asc dec (eqTurnsOf day1 day2)) steps
-      ∙ unless-cong (placeRefusal asc dec day1 day2) (then (turnedIn asc dec (eqTurnsOf day1 day2)) steps)
-      (then (turnedIn asc dec (eqTurnsOf day1 day2)) under)
-      (λ e. then-cong (turnedIn asc dec (eqTurnsOf day1 day2)) steps under (same-steps (second-day e)))
+      then-unless (placeRefusal asc dec day1 day2) (turnedIn asc dec (eqTurnsOf edition day1 day2)) steps
+      ∙ unless-cong (placeRefusal asc dec day1 day2) (then (turnedIn asc dec (eqTurnsOf edition day1 day2)) steps)
+      (then (turnedIn asc dec (eqTurnsOf edition day1 day2)) under)
+      (λ e. then-cong (turnedIn asc dec (eqTurnsOf edition day1 day2)) steps under (same-steps (second-day e)))

@@ -11,8 +11,10 @@ use Rattle.quantity.specs.declared.Shift.{Shift}
 use Rattle.quantity.specs.rules.Angle.{rad}
 use Rattle.quantity.specs.rules.Refusal.{epoch}
 use Rattle.quantity.specs.notions.Code.{ofDeg, ofRad, ofAnswer, ofFirst, unread}
-use Rattle.quantity.specs.notions.Stated.{r0, r1, later, origin, northPole}
+use Rattle.quantity.specs.notions.Stated.{r0, r1, earlier, later, origin, northPole}
 use Rattle.quantity.specs.notions.Varies.{Varies}
+use Rattle.edition.specs.declared.Edition.{Edition}
+use Rattle.edition.specs.declared.Edition.the-variants.{Crate, Published}
 use Rattle.chain.specs.declared.Night.{Night}
 use Rattle.chain.specs.rules.Obliquity.{meanObliquity, meanObliquityOf, trueObliquity}
 use Rattle.chain.specs.rules.Chain.{pointRefusal, chainRule}
@@ -43,9 +45,14 @@ pub nutation-taken-away-excluded : nutationTakenAway r1 r1 ≢ trueObliquity r1 
 unfolding computed
 nutation-taken-away-excluded = apart ofRad refl
 
-pub night-of-one-day-excluded : nightOfOneDay epoch later ≢ nightOf epoch later
+pub night-of-one-day-excluded : (edition : Edition) → nightOfOneDay edition epoch later ≢ nightOf edition epoch later
 unfolding computed
-night-of-one-day-excluded = apart (λ (n : Night). ofRad (n .turns .xi)) refl
+night-of-one-day-excluded edition = apart (λ (n : Night). ofRad (n .turns .xi)) refl
+
+-- an edition ignored, over the century that ends at 2451545.0
+pub night-by-edition : nightOf Published earlier epoch ≢ nightOf Crate earlier epoch
+unfolding computed
+night-by-edition = apart (λ (n : Night). ofRad (n .turns .zeta)) refl
 
 -- ---- a star under a night
 
@@ -69,6 +76,7 @@ reduced-in-varies = record { here = refl; there = refl; apart = apart (ofAnswer 
 
 -- ---- the chain
 
-pub place-not-refused-excluded : placeNotRefused r0 r0 epoch greatest ≢ chainRule r0 r0 epoch greatest
+pub place-not-refused-excluded : (edition : Edition) → placeNotRefused edition r0 r0 epoch greatest ≢ chainRule edition r0 r0 epoch greatest
 unfolding computed
-place-not-refused-excluded = apart (ofAnswer unread) refl
+place-not-refused-excluded Crate = apart (ofAnswer unread) refl
+place-not-refused-excluded Published = apart (ofAnswer unread) refl

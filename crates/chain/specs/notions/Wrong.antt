@@ -9,6 +9,7 @@ use Rattle.quantity.specs.declared.Shift.{Shift}
 use Rattle.quantity.specs.rules.Angle.{deg, rad}
 use Rattle.quantity.specs.rules.Answer.{Answer, answered, Pair, pair, unless}
 use Rattle.quantity.specs.rules.Refusal.{lower, epoch, angleRefusal, steepRefusal}
+use Rattle.edition.specs.declared.Edition.{Edition}
 use Rattle.elementary.specs.rules.Direction.{directionOf}
 use Rattle.helpers.specs.rules.Angle.{arc}
 use Rattle.precess.specs.rules.Days.{placeRefusal}
@@ -39,10 +40,10 @@ abbrev pub nutationTakenAway : Rad → Rad → Rad
 nutationTakenAway mean nutation = rad (mean .0 ⊖ nutation .0)
 
 -- precession from the first day to itself
-abbrev pub nightOfOneDay : Float → Float → Night
-nightOfOneDay day1 day2 =
+abbrev pub nightOfOneDay : Edition → Float → Float → Night
+nightOfOneDay edition day1 day2 =
     let n = nutationOf day2 in
-    nightFrom (eqTurnsOf day1 day1) n (trueObliquity (meanObliquityOf day2) (n .oblq)) (velocityOf day2)
+    nightFrom (eqTurnsOf edition day1 day1) n (trueObliquity (meanObliquityOf day2) (n .oblq)) (velocityOf day2)
 
 -- the right ascension tested in the declination's place
 abbrev pub precessedPointNotSteep : EqPoint → ℕ
@@ -58,5 +59,5 @@ anglesOfTheNightNotTested p night =
     (moved p (nutationAt (directionOf p) (night .nutation) (night .«sin_oblq») (night .«cos_oblq»)) (aberrAt (directionOf p) (night .velocity)))
 
 -- the second day not tested
-abbrev pub placeNotRefused : Rad → Rad → Float → Float → Answer Pair
-placeNotRefused asc dec day1 day2 = unless (placeRefusal asc dec day1 day1) (reducedIn asc dec (nightOf day1 day2))
+abbrev pub placeNotRefused : Edition → Rad → Rad → Float → Float → Answer Pair
+placeNotRefused edition asc dec day1 day2 = unless (placeRefusal asc dec day1 day1) (reducedIn asc dec (nightOf edition day1 day2))

@@ -7,6 +7,7 @@ use Rattle.quantity.specs.declared.EqPoint.{EqPoint}
 use Rattle.quantity.specs.rules.Angle.{rad}
 use Rattle.quantity.specs.rules.Answer.{Answer, answered, Pair, pair, first, second, then}
 use Rattle.quantity.specs.rules.Refusal.{lower, angleRefusal, steepRefusal}
+use Rattle.edition.specs.declared.Edition.{Edition}
 use Rattle.precess.specs.rules.Equatorial.{precessEqCoordsRule}
 use Rattle.nutation_args.specs.declared.Nutations.{Nutations}
 use Rattle.nutation.specs.rules.Day.{nutationRule}
@@ -28,9 +29,9 @@ fromPoint p n day2 =
     (trueObliquity (meanObliquityOf day2) (rad (second n))))
     (λ (dn : Pair). then (stellAberrInEqCoordsRule (point p) day2) (λ (da : Pair). answered (sum p dn da)))
 
-unfoldable pub chainRule : Rad → Rad → Float → Float → Answer Pair
-chainRule asc dec day1 day2 =
-    then (precessEqCoordsRule asc dec day1 day2)
+unfoldable pub chainRule : Edition → Rad → Rad → Float → Float → Answer Pair
+chainRule edition asc dec day1 day2 =
+    then (precessEqCoordsRule edition asc dec day1 day2)
     (λ (p : Pair). then (nutationRule day2) (λ (n : Pair). fromPoint p n day2))
 
 -- what the two steps at the precessed point refuse of it, and of the three angles

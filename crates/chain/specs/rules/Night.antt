@@ -6,6 +6,7 @@ use Rattle.quantity.specs.declared.EqPoint.{EqPoint}
 use Rattle.quantity.specs.declared.Shift.{Shift}
 use Rattle.quantity.specs.rules.Answer.{Answer, answered, Pair, pair, unless, then}
 use Rattle.quantity.specs.rules.Refusal.{lower}
+use Rattle.edition.specs.declared.Edition.{Edition}
 use Rattle.elementary.specs.rules.Sine.{sineOf, cosineOf}
 use Rattle.elementary.specs.rules.Direction.{directionOf}
 use Rattle.precess.specs.declared.EqTurns.{EqTurns}
@@ -24,10 +25,10 @@ unfoldable pub nightFrom : EqTurns → Nutations → Rad → Velocity → Night
 nightFrom turns n oblq v =
     record { turns = turns; nutation = n; «sin_oblq» = sineOf oblq; «cos_oblq» = cosineOf oblq; velocity = v; refusal = anglesRefusal n oblq }
 
-unfoldable pub nightOf : Float → Float → Night
-nightOf day1 day2 =
+unfoldable pub nightOf : Edition → Float → Float → Night
+nightOf edition day1 day2 =
     let n = nutationOf day2 in
-    nightFrom (eqTurnsOf day1 day2) n (trueObliquity (meanObliquityOf day2) (n .oblq)) (velocityOf day2)
+    nightFrom (eqTurnsOf edition day1 day2) n (trueObliquity (meanObliquityOf day2) (n .oblq)) (velocityOf day2)
 
 unfoldable pub moved : EqPoint → Shift → Shift → Answer Pair
 moved p n a = answered (pair ((p .asc ⊕ n .asc .0) ⊕ a .asc .0) ((p .dec ⊕ n .dec .0) ⊕ a .dec .0))

@@ -8,10 +8,11 @@ use Rattle.coords.proofs.dec_frm_hz_in.Tie as tie
 returns : tie.Need-returns
 unfolding decFrmHzIn turnOf
 returns c =
-    let c4 = c .before .before .before .before in
-    let c5 = c4 .before in
+    let c5 = c .before .before .before .before .before in
     let c6 = c5 .before in
-    rw (c6 .turn-of .ensures, c5 .turn-of2 .ensures, c4 .turn-of3 .ensures) at (c .arcsine-in .ensures)
+    let c7 = c6 .before in
+    let c8 = c7 .before in
+    rw (c5 .chosen .ensures, c8 .turn-of .ensures, c7 .turn-of2 .ensures, c6 .turn-of3 .ensures) at (c .arcsine-in .ensures)
 
 pub dec-frm-hz-in-spec : {M : Type 1} → statement M
-dec-frm-hz-in-spec = tie.close (tie.spec asks-nothing asks-nothing asks-nothing asks-nothing returns)
+dec-frm-hz-in-spec = tie.close (tie.spec asks-nothing asks-nothing asks-nothing asks-nothing asks-nothing returns)

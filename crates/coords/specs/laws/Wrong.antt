@@ -13,6 +13,8 @@ use Rattle.quantity.specs.notions.Code.{ofRad, ofAnswer}
 use Rattle.quantity.specs.notions.Varies.{isAnswered, Varies}
 use Rattle.quantity.specs.notions.Stated.{r0, r½, r1, r2}
 use Rattle.quantity.specs.laws.Varies.{does-not-refuse, is-not-constant}
+use Rattle.edition.specs.declared.Edition.{Edition}
+use Rattle.edition.specs.declared.Edition.the-variants.{Crate, Published}
 use Rattle.elementary_arc.specs.notions.Computed.{computed}
 use Rattle.coords.specs.rules.HourAngle.{hrAnglFrmObserverLongRule, hrAnglFrmLocSidrRule}
 use Rattle.coords.specs.rules.Horizon.{azimuthIn, azFrmEqRule, altitudeIn, altFrmEqRule, hrAnglFrmHzIn, hrAnglFrmHzRule, decFrmHzIn, decFrmHzRule}
@@ -96,10 +98,17 @@ pub hour-angle-of-the-ratio-excluded : hourAngleOfTheRatio r2 r0 r1 ≢ hrAnglFr
 unfolding computed hrAnglFrmHzIn
 hour-angle-of-the-ratio-excluded = apart (ofAnswer ofRad) refl
 
-pub dec-frm-hz-varies : Varies (decFrmHzRule r½ r0 r0) (decFrmHzRule r0 r0 r0)
+pub dec-frm-hz-varies : (e : Edition) → Varies (decFrmHzRule e r½ r0 r0) (decFrmHzRule e r0 r0 r0)
 unfolding computed decFrmHzIn
-dec-frm-hz-varies = record { here = refl; there = refl; apart = apart (ofAnswer ofRad) refl }
+dec-frm-hz-varies Crate = record { here = refl; there = refl; apart = apart (ofAnswer ofRad) refl }
+dec-frm-hz-varies Published = record { here = refl; there = refl; apart = apart (ofAnswer ofRad) refl }
 
-pub cosine-of-azimuth-once-excluded : cosineOfAzimuthOnce r½ r0 r0 ≢ decFrmHzRule r½ r0 r0
+-- an edition ignored
+pub dec-frm-hz-by-edition : decFrmHzRule Published r½ r0 r0 ≢ decFrmHzRule Crate r½ r0 r0
 unfolding computed decFrmHzIn
-cosine-of-azimuth-once-excluded = apart (ofAnswer ofRad) refl
+dec-frm-hz-by-edition = apart (ofAnswer ofRad) refl
+
+pub cosine-of-azimuth-once-excluded : (e : Edition) → cosineOfAzimuthOnce r½ r½ r0 ≢ decFrmHzRule e r½ r½ r0
+unfolding computed decFrmHzIn
+cosine-of-azimuth-once-excluded Crate = apart (ofAnswer ofRad) refl
+cosine-of-azimuth-once-excluded Published = apart (ofAnswer ofRad) refl

@@ -3,6 +3,8 @@ use lib.Ieee.{Float}
 use Rattle.double.specs.rules.Operations.{_⊕_, _⊖_, _⊗_}
 use Rattle.quantity.specs.declared.Rad.{Rad}
 use Rattle.quantity.specs.rules.Answer.{Answer, unless}
+use Rattle.edition.specs.declared.Edition.{Edition}
+use Rattle.edition.specs.rules.Edition.{chosen}
 use Rattle.elementary.specs.rules.Sine.{sineOf, cosineOf, tangentOf}
 use Rattle.elementary_arc.specs.rules.Arctangent.{arctangentIn}
 use Rattle.elementary_arc.specs.rules.Arcsine.{arcsineIn}
@@ -34,9 +36,9 @@ hrAnglFrmHzIn z a p = arctangentIn (sineOf z) (cosineOf z ⊗ sineOf p ⊕ tange
 abbrev pub hrAnglFrmHzRule : Rad → Rad → Rad → Answer Rad
 hrAnglFrmHzRule z a p = unless (steepSkyRefusal z a p) (hrAnglFrmHzIn z a p)
 
--- cos z twice, as in the crate
-unfoldable pub decFrmHzIn : Rad → Rad → Rad → Answer Rad
-decFrmHzIn z a p = arcsineIn (sineOf p ⊗ sineOf a ⊖ cosineOf p ⊗ cosineOf z ⊗ cosineOf z)
+-- the crate has cos z twice, Meeus cos a·cos z
+unfoldable pub decFrmHzIn : Edition → Rad → Rad → Rad → Answer Rad
+decFrmHzIn e z a p = arcsineIn (sineOf p ⊗ sineOf a ⊖ cosineOf p ⊗ chosen e (cosineOf z) (cosineOf a) ⊗ cosineOf z)
 
-abbrev pub decFrmHzRule : Rad → Rad → Rad → Answer Rad
-decFrmHzRule z a p = unless (skyRefusal z a p) (decFrmHzIn z a p)
+abbrev pub decFrmHzRule : Edition → Rad → Rad → Rad → Answer Rad
+decFrmHzRule e z a p = unless (skyRefusal z a p) (decFrmHzIn e z a p)

@@ -18,6 +18,7 @@ use Rattle.quantity.specs.rules.Answer.{Answer, answered, refused, Pair, pair, 
 use Rattle.quantity.specs.rules.Refusal.{dayRefusal, farthest, steepest, angleRefusal, latitudeRefusal, steepRefusal}
 use Rattle.quantity.specs.laws.Answer.{then-unless}
 use Rattle.quantity.specs.laws.Refusal.{past-none}
+use Rattle.edition.specs.declared.Edition.{Edition}
 use Rattle.elementary.specs.rules.Sine.{farthestAlone}
 use Rattle.elementary.specs.laws.Accepted.{answered-unless}
 use Rattle.helpers.specs.rules.Angle.{arc, degree}
@@ -162,14 +163,14 @@ module _ (p n : Pair) (day : Float) (P : IsPlace p) (N : BothWithin 1 n) (D : da
 
 -- ---- the chain
 
-module _ (asc dec : Rad) (day1 day2 : Float) where
-  outcome : placeRefusal asc dec day1 day2 ≡ 0 → Outcome BothFinite FourOrSeven (chainRule asc dec day1 day2)
+module _ (edition : Edition) (asc dec : Rad) (day1 day2 : Float) where
+  outcome : placeRefusal asc dec day1 day2 ≡ 0 → Outcome BothFinite FourOrSeven (chainRule edition asc dec day1 day2)
   unfolding chainRule
   outcome none =
       let D = second-accepted day1 day2 (place-accepted asc dec day1 day2 none .2) in
-      let precessed : Outcome IsPlace FourOrSeven (precessEqCoordsRule asc dec day1 day2) = record {
-        answers = precess-eq-coords-answers asc dec day1 day2;
-        refuses = λ n e. inr (precess-eq-coords-refuses asc dec day1 day2 none n e);
+      let precessed : Outcome IsPlace FourOrSeven (precessEqCoordsRule edition asc dec day1 day2) = record {
+        answers = precess-eq-coords-answers edition asc dec day1 day2;
+        refuses = λ n e. inr (precess-eq-coords-refuses edition asc dec day1 day2 none n e);
       } in
       let nutated : Outcome (BothWithin 1) FourOrSeven (nutationRule day2) = record {
         answers = nutation-answers day2;
@@ -177,17 +178,17 @@ module _ (asc dec : Rad) (day1 day2 : Float) where
       } in
       outcome-then (λ (p : Pair). then (nutationRule day2) (λ (n : Pair). fromPoint p n day2))
       (λ p P. outcome-then (λ (n : Pair). fromPoint p n day2) (λ n N. from-outcome p n day2 P N D) (nutationRule day2) nutated)
-      (precessEqCoordsRule asc dec day1 day2) precessed
+      (precessEqCoordsRule edition asc dec day1 day2) precessed
 
   -- 7 in precession, or 4 for the precessed declination
-  pub chain-refuses : placeRefusal asc dec day1 day2 ≡ 0 → (n : ℕ) → chainRule asc dec day1 day2 ≡ refused n → FourOrSeven n
+  pub chain-refuses : placeRefusal asc dec day1 day2 ≡ 0 → (n : ℕ) → chainRule edition asc dec day1 day2 ≡ refused n → FourOrSeven n
   chain-refuses none = outcome none .refuses
 
-  pub chain-finite : (v : Pair) → chainRule asc dec day1 day2 ≡ answered v → BothFinite v
+  pub chain-finite : (v : Pair) → chainRule edition asc dec day1 day2 ≡ answered v → BothFinite v
   unfolding chainRule
   chain-finite v e =
       let f : Pair → Answer Pair = λ (p : Pair). then (nutationRule day2) (λ (n : Pair). fromPoint p n day2) in
       let n = placeRefusal asc dec day1 day2 in
-      let work = turnedIn asc dec (eqTurnsOf day1 day2) in
+      let work = turnedIn asc dec (eqTurnsOf edition day1 day2) in
       let none = answered-unless n (then work f) v (sym (then-unless n work f) ∙ e) .0 in
       outcome none .answers v e

@@ -11,6 +11,8 @@ use Rattle.quantity.specs.declared.Rad.{Rad}
 use Rattle.quantity.specs.rules.Answer.{answered, refused, Pair, plus}
 use Rattle.quantity.specs.rules.Refusal.{angleRefusal, latitudeRefusal}
 use Rattle.quantity.specs.rules.Angle.{HALF, rad}
+use Rattle.edition.specs.declared.Edition.{Edition}
+use Rattle.edition.specs.declared.Edition.the-variants.{Crate, Published}
 use Rattle.elementary.specs.rules.Direction.{directionOf}
 use Rattle.elementary.specs.rules.Sine.{sineOf, cosineOf, farthestAlone}
 use Rattle.elementary_arc.specs.rules.Arctangent.{arctangentIn}
@@ -21,7 +23,7 @@ use Rattle.precess.specs.declared.EqTurns.{EqTurns}
 use Rattle.precess.specs.rules.Numbers.{n2306·2181, n1·39656, n0·000139, n0·30188, n0·000344, n0·017998, n1·09468, n0·000066, n0·018203, n0·000217, n2004·3109, n0·8533, n0·42665, n0·041833, n2304·25, n1·396, n0·302, n0·018, n0·791, n0·001, n2004·682, n0·853, n0·426, n0·042}
 use Rattle.precess.specs.rules.Days.{spanOf, daysRefusal, placeRefusal}
 use Rattle.precess.specs.rules.Equatorial.{eqXi, eqZeta, eqTheta, turnsOf, eqTurnsOf, placed, turnedIn, precessEqCoordsRule}
-use Rattle.precess.specs.rules.Fk4.{fk4Century, fk4Span, fk4Xi, fk4Zeta, fk4Theta, degreesAsRadians, fk4TurnsOf, precessEqCoordsFK5Rule}
+use Rattle.precess.specs.rules.Fk4.{fk4Century, fk4Span, fk4Xi, fk4Zeta, fk4Theta, degreesAsRadians, fk4Angle, fk4TurnsOf, precessEqCoordsFK5Rule}
 use Rattle.domain_accepted.specs.laws.Accepted.{angle-between, latitude-sine, latitude-cosine}
 use Rattle.domain_accepted.specs.notions.Outcome.{Outcome, Seven}
 use Rattle.domain_accepted.specs.notions.Within.{Within, IsPlace, BothFinite}
@@ -43,18 +45,24 @@ module _ (c t : Float) (C : Within 20 c) (S : Within 41 t) where
       within 1024
       ((sharedExpr ⊞ known S ⊠ known S ⊠ ((con (arc n0·30188) ⊟ known C ⊠ con (arc n0·000344)) ⊞ known S ⊠ con (arc n0·017998))) ⊠ con degree) tt
 
-  zeta-within : Within 32 (radiansOf (eqZeta c t) .0)
-  unfolding eqZeta isFinite le neg add sub mul div ofBits round
-  zeta-within =
-      within 32
-      ((sharedExpr ⊞ known S ⊠ known S ⊠ ((con (arc n1·09468) ⊟ known C ⊠ con (arc n0·000066)) ⊞ known S ⊠ con (arc n0·018203))) ⊠ con degree) tt
+  -- by what the editions have otherwise
+  abbrev zetaExpr : Expr → Expr
+  zetaExpr z = (sharedExpr ⊞ known S ⊠ known S ⊠ (z ⊞ known S ⊠ con (arc n0·018203))) ⊠ con degree
 
-  theta-within : Within 2048 (radiansOf (eqTheta c t) .0)
-  unfolding eqTheta isFinite le neg add sub mul div ofBits round
-  theta-within =
+  zeta-within : (e : Edition) → Within 32 (radiansOf (eqZeta e c t) .0)
+  unfolding eqZeta isFinite le neg add sub mul div ofBits round
+  zeta-within Crate = within 32 (zetaExpr (con (arc n1·09468) ⊟ known C ⊠ con (arc n0·000066))) tt
+  zeta-within Published = within 32 (zetaExpr (con (arc n1·09468) ⊞ known C ⊠ con (arc n0·000066))) tt
+
+  abbrev thetaExpr : Float → Expr
+  thetaExpr x =
       let y = known C ⊠ con (arc n0·000217) in
-      within 2048
-      (known S ⊠ (con (arc n2004·3109) ⊞ known C ⊠ (con (arc n0·8533) ⊟ y) ⊟ known S ⊠ ((con (arc n0·42665) ⊞ y) ⊞ known S ⊠ con (arc n0·041833))) ⊠ con degree) tt
+      known S ⊠ (con (arc n2004·3109) ⊞ known C ⊠ (con x ⊟ y) ⊟ known S ⊠ ((con (arc n0·42665) ⊞ y) ⊞ known S ⊠ con (arc n0·041833))) ⊠ con degree
+
+  theta-within : (e : Edition) → Within 2048 (radiansOf (eqTheta e c t) .0)
+  unfolding eqTheta isFinite le neg add sub mul div ofBits round
+  theta-within Crate = within 2048 (thetaExpr (arc n0·8533)) tt
+  theta-within Published = within 2048 (thetaExpr (neg (arc n0·8533))) tt
 
 module _ (c t : Float) (C : Within 41 c) (S : Within 41 t) where
   fk4-xi-within : Within 30 (fk4Xi c t .0)
@@ -74,12 +82,28 @@ module _ (c t : Float) (C : Within 41 c) (S : Within 41 t) where
       within 2048
       (known S ⊠ (con (arc n2004·682) ⊟ known C ⊠ con (arc n0·853) ⊟ known S ⊠ (con (arc n0·426) ⊞ known S ⊠ con (arc n0·042)))) tt
 
+  -- each of them, taken for radians or converted
+  fk4-xi-near : (e : Edition) → Within 1024 (fk4Angle e (fk4Xi c t) .0)
+  unfolding fk4Angle degreesAsRadians isFinite le neg mul ofBits round
+  fk4-xi-near Crate = within 1024 (known fk4-xi-within) tt
+  fk4-xi-near Published = within 1024 (known fk4-xi-within ⊠ con degree) tt
+
+  fk4-zeta-near : (e : Edition) → Within 32 (fk4Angle e (fk4Zeta (fk4Xi c t) t) .0)
+  unfolding fk4Angle degreesAsRadians isFinite le neg mul ofBits round
+  fk4-zeta-near Crate = fk4-zeta-within
+  fk4-zeta-near Published = within 32 (known fk4-zeta-within ⊠ con degree) tt
+
+  fk4-theta-near : (e : Edition) → Within 2048 (fk4Angle e (fk4Theta c t) .0)
+  unfolding fk4Angle degreesAsRadians isFinite le neg mul ofBits round
+  fk4-theta-near Crate = fk4-theta-within
+  fk4-theta-near Published = within 2048 (known fk4-theta-within ⊠ con degree) tt
+
 turns-near : (xi zeta theta : Rad) → Within 1024 (xi .0) → Within 32 (zeta .0) → Within 2048 (theta .0)
     → EqTurnsNear (turnsOf xi zeta theta)
 unfolding turnsOf
 turns-near xi zeta theta X Z T = record { xi = X; zeta = Z; sine = near-sine theta T; cosine = near-cosine theta T }
 
-module _ (day1 day2 : Float) (none : daysRefusal day1 day2 ≡ 0) where
+module _ (e : Edition) (day1 day2 : Float) (none : daysRefusal day1 day2 ≡ 0) where
   century : Within 20 (centuryOf day1)
   century = century-within day1 (first-accepted day1 day2 none)
 
@@ -92,33 +116,32 @@ module _ (day1 day2 : Float) (none : daysRefusal day1 day2 ≡ 0) where
   fk4-span : Within 41 (fk4Span day1 day2)
   fk4-span = fk4-span-within day1 day2 none
 
-  pub eq-turns-near : EqTurnsNear (eqTurnsOf day1 day2)
+  pub eq-turns-near : EqTurnsNear (eqTurnsOf e day1 day2)
   unfolding eqTurnsOf
   eq-turns-near =
       let c = centuryOf day1 in
       let t = spanOf day1 day2 in
-      turns-near (radiansOf (eqXi c t)) (radiansOf (eqZeta c t)) (radiansOf (eqTheta c t)) (xi-within c t century span)
-      (zeta-within c t century span) (theta-within c t century span)
+      turns-near (radiansOf (eqXi c t)) (radiansOf (eqZeta e c t)) (radiansOf (eqTheta e c t)) (xi-within c t century span)
+      (zeta-within c t century span e) (theta-within c t century span e)
 
-  pub fk4-turns-near : EqTurnsNear (fk4TurnsOf day1 day2)
-  unfolding fk4TurnsOf degreesAsRadians isFinite le neg round
+  pub fk4-turns-near : EqTurnsNear (fk4TurnsOf e day1 day2)
+  unfolding fk4TurnsOf
   fk4-turns-near =
       let c = fk4Century day1 in
       let t = fk4Span day1 day2 in
-      let xi = degreesAsRadians (fk4Xi c t) in
-      turns-near xi (degreesAsRadians (fk4Zeta (fk4Xi c t) t)) (degreesAsRadians (fk4Theta c t))
-      (within 1024 (known (fk4-xi-within c t fk4-century fk4-span)) tt) (fk4-zeta-within c t fk4-century fk4-span) (fk4-theta-within c t fk4-century fk4-span)
+      turns-near (fk4Angle e (fk4Xi c t)) (fk4Angle e (fk4Zeta (fk4Xi c t) t)) (fk4Angle e (fk4Theta c t))
+      (fk4-xi-near c t fk4-century fk4-span e) (fk4-zeta-near c t fk4-century fk4-span e) (fk4-theta-near c t fk4-century fk4-span e)
 
   -- the third angle goes into a sine
-  pub theta-far : size (radiansOf (eqTheta (centuryOf day1) (spanOf day1 day2)) .0) ≼ farthestAlone
+  pub theta-far : size (radiansOf (eqTheta e (centuryOf day1) (spanOf day1 day2)) .0) ≼ farthestAlone
   theta-far =
-      near-far (radiansOf (eqTheta (centuryOf day1) (spanOf day1 day2)) .0)
-      (theta-within (centuryOf day1) (spanOf day1 day2) century span)
+      near-far (radiansOf (eqTheta e (centuryOf day1) (spanOf day1 day2)) .0)
+      (theta-within (centuryOf day1) (spanOf day1 day2) century span e)
 
-  pub fk4-theta-far : size (fk4Theta (fk4Century day1) (fk4Span day1 day2) .0) ≼ farthestAlone
+  pub fk4-theta-far : size (fk4Angle e (fk4Theta (fk4Century day1) (fk4Span day1 day2)) .0) ≼ farthestAlone
   fk4-theta-far =
-      near-far (fk4Theta (fk4Century day1) (fk4Span day1 day2) .0)
-      (fk4-theta-within (fk4Century day1) (fk4Span day1 day2) fk4-century fk4-span)
+      near-far (fk4Angle e (fk4Theta (fk4Century day1) (fk4Span day1 day2)) .0)
+      (fk4-theta-near (fk4Century day1) (fk4Span day1 day2) fk4-century fk4-span e)
 
 -- ---- a place after the turns
 
@@ -149,36 +172,36 @@ module _ (asc dec : Rad) (turns : EqTurns) (A : angleRefusal asc ≡ 0) (D : lat
 
 -- ---- the two functions
 
-module _ (asc dec : Rad) (day1 day2 : Float) where
-  eq-outcome : placeRefusal asc dec day1 day2 ≡ 0 → Outcome IsPlace Seven (turnedIn asc dec (eqTurnsOf day1 day2))
+module _ (edition : Edition) (asc dec : Rad) (day1 day2 : Float) where
+  eq-outcome : placeRefusal asc dec day1 day2 ≡ 0 → Outcome IsPlace Seven (turnedIn asc dec (eqTurnsOf edition day1 day2))
   eq-outcome e =
       let n = place-accepted asc dec day1 day2 e in
-      turned-outcome asc dec (eqTurnsOf day1 day2) (n .0) (n .1) (eq-turns-near day1 day2 (n .2))
+      turned-outcome asc dec (eqTurnsOf edition day1 day2) (n .0) (n .1) (eq-turns-near edition day1 day2 (n .2))
 
-  fk4-outcome : placeRefusal asc dec day1 day2 ≡ 0 → Outcome IsPlace Seven (turnedIn asc dec (fk4TurnsOf day1 day2))
+  fk4-outcome : placeRefusal asc dec day1 day2 ≡ 0 → Outcome IsPlace Seven (turnedIn asc dec (fk4TurnsOf edition day1 day2))
   fk4-outcome e =
       let n = place-accepted asc dec day1 day2 e in
-      turned-outcome asc dec (fk4TurnsOf day1 day2) (n .0) (n .1) (fk4-turns-near day1 day2 (n .2))
+      turned-outcome asc dec (fk4TurnsOf edition day1 day2) (n .0) (n .1) (fk4-turns-near edition day1 day2 (n .2))
 
-  pub precess-eq-coords-answers : (p : Pair) → precessEqCoordsRule asc dec day1 day2 ≡ answered p → IsPlace p
-  precess-eq-coords-answers = rule-answers (placeRefusal asc dec day1 day2) (turnedIn asc dec (eqTurnsOf day1 day2)) eq-outcome
+  pub precess-eq-coords-answers : (p : Pair) → precessEqCoordsRule edition asc dec day1 day2 ≡ answered p → IsPlace p
+  precess-eq-coords-answers = rule-answers (placeRefusal asc dec day1 day2) (turnedIn asc dec (eqTurnsOf edition day1 day2)) eq-outcome
 
-  pub precess-eq-coords-finite : (p : Pair) → precessEqCoordsRule asc dec day1 day2 ≡ answered p → BothFinite p
+  pub precess-eq-coords-finite : (p : Pair) → precessEqCoordsRule edition asc dec day1 day2 ≡ answered p → BothFinite p
   precess-eq-coords-finite p e =
       let i = precess-eq-coords-answers p e in
       (i .0 .finite, i .1 .finite)
 
-  pub precess-eq-coords-refuses : placeRefusal asc dec day1 day2 ≡ 0 → (n : ℕ) → precessEqCoordsRule asc dec day1 day2 ≡ refused n → n ≡ 7
-  precess-eq-coords-refuses = rule-refuses (placeRefusal asc dec day1 day2) (turnedIn asc dec (eqTurnsOf day1 day2)) eq-outcome
+  pub precess-eq-coords-refuses : placeRefusal asc dec day1 day2 ≡ 0 → (n : ℕ) → precessEqCoordsRule edition asc dec day1 day2 ≡ refused n → n ≡ 7
+  precess-eq-coords-refuses = rule-refuses (placeRefusal asc dec day1 day2) (turnedIn asc dec (eqTurnsOf edition day1 day2)) eq-outcome
 
-  pub precess-eq-coords-fk5-answers : (p : Pair) → precessEqCoordsFK5Rule asc dec day1 day2 ≡ answered p → IsPlace p
-  precess-eq-coords-fk5-answers = rule-answers (placeRefusal asc dec day1 day2) (turnedIn asc dec (fk4TurnsOf day1 day2)) fk4-outcome
+  pub precess-eq-coords-fk5-answers : (p : Pair) → precessEqCoordsFK5Rule edition asc dec day1 day2 ≡ answered p → IsPlace p
+  precess-eq-coords-fk5-answers = rule-answers (placeRefusal asc dec day1 day2) (turnedIn asc dec (fk4TurnsOf edition day1 day2)) fk4-outcome
 
-  pub precess-eq-coords-fk5-finite : (p : Pair) → precessEqCoordsFK5Rule asc dec day1 day2 ≡ answered p → BothFinite p
+  pub precess-eq-coords-fk5-finite : (p : Pair) → precessEqCoordsFK5Rule edition asc dec day1 day2 ≡ answered p → BothFinite p
   precess-eq-coords-fk5-finite p e =
       let i = precess-eq-coords-fk5-answers p e in
       (i .0 .finite, i .1 .finite)
 
   pub precess-eq-coords-fk5-refuses : placeRefusal asc dec day1 day2 ≡ 0 → (n : ℕ)
-      → precessEqCoordsFK5Rule asc dec day1 day2 ≡ refused n → n ≡ 7
-  precess-eq-coords-fk5-refuses = rule-refuses (placeRefusal asc dec day1 day2) (turnedIn asc dec (fk4TurnsOf day1 day2)) fk4-outcome
+      → precessEqCoordsFK5Rule edition asc dec day1 day2 ≡ refused n → n ≡ 7
+  precess-eq-coords-fk5-refuses = rule-refuses (placeRefusal asc dec day1 day2) (turnedIn asc dec (fk4TurnsOf edition day1 day2)) fk4-outcome

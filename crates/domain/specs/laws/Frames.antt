@@ -3,7 +3,7 @@
 use Prim.Native.Nat.{ℕ}
 use mathlib.Core.Path.{_≡_, refl}
 use lib.Ieee.{Float, neg, add, sub, mul, le, ofBits, round}
-use Rattle.double.specs.rules.Operations.{_⊕_, _⊖_, _⊗_}
+use Rattle.double.specs.rules.Operations.{one, _⊕_, _⊖_, _⊗_}
 use Rattle.double.specs.rules.Sign.{size, isFinite}
 use Rattle.double.specs.rules.Order.{_≼_, Finite, Between}
 use Rattle.double.specs.notions.Range.{known, con, _⊞_, _⊟_, _⊠_}
@@ -12,6 +12,9 @@ use Rattle.quantity.specs.declared.Rad.{Rad}
 use Rattle.quantity.specs.rules.Angle.{rad, PI, HALF}
 use Rattle.quantity.specs.rules.Answer.{answered, unless, addedTo, takenFrom}
 use Rattle.quantity.specs.rules.Refusal.{angleRefusal, latitudeRefusal, steepRefusal}
+use Rattle.edition.specs.declared.Edition.{Edition}
+use Rattle.edition.specs.declared.Edition.the-variants.{Crate, Published}
+use Rattle.edition.specs.rules.Edition.{chosen}
 use Rattle.elementary.specs.rules.Fold.{fold}
 use Rattle.elementary.specs.rules.Sine.{sineOf, cosineOf, tangentOf, farthestAlone}
 use Rattle.elementary_arc.specs.rules.Arctangent.{arctangentIn}
@@ -139,16 +142,22 @@ hr-angl-frm-hz-finite z a p v answer =
     let n = none-of-three (angleRefusal z) (steepRefusal a) (latitudeRefusal p) none in
     (within 32768 (known (angle-sine z (n .0))) tt .finite, within 32768 (known (angle-cosine z (n .0)) ⊠ known (latitude-sine p (n .2)) ⊞ known (steep-tangent a (n .1)) ⊠ known (latitude-cosine p (n .2))) tt .finite))
 
-pub dec-frm-hz-at-most-quarter-turn : (z a p v : Rad) → decFrmHzRule z a p ≡ answered v → size (v .0) ≼ HALF
+-- the cosine that the editions have otherwise
+either-cosine : (e : Edition) (z a : Rad) → angleRefusal z ≡ 0 → latitudeRefusal a ≡ 0
+    → Between (neg one) one (chosen e (cosineOf z) (cosineOf a))
+either-cosine Crate z a Z A = angle-cosine z Z
+either-cosine Published z a Z A = latitude-cosine a A
+
+pub dec-frm-hz-at-most-quarter-turn : (e : Edition) (z a p v : Rad) → decFrmHzRule e z a p ≡ answered v → size (v .0) ≼ HALF
 unfolding decFrmHzIn isFinite le neg add sub mul ofBits round
-dec-frm-hz-at-most-quarter-turn z a p v answer =
-    of-arcsine (skyRefusal z a p) (sineOf p ⊗ sineOf a ⊖ cosineOf p ⊗ cosineOf z ⊗ cosineOf z) v answer
+dec-frm-hz-at-most-quarter-turn e z a p v answer =
+    of-arcsine (skyRefusal z a p) (sineOf p ⊗ sineOf a ⊖ cosineOf p ⊗ chosen e (cosineOf z) (cosineOf a) ⊗ cosineOf z) v answer
     (λ none.
     let n = none-of-three (angleRefusal z) (latitudeRefusal a) (latitudeRefusal p) none in
-    within 32768 (known (latitude-sine p (n .2)) ⊠ known (latitude-sine a (n .1)) ⊟ known (latitude-cosine p (n .2)) ⊠ known (angle-cosine z (n .0)) ⊠ known (angle-cosine z (n .0))) tt .finite)
+    within 32768 (known (latitude-sine p (n .2)) ⊠ known (latitude-sine a (n .1)) ⊟ known (latitude-cosine p (n .2)) ⊠ known (either-cosine e z a (n .0) (n .1)) ⊠ known (angle-cosine z (n .0))) tt .finite)
 
-pub dec-frm-hz-finite : (z a p v : Rad) → decFrmHzRule z a p ≡ answered v → Finite (v .0)
-dec-frm-hz-finite z a p v answer = finite-of-quarter-turn v (dec-frm-hz-at-most-quarter-turn z a p v answer)
+pub dec-frm-hz-finite : (e : Edition) (z a p v : Rad) → decFrmHzRule e z a p ≡ answered v → Finite (v .0)
+dec-frm-hz-finite e z a p v answer = finite-of-quarter-turn v (dec-frm-hz-at-most-quarter-turn e z a p v answer)
 
 -- ---- equatorial and galactic: the three angles that go into a sine, then the functions
 

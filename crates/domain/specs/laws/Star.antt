@@ -8,6 +8,7 @@ use Rattle.double.specs.rules.Order.{Finite}
 use Rattle.double.specs.laws.Between.{finite-zero}
 use Rattle.quantity.specs.rules.Answer.{Answer, answered, refused, Pair, statusOf}
 use Rattle.quantity.specs.laws.Steps.{refused-not-answered}
+use Rattle.edition.specs.declared.Edition.{Edition}
 use Rattle.precess.specs.rules.Days.{daysRefusal}
 use Rattle.chain.specs.rules.Chain.{chainRule}
 use Rattle.list.specs.declared.Star.{Star}
@@ -27,23 +28,23 @@ finite-of-an-answer : (a : Answer Pair) → ((v : Pair) → a ≡ answered v →
 finite-of-an-answer (answered v) h = h v refl
 finite-of-an-answer (refused n) h = (finite-zero, finite-zero)
 
-pub star-angles-finite : (star : Star) (day1 day2 : Float)
-    → Finite (firstOf (starRule star day1 day2)) × Finite (secondOf (starRule star day1 day2))
+pub star-angles-finite : (edition : Edition) (star : Star) (day1 day2 : Float)
+    → Finite (firstOf (starRule edition star day1 day2)) × Finite (secondOf (starRule edition star day1 day2))
 unfolding starRule
-star-angles-finite star day1 day2 = finite-of-an-answer (starRule star day1 day2) (by-range (inRange star))
+star-angles-finite edition star day1 day2 = finite-of-an-answer (starRule edition star day1 day2) (by-range (inRange star))
   where
-    by-range : (b : Bool) (v : Pair) → cond b (chainRule (ascOf star) (decOf star) day1 day2) (refused 9) ≡ answered v → BothFinite v
-    by-range true v e = chain-finite (ascOf star) (decOf star) day1 day2 v e
+    by-range : (b : Bool) (v : Pair) → cond b (chainRule edition (ascOf star) (decOf star) day1 day2) (refused 9) ≡ answered v → BothFinite v
+    by-range true v e = chain-finite edition (ascOf star) (decOf star) day1 day2 v e
     by-range false v e = absurd (refused-not-answered e)
 
-module _ (star : Star) (day1 day2 : Float) (days : daysRefusal day1 day2 ≡ 0) where
-  pub star-status : OfAStar (statusOf (starRule star day1 day2))
+module _ (edition : Edition) (star : Star) (day1 day2 : Float) (days : daysRefusal day1 day2 ≡ 0) where
+  pub star-status : OfAStar (statusOf (starRule edition star day1 day2))
   unfolding starRule
   star-status = by-range (inRange star) (λ e. e)
     where
       by-range : (b : Bool) → (b ≡ true → inRange star ≡ true)
-          → OfAStar (statusOf (cond b (chainRule (ascOf star) (decOf star) day1 day2) (refused 9)))
+          → OfAStar (statusOf (cond b (chainRule edition (ascOf star) (decOf star) day1 day2) (refused 9)))
       by-range true r =
-          of-an-answer (chainRule (ascOf star) (decOf star) day1 day2)
-          (chain-refuses (ascOf star) (decOf star) day1 day2 (place-taken star day1 day2 days (r refl)))
+          of-an-answer (chainRule edition (ascOf star) (decOf star) day1 day2)
+          (chain-refuses edition (ascOf star) (decOf star) day1 day2 (place-taken star day1 day2 days (r refl)))
       by-range false r = inr (inr (inr refl))

@@ -14,20 +14,23 @@ use Rattle.quantity.specs.declared.GeographPoint.{GeographPoint}
 use Rattle.quantity.specs.rules.Answer.{answered, refused, Pair, first, second, Triple, triple, then}
 use Rattle.quantity.specs.rules.Refusal.{lower, angleRefusal, latitudeRefusal}
 use Rattle.quantity.specs.rules.Angle.{rad}
+use Rattle.edition.specs.declared.Edition.{Edition}
+use Rattle.edition.specs.declared.Edition.the-variants.{Crate, Published}
 use Rattle.elementary.specs.rules.Fold.{fold}
 use Rattle.elementary.specs.rules.Sine.{sineOf, cosineOf, farthestAlone}
+use Rattle.elementary_arc.specs.rules.Arctangent.{arctangentIn}
 use Rattle.elementary_arc.specs.rules.Arcsine.{arcsineIn}
 use Rattle.elementary.specs.laws.Accepted.{lower-none}
 use Rattle.helpers.specs.rules.Angle.{withinTwoPI}
 use Rattle.helpers.specs.rules.Earth.{rhoIn}
 use Rattle.helpers.specs.laws.Limit.{limited-radians}
 use Rattle.parallax.specs.rules.Observer.{centreOf, observerRefusal}
-use Rattle.parallax_ecl.specs.rules.Ecliptic.{nearby, longTop, latTop, semidiameterIn, eclipticFrom, eclipticAlong, eclipticAt, eclipticIn, topopcentRefusal, topopcentEclCoordsRule}
+use Rattle.parallax_ecl.specs.rules.Ecliptic.{nearby, longTop, upward, latOfCrate, latPublished, latTop, semidiameterIn, eclipticFrom, eclipticAlong, eclipticAt, eclipticIn, topopcentRefusal, topopcentEclCoordsRule}
 use Rattle.domain_accepted.specs.laws.Accepted.{angle-sine, angle-cosine, latitude-sine, latitude-cosine}
 use Rattle.domain_accepted.specs.notions.Outcome.{Outcome, SixOrSeven}
 use Rattle.domain_accepted.specs.notions.Within.{Angle, Within, AllFinite}
-use Rattle.domain_accepted.specs.laws.Outcome.{outcome-answered, outcome-refused, outcome-cond, outcome-then, rule-answers, rule-refuses}
-use Rattle.domain_accepted.specs.laws.Elementary.{arcsine-number-outcome, quotient-not-nan}
+use Rattle.domain_accepted.specs.laws.Outcome.{outcome-answered, outcome-refused, outcome-cond, outcome-then, outcome-wider, rule-answers, rule-refuses}
+use Rattle.domain_accepted.specs.laws.Elementary.{arctangent-number-outcome, arcsine-number-outcome, quotient-not-nan}
 use Rattle.domain_accepted.specs.laws.Near.{within, near-far, near-cosine}
 use Rattle.domain.specs.laws.Earth.{rho-outcome}
 use Rattle.domain.specs.laws.Observer.{observer-accepted, arctangent-near}
@@ -54,6 +57,17 @@ module _ (rs rc : Float) (p l b s e m : Rad) (RS : Within 2 rs) (RC : Within 2 r
       ⊟ known (angle-sine p P) ⊠ (known RS ⊠ known (angle-sine e E) ⊞ known RC ⊠ known (angle-cosine e E) ⊠ known (angle-sine s S))) tt)
       n-within
 
+  -- what the latitude's arctangent goes by
+  abbrev up : Float
+  up = sineOf b ⊖ sineOf p ⊗ (rs ⊗ cosineOf e ⊖ rc ⊗ sineOf e ⊗ sineOf s)
+
+  up-within : Within 512 up
+  unfolding isFinite le neg add sub mul ofBits round
+  up-within =
+      within 512
+      (known (latitude-sine b B)
+      ⊟ known (angle-sine p P) ⊠ (known RS ⊠ known (angle-cosine e E) ⊟ known RC ⊠ known (angle-sine e E) ⊠ known (angle-sine s S))) tt
+
   -- the longitude goes into a cosine
   pub long-far : (long : Rad) → longTop (centreOf rs rc p) (fold l) (fold b) (fold s) (fold e) n ≡ answered long
       → size (long .0) ≼ farthestAlone
@@ -66,19 +80,18 @@ module _ (rs rc : Float) (p l b s e m : Rad) (RS : Within 2 rs) (RC : Within 2 r
     G-cosine : Between (neg one) one cosLong
     G-cosine = near-cosine long G
 
-    lat-outcome : Outcome (Angle (Within 2048)) SixOrSeven (latTop (centreOf rs rc p) (fold b) (fold s) (fold e) cosLong n)
-    unfolding latTop centreOf isFinite le neg add sub mul ofBits round
-    lat-outcome =
-        arctangent-near (cosLong ⊗ (sineOf b ⊖ sineOf p ⊗ (rs ⊗ cosineOf e ⊖ rc ⊗ sineOf e ⊗ sineOf s))) n
-        (within 1024
-        (known G-cosine ⊠ (known (latitude-sine b B)
-        ⊟ known (angle-sine p P) ⊠ (known RS ⊠ known (angle-cosine e E) ⊟ known RC ⊠ known (angle-sine e E) ⊠ known (angle-sine s S)))) tt)
-        n-within
+    lat-outcome : (edition : Edition) → Outcome (Angle (Within 2048)) SixOrSeven (latTop edition up cosLong n)
+    unfolding latTop latOfCrate latPublished isFinite le neg mul ofBits round
+    lat-outcome Crate = arctangent-near (cosLong ⊗ up) n (within 1024 (known G-cosine ⊠ known up-within) tt) n-within
+    lat-outcome Published =
+        outcome-cond (eq cosLong zero) (refused 6) (arctangentIn up (n ⊘ cosLong)) (outcome-refused 6 (inl refl))
+        (λ not-zero.
+        outcome-wider (λ v i. within 2048 (known i) tt)
+        (arctangent-number-outcome up (n ⊘ cosLong) (up-within .finite) (quotient-not-nan n cosLong (n-within .finite) (G-cosine .finite) not-zero)))
 
     -- the latitude goes into a cosine
-    pub lat-far : (lat : Rad) → latTop (centreOf rs rc p) (fold b) (fold s) (fold e) cosLong n ≡ answered lat
-        → size (lat .0) ≼ farthestAlone
-    lat-far lat answer = near-far (lat .0) (lat-outcome .answers lat answer)
+    pub lat-far : (edition : Edition) (lat : Rad) → latTop edition up cosLong n ≡ answered lat → size (lat .0) ≼ farthestAlone
+    lat-far edition lat answer = near-far (lat .0) (lat-outcome edition .answers lat answer)
 
     module _ (not-zero : NonZero n) where
       from-outcome : (lat : Rad) → Within 2048 (lat .0) → Outcome AllFinite SixOrSeven (eclipticFrom long cosLong lat m n)
@@ -91,26 +104,25 @@ module _ (rs rc : Float) (p l b s e m : Rad) (RS : Within 2 rs) (RC : Within 2 r
           (arcsine-number-outcome (inr refl) (top ⊘ n)
           (quotient-not-nan top n (within 2 (known G-cosine ⊠ known (near-cosine lat T) ⊠ known (angle-sine m M)) tt .finite) (n-within .finite) not-zero))
 
-      along-outcome : Outcome AllFinite SixOrSeven (eclipticAlong (centreOf rs rc p) (fold b) (fold s) (fold e) long m n)
+      along-outcome : (edition : Edition) → Outcome AllFinite SixOrSeven (eclipticAlong edition up long m n)
       unfolding eclipticAlong
-      along-outcome =
-          outcome-then (λ (lat : Rad). eclipticFrom long cosLong lat m n) from-outcome
-          (latTop (centreOf rs rc p) (fold b) (fold s) (fold e) cosLong n) lat-outcome
+      along-outcome edition =
+          outcome-then (λ (lat : Rad). eclipticFrom long cosLong lat m n) from-outcome (latTop edition up cosLong n) (lat-outcome edition)
 
-  at-outcome : Outcome AllFinite SixOrSeven (eclipticAt (centreOf rs rc p) (fold l) (fold b) (fold s) (fold e) m)
-  unfolding eclipticAt nearby centreOf
-  at-outcome =
+  at-outcome : (edition : Edition) → Outcome AllFinite SixOrSeven (eclipticAt edition (centreOf rs rc p) (fold l) (fold b) (fold s) (fold e) m)
+  unfolding eclipticAt nearby upward centreOf
+  at-outcome edition =
       let c = centreOf rs rc p in
       let top = longTop c (fold l) (fold b) (fold s) (fold e) n in
-      outcome-cond (eq n zero) (refused 6) (then top (λ (long : Rad). eclipticAlong c (fold b) (fold s) (fold e) long m n))
+      outcome-cond (eq n zero) (refused 6) (then top (λ (long : Rad). eclipticAlong edition up long m n))
       (outcome-refused 6 (inl refl))
       (λ not-zero.
-      outcome-then (λ (long : Rad). eclipticAlong c (fold b) (fold s) (fold e) long m n)
-      (λ long G. along-outcome long G not-zero) top long-outcome)
+      outcome-then (λ (long : Rad). eclipticAlong edition up long m n)
+      (λ long G. along-outcome long G not-zero edition) top long-outcome)
 
 -- ---- the function
 
-module _ (q : EclPoint) (parallax : Rad) (place : GeographPoint) (height : Float) (sidereal oblq semidiameter : Rad) where
+module _ (edition : Edition) (q : EclPoint) (parallax : Rad) (place : GeographPoint) (height : Float) (sidereal oblq semidiameter : Rad) where
   abbrev long : Rad
   long = rad (q .long)
 
@@ -118,7 +130,7 @@ module _ (q : EclPoint) (parallax : Rad) (place : GeographPoint) (height : Float
   lat = rad (q .lat)
 
   outcome : topopcentRefusal q parallax place height sidereal oblq semidiameter ≡ 0
-      → Outcome AllFinite SixOrSeven (eclipticIn q parallax place height sidereal oblq semidiameter)
+      → Outcome AllFinite SixOrSeven (eclipticIn edition q parallax place height sidereal oblq semidiameter)
   unfolding eclipticIn
   outcome none =
       let first-two = lower (angleRefusal long) (latitudeRefusal lat) in
@@ -129,18 +141,18 @@ module _ (q : EclPoint) (parallax : Rad) (place : GeographPoint) (height : Float
       let d = lower-none (angleRefusal long) (latitudeRefusal lat) (c .0) in
       let f = lower-none (angleRefusal oblq) (angleRefusal semidiameter) (c .1) in
       outcome-then
-      (λ (rho : Pair). eclipticAt (centreOf (first rho) (second rho) parallax) (fold long) (fold lat) (fold sidereal) (fold oblq) semidiameter)
-      (λ rho R. at-outcome (first rho) (second rho) parallax long lat sidereal oblq semidiameter (R .0) (R .1) (o .0) (d .0) (d .1) (o .1) (f .0) (f .1))
+      (λ (rho : Pair). eclipticAt edition (centreOf (first rho) (second rho) parallax) (fold long) (fold lat) (fold sidereal) (fold oblq) semidiameter)
+      (λ rho R. at-outcome (first rho) (second rho) parallax long lat sidereal oblq semidiameter (R .0) (R .1) (o .0) (d .0) (d .1) (o .1) (f .0) (f .1) edition)
       (rhoIn (rad (place .lat)) height) (rho-outcome (rad (place .lat)) height (o .3) (o .4))
 
   pub topopcent-ecl-coords-finite : (t : Triple)
-      → topopcentEclCoordsRule q parallax place height sidereal oblq semidiameter ≡ answered t → AllFinite t
+      → topopcentEclCoordsRule edition q parallax place height sidereal oblq semidiameter ≡ answered t → AllFinite t
   topopcent-ecl-coords-finite =
       rule-answers (topopcentRefusal q parallax place height sidereal oblq semidiameter)
-      (eclipticIn q parallax place height sidereal oblq semidiameter) outcome
+      (eclipticIn edition q parallax place height sidereal oblq semidiameter) outcome
 
   pub topopcent-ecl-coords-refuses : topopcentRefusal q parallax place height sidereal oblq semidiameter ≡ 0 → (k : ℕ)
-      → topopcentEclCoordsRule q parallax place height sidereal oblq semidiameter ≡ refused k → SixOrSeven k
+      → topopcentEclCoordsRule edition q parallax place height sidereal oblq semidiameter ≡ refused k → SixOrSeven k
   topopcent-ecl-coords-refuses =
       rule-refuses (topopcentRefusal q parallax place height sidereal oblq semidiameter)
-      (eclipticIn q parallax place height sidereal oblq semidiameter) outcome
+      (eclipticIn edition q parallax place height sidereal oblq semidiameter) outcome

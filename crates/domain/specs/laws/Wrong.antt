@@ -18,6 +18,8 @@ use Rattle.quantity.specs.rules.Answer.{refused, statusOf}
 use Rattle.quantity.specs.rules.Refusal.{epoch}
 use Rattle.helpers.specs.rules.Angle.{degreesOfHour}
 use Rattle.helpers.specs.rules.Earth.{rhoIn}
+use Rattle.edition.specs.declared.Edition.{Edition}
+use Rattle.edition.specs.declared.Edition.the-variants.{Crate}
 use Rattle.precess.specs.rules.Days.{placeRefusal}
 use Rattle.precess.specs.rules.Equatorial.{precessEqCoordsRule}
 use Rattle.nutation_args.specs.rules.Sum.{summed, none}
@@ -40,10 +42,10 @@ unfolding computed fits
 hours-not-divided-excluded wrong = wrong greatest tt tt
 
 -- from 2451545.0 to 2465241.875, at the point that comes to the pole: an arcsine of the next double above 1.0
-pub precession-never-meets-seven-excluded : ¬ ((asc dec : Rad) (day1 day2 : Float) → placeRefusal asc dec day1 day2 ≡ 0 → (n : ℕ) → precessEqCoordsRule asc dec day1 day2 ≡ refused n → n ≡ 6)
+pub precession-never-meets-seven-excluded : ¬ ((e : Edition) (asc dec : Rad) (day1 day2 : Float) → placeRefusal asc dec day1 day2 ≡ 0 → (n : ℕ) → precessEqCoordsRule e asc dec day1 day2 ≡ refused n → n ≡ 6)
 unfolding computed
 precession-never-meets-seven-excluded wrong =
-    apart ofNumber refl (wrong (rad (bits 0xbf712cb6ca12d2de)) (rad (bits 0x3ff9130eb16ff8e6)) epoch (bits 0x4142ceecf0000000) refl 7 refl)
+    apart ofNumber refl (wrong Crate (rad (bits 0xbf712cb6ca12d2de)) (rad (bits 0x3ff9130eb16ff8e6)) epoch (bits 0x4142ceecf0000000) refl 7 refl)
 
 -- seen from the equator a body at the parallax of a quarter turn: N is 1.0 − 1.0
 abbrev point : EclPoint
@@ -52,9 +54,9 @@ point = record { long = zero; lat = zero }
 abbrev place : GeographPoint
 place = record { long = zero; lat = zero }
 
-pub ecliptic-never-meets-six-excluded : ¬ ((q : EclPoint) (parallax : Rad) (place : GeographPoint) (height : Float) (sidereal oblq semidiameter : Rad) → topopcentRefusal q parallax place height sidereal oblq semidiameter ≡ 0 → (k : ℕ) → topopcentEclCoordsRule q parallax place height sidereal oblq semidiameter ≡ refused k → k ≡ 7)
+pub ecliptic-never-meets-six-excluded : (e : Edition) → ¬ ((q : EclPoint) (parallax : Rad) (place : GeographPoint) (height : Float) (sidereal oblq semidiameter : Rad) → topopcentRefusal q parallax place height sidereal oblq semidiameter ≡ 0 → (k : ℕ) → topopcentEclCoordsRule e q parallax place height sidereal oblq semidiameter ≡ refused k → k ≡ 7)
 unfolding computed rhoIn centreOf observerRefusal nearby eclipticAt eclipticIn
-ecliptic-never-meets-six-excluded wrong =
+ecliptic-never-meets-six-excluded e wrong =
     apart ofNumber refl (wrong point (rad HALF) place zero (rad zero) (rad zero) (rad zero) refl 6 refl)
 
 -- the arguments all 0.0

@@ -1,15 +1,15 @@
 -- What arctangent, arcsine and root answer to numbers met in the work: 7 is the only refusal. Assumes nothing.
 use Prim.Native.Nat.{ℕ, _*_}
 use mathlib.Core.Path.{_≡_, refl, sym, ap, _∙_, subst}
-use mathlib.Core.Bool.{Bool, true, false, cond}
+use mathlib.Core.Bool.{Bool, true, false, cond, _&&_}
 use native.Mathlib.Nat.{zero-mul}
 use lib.IntN.{ℤ}
 use lib.Dec.{T, eqb, eqb→eq, T-not}
-use lib.Ieee.{Float, nan, inf, fin, Format, binary64, unlike, up, down, round, neg, mul, div, eq, lt, ofBits}
+use lib.Ieee.{Float, nan, inf, fin, Format, binary64, unlike, up, down, round, neg, add, sub, mul, div, eq, le, lt, ofBits}
 use lib.Ieee.Bits.{is-true}
 use lib.Ieee.Fits.{add-fits}
-use Rattle.double.specs.rules.Operations.{_⊕_, _⊗_, _⊘_}
-use Rattle.double.specs.rules.Sign.{size, isFinite}
+use Rattle.double.specs.rules.Operations.{zero, _⊕_, _⊖_, _⊗_, _⊘_}
+use Rattle.double.specs.rules.Sign.{bearsMinus, negatedIf, size, isFinite}
 use Rattle.double.specs.rules.Order.{isZero, NonZero, Finite, Plus, Between}
 use Rattle.double.specs.laws.Tests.{holds}
 use Rattle.double.specs.laws.Sign.{neg-neg, no-minus-of-plus}
@@ -21,7 +21,7 @@ use Rattle.quantity.specs.rules.Angle.{PI, HALF}
 use Rattle.root.specs.rules.Count.{IsFromZero}
 use Rattle.root.specs.rules.Root.{rootOf, rootRule}
 use Rattle.root.specs.laws.Root.{root-from-zero, root-answered}
-use Rattle.elementary_arc.specs.rules.Arctangent.{arctangentOf, arctangentIn}
+use Rattle.elementary_arc.specs.rules.Arctangent.{atn, base, turned, arctangentOf, arctangentIn}
 use Rattle.elementary_arc.specs.rules.Arcsine.{arcsineIn}
 use Rattle.elementary_arc.specs.laws.Arctangent.{arctangent-at-most-pi}
 use Rattle.elementary_arc.specs.laws.Arcsine.{arcsine-at-most-half, arcsine-refuses-seven}
@@ -37,6 +37,34 @@ unfolding arctangentIn
 arctangent-outcome y x p q =
     outcome-answered (arctangentOf y x)
     (size→between PI (arctangentOf y x .0) (unfold isFinite ofBits in tt) (arctangent-at-most-pi y x p q))
+
+-- the second argument may be an infinity: the angle is then zero or half a turn in size
+base-infinite : (m : ℕ) (e : ℤ) → base (fin false m e) (inf false) ≡ zero
+unfolding eq le div mul add ofBits round
+base-infinite m e = by-case (eq (fin false m e) zero)
+  where
+    by-case : (b : Bool) → cond (b && eq (inf false) zero) zero (cond (le (fin false m e) (inf false)) (atn (fin false m e ⊘ inf false)) (HALF ⊖ atn (inf false ⊘ fin false m e))) ≡ zero
+    by-case true = refl
+    by-case false = refl
+
+zero-or-pi : (s t : Bool) → Between (neg PI) PI (negatedIf s (size (turned t zero)))
+unfolding size neg isFinite le sub ofBits round
+zero-or-pi true true = size→between PI _ tt tt
+zero-or-pi true false = size→between PI _ tt tt
+zero-or-pi false true = size→between PI _ tt tt
+zero-or-pi false false = size→between PI _ tt tt
+
+pub arctangent-number-outcome : {Q : ℕ → Type 0} (y x : Float) → Finite y → (x ≡ nan → ⊥)
+    → Outcome (Angle (Between (neg PI) PI)) Q (arctangentIn y x)
+arctangent-number-outcome y nan p q = absurd (q refl)
+arctangent-number-outcome y (fin t m e) p q = arctangent-outcome y (fin t m e) p (unfold isFinite in tt)
+arctangent-number-outcome nan (inf t) p q = absurd (unfold isFinite in p)
+arctangent-number-outcome (inf s) (inf t) p q = absurd (unfold isFinite in p)
+arctangent-number-outcome (fin s m e) (inf t) p q =
+    unfold arctangentIn in
+    unfold arctangentOf bearsMinus size in
+    outcome-answered (arctangentOf (fin s m e) (inf t))
+    (subst (λ (b : Float). Between (neg PI) PI (negatedIf s (size (turned t b)))) (sym (base-infinite m e)) (zero-or-pi s t))
 
 -- ---- arcsine
 

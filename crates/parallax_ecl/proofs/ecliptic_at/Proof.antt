@@ -19,9 +19,10 @@ enum-known-k c = search needs
 returns-2 : tie.Need-returns-2
 unfolding eclipticAt
 returns-2 c =
-    let long = c .before .before .before .before in
+    let up = c .before in
+    let long = up .before .before .before .before in
     rw (← long .before .before .nearby .ensures, long .before .if1 .left)
-    (then-radians-answered _ (long .long-top .ensures) (c .before .before .long .given .1) (c .ecliptic-along .ensures))
+    (then-radians-answered _ (long .long-top .ensures) (up .before .before .long .given .1) (rw (up .upward .ensures) at (c .ecliptic-along .ensures)))
 
 returns-3 : tie.Need-returns-3
 unfolding eclipticAt
@@ -31,4 +32,4 @@ returns-3 c =
     (then-radians-refused _ (long .long-top .ensures) (c .before .k .given .1))
 
 pub ecliptic-at-spec : {M : Type 1} → statement M
-ecliptic-at-spec = tie.close (tie.spec asks-nothing returns asks-nothing enum-known-long asks-nothing enum-known-k returns-2 returns-3)
+ecliptic-at-spec = tie.close (tie.spec asks-nothing returns asks-nothing enum-known-long asks-nothing asks-nothing enum-known-k returns-2 returns-3)

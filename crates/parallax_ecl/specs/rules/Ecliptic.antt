@@ -1,4 +1,4 @@
--- Topocentric ecliptic coordinates (Meeus, chapter 40, with the crate's arctangent for the latitude):
+-- Topocentric ecliptic coordinates (Meeus, chapter 40; the crate's edition has another arctangent for the latitude):
 -- longitude l, latitude b, local sidereal time s and obliquity e, folded; n is N.
 use Prim.Native.Nat.{ℕ}
 use mathlib.Core.Bool.{cond}
@@ -10,6 +10,8 @@ use Rattle.quantity.specs.declared.GeographPoint.{GeographPoint}
 use Rattle.quantity.specs.rules.Angle.{rad}
 use Rattle.quantity.specs.rules.Answer.{Answer, answered, refused, Pair, first, second, Triple, triple, unless, then}
 use Rattle.quantity.specs.rules.Refusal.{lower, angleRefusal, latitudeRefusal}
+use Rattle.edition.specs.declared.Edition.{Edition}
+use Rattle.edition.specs.rules.Edition.{chosen}
 use Rattle.elementary.specs.declared.Folded.{Folded}
 use Rattle.elementary.specs.rules.Fold.{fold}
 use Rattle.elementary.specs.rules.Sine.{foldedSine, foldedCosine, sineOf, cosineOf}
@@ -29,10 +31,21 @@ longTop c l b s e n =
     arctangentIn
     (foldedSine l ⊗ foldedCosine b ⊖ c .parallax ⊗ (c .«rho_sin» ⊗ foldedSine e ⊕ c .«rho_cos» ⊗ foldedCosine e ⊗ foldedSine s)) n
 
-unfoldable pub latTop : Centre → Folded → Folded → Folded → Float → Float → Answer Rad
-latTop c b s e cosLong n =
-    arctangentIn
-    (cosLong ⊗ (foldedSine b ⊖ c .parallax ⊗ (c .«rho_sin» ⊗ foldedCosine e ⊖ c .«rho_cos» ⊗ foldedSine e ⊗ foldedSine s))) n
+-- what the latitude's arctangent goes by in either edition
+unfoldable pub upward : Centre → Folded → Folded → Folded → Float
+upward c b s e =
+    foldedSine b ⊖ c .parallax ⊗ (c .«rho_sin» ⊗ foldedCosine e ⊖ c .«rho_cos» ⊗ foldedSine e ⊗ foldedSine s)
+
+-- beyond the pole where N is below zero
+unfoldable pub latOfCrate : Float → Float → Float → Answer Rad
+latOfCrate up cosLong n = arctangentIn (cosLong ⊗ up) n
+
+-- 6 where the cosine of the longitude is zero
+unfoldable pub latPublished : Float → Float → Float → Answer Rad
+latPublished up cosLong n = cond (eq cosLong zero) (refused 6) (arctangentIn up (n ⊘ cosLong))
+
+unfoldable pub latTop : Edition → Float → Float → Float → Answer Rad
+latTop edition up cosLong n = chosen edition (latOfCrate up cosLong n) (latPublished up cosLong n)
 
 unfoldable pub semidiameterIn : Float → Rad → Rad → Float → Answer Rad
 semidiameterIn cosLong lat semidiameter n =
@@ -43,22 +56,23 @@ eclipticFrom long cosLong lat semidiameter n =
     then (semidiameterIn cosLong lat semidiameter n)
     (λ (s : Rad). answered (triple (withinTwoPI long .0) (lat .0) (s .0)))
 
-unfoldable pub eclipticAlong : Centre → Folded → Folded → Folded → Rad → Rad → Float → Answer Triple
-eclipticAlong c b s e long semidiameter n =
+-- the semidiameter goes by the edition's latitude
+unfoldable pub eclipticAlong : Edition → Float → Rad → Rad → Float → Answer Triple
+eclipticAlong edition up long semidiameter n =
     let cosLong = cosineOf long in
-    then (latTop c b s e cosLong n) (λ (lat : Rad). eclipticFrom long cosLong lat semidiameter n)
+    then (latTop edition up cosLong n) (λ (lat : Rad). eclipticFrom long cosLong lat semidiameter n)
 
 -- 6 where N is zero, as soon as it is worked out
-unfoldable pub eclipticAt : Centre → Folded → Folded → Folded → Folded → Rad → Answer Triple
-eclipticAt c l b s e semidiameter =
+unfoldable pub eclipticAt : Edition → Centre → Folded → Folded → Folded → Folded → Rad → Answer Triple
+eclipticAt edition c l b s e semidiameter =
     let n = nearby c l b s in
     cond (eq n zero) (refused 6)
-    (then (longTop c l b s e n) (λ (long : Rad). eclipticAlong c b s e long semidiameter n))
+    (then (longTop c l b s e n) (λ (long : Rad). eclipticAlong edition (upward c b s e) long semidiameter n))
 
-unfoldable pub eclipticIn : EclPoint → Rad → GeographPoint → Float → Rad → Rad → Rad → Answer Triple
-eclipticIn p parallax place height sidereal oblq semidiameter =
+unfoldable pub eclipticIn : Edition → EclPoint → Rad → GeographPoint → Float → Rad → Rad → Rad → Answer Triple
+eclipticIn edition p parallax place height sidereal oblq semidiameter =
     then (rhoIn (rad (place .lat)) height)
-    (λ (rho : Pair). eclipticAt (centreOf (first rho) (second rho) parallax)
+    (λ (rho : Pair). eclipticAt edition (centreOf (first rho) (second rho) parallax)
     (fold (rad (p .long))) (fold (rad (p .lat))) (fold sidereal) (fold oblq) semidiameter)
 
 abbrev pub topopcentRefusal : EclPoint → Rad → GeographPoint → Float → Rad → Rad → Rad → ℕ
@@ -68,7 +82,7 @@ topopcentRefusal p parallax place height sidereal oblq semidiameter =
     (lower (angleRefusal oblq) (angleRefusal semidiameter)))
     (observerRefusal parallax place height sidereal)
 
-abbrev pub topopcentEclCoordsRule : EclPoint → Rad → GeographPoint → Float → Rad → Rad → Rad → Answer Triple
-topopcentEclCoordsRule p parallax place height sidereal oblq semidiameter =
+abbrev pub topopcentEclCoordsRule : Edition → EclPoint → Rad → GeographPoint → Float → Rad → Rad → Rad → Answer Triple
+topopcentEclCoordsRule edition p parallax place height sidereal oblq semidiameter =
     unless (topopcentRefusal p parallax place height sidereal oblq semidiameter)
-    (eclipticIn p parallax place height sidereal oblq semidiameter)
+    (eclipticIn edition p parallax place height sidereal oblq semidiameter)

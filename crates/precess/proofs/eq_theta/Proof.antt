@@ -1,12 +1,12 @@
 -- `precess::eq_theta` meets its contract. Assumes nothing.
-use mathlib.Core.Path.{refl}
+use Rattle.double.specs.laws.Calls.{asks-nothing}
 use Rattle.precess.specs.rules.Equatorial.{eqTheta}
 use Rattle.precess.proofs.eq_theta.Statement.{statement}
 use Rattle.precess.proofs.eq_theta.Tie as tie
 
 returns : tie.Need-returns
 unfolding eqTheta
-returns c = refl
+returns c = rw (c .chosen .ensures)
 
 pub eq-theta-spec : {M : Type 1} → statement M
-eq-theta-spec = tie.close (tie.spec returns)
+eq-theta-spec = tie.close (tie.spec asks-nothing returns)

@@ -1,12 +1,12 @@
 -- `precess::eq_zeta` meets its contract. Assumes nothing.
-use mathlib.Core.Path.{refl}
+use Rattle.double.specs.laws.Calls.{asks-nothing}
 use Rattle.precess.specs.rules.Equatorial.{eqZeta}
 use Rattle.precess.proofs.eq_zeta.Statement.{statement}
 use Rattle.precess.proofs.eq_zeta.Tie as tie
 
 returns : tie.Need-returns
 unfolding eqZeta
-returns c = refl
+returns c = rw (c .chosen .ensures)
 
 pub eq-zeta-spec : {M : Type 1} → statement M
-eq-zeta-spec = tie.close (tie.spec returns)
+eq-zeta-spec = tie.close (tie.spec asks-nothing returns)

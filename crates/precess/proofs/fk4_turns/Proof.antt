@@ -15,7 +15,7 @@ returns c =
     let c6 = c5 .before in
     let c7 = c6 .before in
     let c8 = c7 .before in
-    rw (c1 .degrees-as-radians3 .ensures, c2 .fk4-theta .ensures, c3 .degrees-as-radians2 .ensures, c4 .fk4-zeta .ensures, c5 .degrees-as-radians .ensures, c6 .fk4-xi .ensures, c7 .fk4-span .ensures, c8 .fk4-century .ensures) at (c .turns-of .ensures)
+    rw (c1 .fk4-angle3 .ensures, c2 .fk4-theta .ensures, c3 .fk4-angle2 .ensures, c4 .fk4-zeta .ensures, c5 .fk4-angle .ensures, c6 .fk4-xi .ensures, c7 .fk4-span .ensures, c8 .fk4-century .ensures) at (c .turns-of .ensures)
 
 pub fk4-turns-spec : {M : Type 1} → statement M
 fk4-turns-spec = tie.close (tie.spec asks-nothing asks-nothing asks-nothing asks-nothing asks-nothing asks-nothing asks-nothing asks-nothing asks-nothing returns)

@@ -1,5 +1,5 @@
 -- Wrong variants are excluded: each differs from the rule at the input stated. A rule varies: a library that refuses everything, or
--- answers a constant, does not meet it. Assumes nothing.
+-- answers a constant, does not meet it. What the editions share is worked out in the crate's. Assumes nothing.
 use mathlib.Core.Path.{refl}
 use std.Logic.{_≢_}
 use Rattle.double.specs.rules.Operations.{zero}
@@ -8,11 +8,13 @@ use Rattle.quantity.specs.rules.Refusal.{epoch}
 use Rattle.quantity.specs.notions.Code.{ofAnswer, ofFirst, ofSecond}
 use Rattle.quantity.specs.notions.Varies.{Varies}
 use Rattle.quantity.specs.notions.Stated.{r0, r½, earlier}
+use Rattle.edition.specs.declared.Edition.{Edition}
+use Rattle.edition.specs.declared.Edition.the-variants.{Crate, Published}
 use Rattle.precess.specs.rules.Annual.{annualPrecessRule}
 use Rattle.precess.specs.rules.Equatorial.{precessEqCoordsRule}
 use Rattle.precess.specs.rules.Fk4.{precessEqCoordsFK5Rule}
 use Rattle.precess.specs.notions.Computed.{computed}
-use Rattle.precess.specs.notions.Wrong.{annualTangentIsSine, publishedSignOfZeta, publishedSignOfTheta, spanBackward, xiTakenAway, daysInAnyOrder, fk4AnglesInRadians}
+use Rattle.precess.specs.notions.Wrong.{annualTangentIsSine, oneSignOfEach, spanBackward, xiTakenAway, daysInAnyOrder, fk4AnglesOfEach}
 
 -- ---- annual precession
 
@@ -26,37 +28,54 @@ annual-tangent-is-sine-excluded = apart (ofAnswer ofFirst) refl
 
 -- ---- equatorial coordinates
 
-pub precess-eq-coords-varies : Varies (precessEqCoordsRule r½ r0 epoch epoch) (precessEqCoordsRule r0 r0 epoch epoch)
+pub precess-eq-coords-varies : Varies (precessEqCoordsRule Crate r½ r0 epoch epoch) (precessEqCoordsRule Crate r0 r0 epoch epoch)
 unfolding computed
 precess-eq-coords-varies = record { here = refl; there = refl; apart = apart (ofAnswer ofFirst) refl }
 
-pub published-sign-of-zeta-excluded : publishedSignOfZeta r0 r0 earlier epoch ≢ precessEqCoordsRule r0 r0 earlier epoch
+-- an edition ignored
+pub precess-eq-coords-by-edition : precessEqCoordsRule Published r0 r0 earlier epoch ≢ precessEqCoordsRule Crate r0 r0 earlier epoch
 unfolding computed
-published-sign-of-zeta-excluded = apart (ofAnswer ofFirst) refl
+precess-eq-coords-by-edition = apart (ofAnswer ofFirst) refl
 
-pub published-sign-of-theta-excluded : publishedSignOfTheta r0 r0 earlier epoch ≢ precessEqCoordsRule r0 r0 earlier epoch
+-- Meeus's sign in the second angle only, or in the third only, is neither edition
+pub sign-of-zeta-only-excluded : (e : Edition) → oneSignOfEach Published Crate r0 r0 earlier epoch ≢ precessEqCoordsRule e r0 r0 earlier epoch
 unfolding computed
-published-sign-of-theta-excluded = apart (ofAnswer ofSecond) refl
+sign-of-zeta-only-excluded Crate = apart (ofAnswer ofFirst) refl
+sign-of-zeta-only-excluded Published = apart (ofAnswer ofSecond) refl
 
-pub span-backward-excluded : spanBackward r0 r0 earlier epoch ≢ precessEqCoordsRule r0 r0 earlier epoch
+pub sign-of-theta-only-excluded : (e : Edition) → oneSignOfEach Crate Published r0 r0 earlier epoch ≢ precessEqCoordsRule e r0 r0 earlier epoch
+unfolding computed
+sign-of-theta-only-excluded Crate = apart (ofAnswer ofSecond) refl
+sign-of-theta-only-excluded Published = apart (ofAnswer ofFirst) refl
+
+pub span-backward-excluded : spanBackward Crate r0 r0 earlier epoch ≢ precessEqCoordsRule Crate r0 r0 earlier epoch
 unfolding computed
 span-backward-excluded = apart (ofAnswer ofFirst) refl
 
-pub xi-taken-away-excluded : xiTakenAway r0 r0 earlier epoch ≢ precessEqCoordsRule r0 r0 earlier epoch
+pub xi-taken-away-excluded : xiTakenAway Crate r0 r0 earlier epoch ≢ precessEqCoordsRule Crate r0 r0 earlier epoch
 unfolding computed
 xi-taken-away-excluded = apart (ofAnswer ofFirst) refl
 
 -- the day 0.0 is 2451545 days from the epoch
-pub days-in-any-order-excluded : daysInAnyOrder r0 r0 epoch zero ≢ precessEqCoordsRule r0 r0 epoch zero
+pub days-in-any-order-excluded : daysInAnyOrder Crate r0 r0 epoch zero ≢ precessEqCoordsRule Crate r0 r0 epoch zero
 unfolding computed
 days-in-any-order-excluded = apart (ofAnswer ofFirst) refl
 
 -- ---- equatorial coordinates of the FK4 system
 
-pub precess-eq-coords-FK5-varies : Varies (precessEqCoordsFK5Rule r½ r0 epoch epoch) (precessEqCoordsFK5Rule r0 r0 epoch epoch)
+pub precess-eq-coords-FK5-varies : Varies (precessEqCoordsFK5Rule Crate r½ r0 epoch epoch) (precessEqCoordsFK5Rule Crate r0 r0 epoch epoch)
 unfolding computed
 precess-eq-coords-FK5-varies = record { here = refl; there = refl; apart = apart (ofAnswer ofFirst) refl }
 
-pub fk4-angles-in-radians-excluded : fk4AnglesInRadians r0 r0 earlier epoch ≢ precessEqCoordsFK5Rule r0 r0 earlier epoch
+-- the angles converted in the crate's edition, or taken for radians in the published one
+pub precess-eq-coords-FK5-by-edition : precessEqCoordsFK5Rule Published r0 r0 earlier epoch ≢ precessEqCoordsFK5Rule Crate r0 r0 earlier epoch
 unfolding computed
-fk4-angles-in-radians-excluded = apart (ofAnswer ofFirst) refl
+precess-eq-coords-FK5-by-edition = apart (ofAnswer ofFirst) refl
+
+pub fk4-third-angle-converted-excluded : fk4AnglesOfEach Crate Published r0 r0 earlier epoch ≢ precessEqCoordsFK5Rule Crate r0 r0 earlier epoch
+unfolding computed
+fk4-third-angle-converted-excluded = apart (ofAnswer ofFirst) refl
+
+pub fk4-third-angle-in-degrees-excluded : fk4AnglesOfEach Published Crate r0 r0 earlier epoch ≢ precessEqCoordsFK5Rule Published r0 r0 earlier epoch
+unfolding computed
+fk4-third-angle-in-degrees-excluded = apart (ofAnswer ofFirst) refl

@@ -1,11 +1,13 @@
--- Precession of equatorial coordinates (Meeus 21.2 to 21.4, with the crate's signs):
+-- Precession of equatorial coordinates (Meeus 21.2 to 21.4; the crate's edition has two signs otherwise):
 -- c is the century of the first day, t the span of centuries from the first day to the second.
-use lib.Ieee.{Float}
+use lib.Ieee.{Float, neg}
 use Rattle.double.specs.rules.Operations.{_⊕_, _⊖_, _⊗_}
 use Rattle.quantity.specs.declared.Deg.{Deg}
 use Rattle.quantity.specs.declared.Rad.{Rad}
 use Rattle.quantity.specs.rules.Angle.{deg}
 use Rattle.quantity.specs.rules.Answer.{Answer, Pair, unless, plus, both}
+use Rattle.edition.specs.declared.Edition.{Edition}
+use Rattle.edition.specs.rules.Edition.{chosen}
 use Rattle.elementary.specs.declared.Direction.{Direction}
 use Rattle.elementary.specs.rules.Direction.{directionOf}
 use Rattle.elementary.specs.rules.Sine.{sineOf, cosineOf}
@@ -24,25 +26,29 @@ eqShared c t = t ⊗ (arc n2306·2181 ⊕ c ⊗ (arc n1·39656 ⊖ c ⊗ arc n0�
 unfoldable pub eqXi : Float → Float → Deg
 eqXi c t = deg (eqShared c t ⊕ t ⊗ t ⊗ ((arc n0·30188 ⊖ c ⊗ arc n0·000344) ⊕ t ⊗ arc n0·017998))
 
--- −0.000066 where Meeus has +0.000066
-unfoldable pub eqZeta : Float → Float → Deg
-eqZeta c t = deg (eqShared c t ⊕ t ⊗ t ⊗ ((arc n1·09468 ⊖ c ⊗ arc n0·000066) ⊕ t ⊗ arc n0·018203))
+-- the crate's −0.000066, Meeus's +0.000066
+unfoldable pub eqZeta : Edition → Float → Float → Deg
+eqZeta e c t =
+    let x = arc n1·09468 in
+    let y = c ⊗ arc n0·000066 in
+    deg (eqShared c t ⊕ t ⊗ t ⊗ (chosen e (x ⊖ y) (x ⊕ y) ⊕ t ⊗ arc n0·018203))
 
--- +0.8533 where Meeus has −0.85330
-unfoldable pub eqTheta : Float → Float → Deg
-eqTheta c t =
+-- the crate's +0.8533, Meeus's −0.85330
+unfoldable pub eqTheta : Edition → Float → Float → Deg
+eqTheta e c t =
+    let x = chosen e (arc n0·8533) (neg (arc n0·8533)) in
     let y = c ⊗ arc n0·000217 in
-    deg (t ⊗ (arc n2004·3109 ⊕ c ⊗ (arc n0·8533 ⊖ y) ⊖ t ⊗ ((arc n0·42665 ⊕ y) ⊕ t ⊗ arc n0·041833)))
+    deg (t ⊗ (arc n2004·3109 ⊕ c ⊗ (x ⊖ y) ⊖ t ⊗ ((arc n0·42665 ⊕ y) ⊕ t ⊗ arc n0·041833)))
 
 -- what two days fix, from the three angles
 unfoldable pub turnsOf : Rad → Rad → Rad → EqTurns
 turnsOf xi zeta theta = record { xi = xi; zeta = zeta; sine = sineOf theta; cosine = cosineOf theta }
 
-unfoldable pub eqTurnsOf : Float → Float → EqTurns
-eqTurnsOf day1 day2 =
+unfoldable pub eqTurnsOf : Edition → Float → Float → EqTurns
+eqTurnsOf e day1 day2 =
     let c = centuryOf day1 in
     let t = spanOf day1 day2 in
-    turnsOf (radiansOf (eqXi c t)) (radiansOf (eqZeta c t)) (radiansOf (eqTheta c t))
+    turnsOf (radiansOf (eqXi c t)) (radiansOf (eqZeta e c t)) (radiansOf (eqTheta e c t))
 
 -- a place after the turns, from the direction of its right ascension with xi added and its declination
 unfoldable pub placed : Direction → EqTurns → Answer Pair
@@ -58,6 +64,6 @@ placed d turns =
 unfoldable pub turnedIn : Rad → Rad → EqTurns → Answer Pair
 turnedIn asc dec turns = placed (directionOf (record { asc = asc .0 ⊕ turns .xi .0; dec = dec .0 })) turns
 
-abbrev pub precessEqCoordsRule : Rad → Rad → Float → Float → Answer Pair
-precessEqCoordsRule asc dec day1 day2 =
-    unless (placeRefusal asc dec day1 day2) (turnedIn asc dec (eqTurnsOf day1 day2))
+abbrev pub precessEqCoordsRule : Edition → Rad → Rad → Float → Float → Answer Pair
+precessEqCoordsRule e asc dec day1 day2 =
+    unless (placeRefusal asc dec day1 day2) (turnedIn asc dec (eqTurnsOf e day1 day2))

@@ -1,12 +1,14 @@
--- Precession of equatorial coordinates of the FK4 system: the crate's `precess_eq_coords_FK5`,
--- which takes its three counts of degrees for radians. c and t are tropical centuries.
+-- Precession of equatorial coordinates of the FK4 system, `precess_eq_coords_FK5`: the crate takes the three counts of degrees
+-- for radians, the published edition converts them. c and t are tropical centuries.
 use lib.Ieee.{Float}
 use Rattle.double.specs.rules.Operations.{_⊕_, _⊖_, _⊗_, _⊘_}
 use Rattle.quantity.specs.declared.Deg.{Deg}
 use Rattle.quantity.specs.declared.Rad.{Rad}
 use Rattle.quantity.specs.rules.Angle.{deg, rad}
 use Rattle.quantity.specs.rules.Answer.{Answer, Pair, unless}
-use Rattle.helpers.specs.rules.Angle.{arc}
+use Rattle.edition.specs.declared.Edition.{Edition}
+use Rattle.edition.specs.rules.Edition.{chosen}
+use Rattle.helpers.specs.rules.Angle.{arc, radiansOf}
 use Rattle.precess.specs.declared.EqTurns.{EqTurns}
 use Rattle.precess.specs.rules.Numbers.{n2415020·3135, n36524·2199, n2304·25, n1·396, n0·302, n0·018, n0·791, n0·001, n2004·682, n0·853, n0·426, n0·042}
 use Rattle.precess.specs.rules.Days.{placeRefusal}
@@ -33,12 +35,16 @@ fk4Theta c t =
 unfoldable pub degreesAsRadians : Deg → Rad
 degreesAsRadians x = rad (x .0)
 
-unfoldable pub fk4TurnsOf : Float → Float → EqTurns
-fk4TurnsOf day1 day2 =
+-- each of the three angles
+unfoldable pub fk4Angle : Edition → Deg → Rad
+fk4Angle e x = chosen e (degreesAsRadians x) (radiansOf x)
+
+unfoldable pub fk4TurnsOf : Edition → Float → Float → EqTurns
+fk4TurnsOf e day1 day2 =
     let c = fk4Century day1 in
     let t = fk4Span day1 day2 in
-    turnsOf (degreesAsRadians (fk4Xi c t)) (degreesAsRadians (fk4Zeta (fk4Xi c t) t)) (degreesAsRadians (fk4Theta c t))
+    turnsOf (fk4Angle e (fk4Xi c t)) (fk4Angle e (fk4Zeta (fk4Xi c t) t)) (fk4Angle e (fk4Theta c t))
 
-abbrev pub precessEqCoordsFK5Rule : Rad → Rad → Float → Float → Answer Pair
-precessEqCoordsFK5Rule asc dec day1 day2 =
-    unless (placeRefusal asc dec day1 day2) (turnedIn asc dec (fk4TurnsOf day1 day2))
+abbrev pub precessEqCoordsFK5Rule : Edition → Rad → Rad → Float → Float → Answer Pair
+precessEqCoordsFK5Rule e asc dec day1 day2 =
+    unless (placeRefusal asc dec day1 day2) (turnedIn asc dec (fk4TurnsOf e day1 day2))

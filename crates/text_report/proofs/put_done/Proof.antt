@@ -22,8 +22,9 @@ unfolding doneText
 returns-2 c =
     let c2 = c .before .before in
     let c6 = c2 .before .before .before .before in
-    let c9 = c6 .before .before .before in
-    same (simp (eq-eqb _ _ (c9 .if1 .left))) (after (c6 .put-lines .ensures) (c2 .put-tally .ensures))
+    let c10 = c6 .before .before .before .before in
+    let c13 = c10 .before .before .before in
+    same (simp (eq-eqb _ _ (c13 .if1 .left))) (after (after (c10 .put-edition .ensures) (c6 .put-lines .ensures)) (c2 .put-tally .ensures))
 
 pub put-done-spec : {M : Type 1} → statement M
-put-done-spec = tie.close (tie.spec asks-nothing same-length returns asks-nothing asks-nothing same-length-2 returns-2)
+put-done-spec = tie.close (tie.spec asks-nothing same-length returns asks-nothing asks-nothing asks-nothing same-length-2 returns-2)

@@ -8,6 +8,8 @@ use lib.Dec.{eqb}
 use lib.Ieee.{Float}
 use lib.ListN.{length, length-append}
 use borrow.Author.Tests.{eqb-true}
+use Rattle.edition.specs.declared.Edition.{Edition}
+use Rattle.edition.specs.declared.Edition.the-variants.{Crate, Published}
 use Rattle.list.specs.rules.Stars.{mostStars, countOf}
 use Rattle.list_tally.specs.declared.Tally.{Tally}
 use Rattle.list_tally.specs.rules.Status.{highestStatus}
@@ -18,7 +20,7 @@ use Rattle.text_number.specs.rules.Bytes.{lineEnd}
 use Rattle.text_number.specs.rules.Refused.{refusedText}
 use Rattle.text_number.specs.laws.Number.{any-decimal-short, refused-short}
 use Rattle.text_line.specs.laws.Room.{line-short}
-use Rattle.text_report.specs.rules.Report.{tallyWord, texts, countText, countAt, tallyText, starText, starsText, reportOf, room}
+use Rattle.text_report.specs.rules.Report.{tallyWord, texts, countText, countAt, tallyText, editionText, starText, starsText, reportOf, room}
 
 -- ---- texts
 
@@ -38,23 +40,29 @@ tally-short t =
     let short = texts-short 21 (highestStatus + 1) (countAt (t .counts)) (λ (k : ℕ). count-short _) in
     omega (arith, length-append tallyWord (counts ++ end), length-append counts end, short)
 
+edition-short : (edition : Edition) → length (editionText edition) ≤ 18
+unfolding editionText
+edition-short Crate = omega arith
+edition-short Published = omega arith
+
 -- ---- the whole
 
-module _ (s : List ℕ) (day1 day2 : Float) where
-  stars-short : countOf s ≤ mostStars → length (starsText s day1 day2) ≤ room
+module _ (edition : Edition) (s : List ℕ) (day1 day2 : Float) where
+  stars-short : countOf s ≤ mostStars → length (starsText edition s day1 day2) ≤ room
   stars-short h =
-      let lines = texts (countOf s) (starText s day1 day2) in
-      let tally = tallyOf (statusesOf s day1 day2) in
-      let short = texts-short 100 (countOf s) (starText s day1 day2) (λ (i : ℕ). line-short _ _ _ _) in
-      omega (arith, length-append lines (tallyText tally), short, tally-short tally)
+      let lines = texts (countOf s) (starText edition s day1 day2) in
+      let tally = tallyOf (statusesOf edition s day1 day2) in
+      let short = texts-short 100 (countOf s) (starText edition s day1 day2) (λ (i : ℕ). line-short _ _ _ _) in
+      omega
+      (arith, length-append (editionText edition ++ lines) (tallyText tally), length-append (editionText edition) lines, edition-short edition, short, tally-short tally)
 
-  pub has-room : length (reportOf s day1 day2) ≤ room
+  pub has-room : length (reportOf edition s day1 day2) ≤ room
   unfolding reportOf
   has-room = by-case (eqb refusal 0) refl
     where
       refusal : ℕ
       refusal = batchRefusal s day1 day2 mostStars mostStars mostStars
 
-      by-case : (t : Bool) → eqb refusal 0 ≡ t → length (cond t (starsText s day1 day2) (refusedText refusal)) ≤ room
+      by-case : (t : Bool) → eqb refusal 0 ≡ t → length (cond t (starsText edition s day1 day2) (refusedText refusal)) ≤ room
       by-case true e = stars-short (accepted s day1 day2 mostStars mostStars mostStars (eqb-true refusal 0 e) .statuses)
       by-case false e = omega (arith, refused-short refusal)

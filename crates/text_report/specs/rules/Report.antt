@@ -1,4 +1,5 @@
--- The text of a reduced list: a line for each star, and the tally in a line; of a refused call its number alone.
+-- The text of a reduced list: the edition in a line where it is the published one, a line for each star, and the tally in a line; of a
+-- refused call its number alone.
 use Prim.Native.Nat.{ℕ, zero, suc, _+_, _*_}
 use mathlib.Core.Bool.{cond}
 use mathlib.Core.List.{List, [], _∷_, _++_}
@@ -7,6 +8,8 @@ use lib.Ieee.{Float}
 use lib.ListN.{getD}
 use Rattle.quantity.specs.rules.Answer.{statusOf}
 use Rattle.double.specs.rules.Operations.{zero as none}
+use Rattle.edition.specs.declared.Edition.{Edition}
+use Rattle.edition.specs.rules.Edition.{chosen}
 use Rattle.list.specs.rules.Stars.{mostStars, countOf, nth}
 use Rattle.list_tally.specs.declared.Tally.{Tally}
 use Rattle.list_tally.specs.rules.Status.{highestStatus}
@@ -49,28 +52,33 @@ countAt counts k = countText (getD counts k 0)
 unfoldable pub tallyText : Tally → List ℕ
 tallyText tally = tallyWord ++ (texts (highestStatus + 1) (countAt (tally .counts)) ++ (lineEnd ∷ []))
 
+-- past files go by the crate's edition, so that it stays unsaid
+unfoldable pub editionText : Edition → List ℕ
+editionText edition = chosen edition [] (ascii "edition published" ++ (lineEnd ∷ []))
+
 -- what a call of the batch answered and left
-unfoldable pub doneText : List ℕ → List ℕ → List Float → List Float → Batched → List ℕ
-doneText s status asc dec done =
+unfoldable pub doneText : Edition → List ℕ → List ℕ → List Float → List Float → Batched → List ℕ
+doneText edition s status asc dec done =
     cond (eqb (done .refusal) 0)
-    (texts (countOf s) (lentLine s status asc dec) ++ tallyText (done .tally))
+    (editionText edition ++ texts (countOf s) (lentLine s status asc dec) ++ tallyText (done .tally))
     (refusedText (done .refusal))
 
 -- star i of the list
-abbrev pub starText : List ℕ → Float → Float → ℕ → List ℕ
-starText s day1 day2 i =
-    let a = starRule (nth s i) day1 day2 in
+abbrev pub starText : Edition → List ℕ → Float → Float → ℕ → List ℕ
+starText edition s day1 day2 i =
+    let a = starRule edition (nth s i) day1 day2 in
     lineOf (nth s i .number) (statusOf a) (asRadians (firstOf a)) (asRadians (secondOf a))
 
--- every star and the tally
-abbrev pub starsText : List ℕ → Float → Float → List ℕ
-starsText s day1 day2 = texts (countOf s) (starText s day1 day2) ++ tallyText (tallyOf (statusesOf s day1 day2))
+-- the edition, every star and the tally
+abbrev pub starsText : Edition → List ℕ → Float → Float → List ℕ
+starsText edition s day1 day2 =
+    editionText edition ++ texts (countOf s) (starText edition s day1 day2) ++ tallyText (tallyOf (statusesOf edition s day1 day2))
 
-unfoldable pub reportOf : List ℕ → Float → Float → List ℕ
-reportOf s day1 day2 =
+unfoldable pub reportOf : Edition → List ℕ → Float → Float → List ℕ
+reportOf edition s day1 day2 =
     let refusal = batchRefusal s day1 day2 mostStars mostStars mostStars in
-    cond (eqb refusal 0) (starsText s day1 day2) (refusedText refusal)
+    cond (eqb refusal 0) (starsText edition s day1 day2) (refusedText refusal)
 
--- a hundred bytes a star, and those of a tally of twenty counts
+-- a hundred bytes a star, those of a tally of twenty counts, and the edition's line
 abbrev pub room : ℕ
-room = 426 + 100 * mostStars
+room = 444 + 100 * mostStars

@@ -1,9 +1,9 @@
--- `brundelak::stored::brundelak_batch` meets its contract. Assumes nothing.
+-- `brundelak::stored::hand_batch` meets its contract. Assumes nothing.
 use Rattle.double.specs.laws.Calls.{asks-nothing}
 use Rattle.brundelak.specs.laws.Stored.{batch-refused, batch-done}
 use borrow.Author.Needs.{needs}
-use Rattle.brundelak.proofs.stored.brundelak_batch.Statement.{statement}
-use Rattle.brundelak.proofs.stored.brundelak_batch.Tie as tie
+use Rattle.brundelak.proofs.stored.hand_batch.Statement.{statement}
+use Rattle.brundelak.proofs.stored.hand_batch.Tie as tie
 
 same-length : tie.Need-same-length
 same-length c = search needs
@@ -34,8 +34,8 @@ returns-2 c =
     let c10 = c2 .before .before .before .before .before .before .before .before in
     batch-done (c10 .batch .result) (c10 .batch .ensures) (c2 .if1 .left)
 
-pub brundelak-batch-spec : {M : Type 1} → statement M
-brundelak-batch-spec =
+pub hand-batch-spec : {M : Type 1} → statement M
+hand-batch-spec =
     tie.close
     (tie.spec
     asks-nothing

@@ -1,0 +1,129 @@
+// The functions of numbers that differ between the editions, in the published one. The names without the word are the crate's edition.
+ghost use Rattle.brundelak_handed.specs.rules.Boundary.{Told, ToldTwo, ToldThree, numberOfRadians};
+ghost use Rattle.edition.specs.declared.Edition.the-variants.{Published};
+ghost use Rattle.coords.specs.rules.Horizon.{decFrmHzRule};
+ghost use Rattle.precess.specs.rules.Equatorial.{precessEqCoordsRule};
+ghost use Rattle.precess.specs.rules.Fk4.{precessEqCoordsFK5Rule};
+ghost use Rattle.parallax_ecl.specs.rules.Ecliptic.{topopcentEclCoordsRule};
+ghost use Rattle.chain.specs.rules.Chain.{chainRule};
+use brundelak_handed::give_radians;
+use brundelak_handed::give_three;
+use brundelak_handed::give_two;
+use edition::Edition;
+use quantity::EclPoint;
+use quantity::GeographPoint;
+use quantity::Rad;
+
+// The declination from horizontal coordinates. Refusals: 1; 3; 7.
+#[no_mangle]
+pub extern "C" fn brundelak_dec_frm_hz_published(
+    az: f64,
+    alt: f64,
+    observer_lat: f64,
+    out: &mut f64,
+) -> u8
+    ensures { λ n. ⌜ Told (numberOfRadians (decFrmHzRule Published (record { 0 = az }) (record { 0 = alt }) (record { 0 = «observer_lat» }))) n (now (out .entry)) (now (out .exit)) ⌝ }
+{
+    give_radians(
+        coords::dec_frm_hz(Edition::Published, Rad(az), Rad(alt), Rad(observer_lat)),
+        out,
+    )
+}
+
+// Equatorial coordinates from one day to another. Refusals: 1; 2; 3; 7.
+#[no_mangle]
+pub extern "C" fn brundelak_precess_eq_coords_published(
+    old_asc: f64,
+    old_dec: f64,
+    day1: f64,
+    day2: f64,
+    first: &mut f64,
+    second: &mut f64,
+) -> u8
+    ensures { λ n. ⌜ ToldTwo (precessEqCoordsRule Published (record { 0 = «old_asc» }) (record { 0 = «old_dec» }) day1 day2) n (now (first .entry)) (now (second .entry)) (now (first .exit)) (now (second .exit)) ⌝ }
+{
+    give_two(
+        precess::precess_eq_coords(Edition::Published, Rad(old_asc), Rad(old_dec), day1, day2),
+        first,
+        second,
+    )
+}
+
+// Coordinates of the FK4 system from one day to another. Refusals: 1; 2; 3; 7.
+#[no_mangle]
+pub extern "C" fn brundelak_precess_eq_coords_fk5_published(
+    old_asc: f64,
+    old_dec: f64,
+    day1: f64,
+    day2: f64,
+    first: &mut f64,
+    second: &mut f64,
+) -> u8
+    ensures { λ n. ⌜ ToldTwo (precessEqCoordsFK5Rule Published (record { 0 = «old_asc» }) (record { 0 = «old_dec» }) day1 day2) n (now (first .entry)) (now (second .entry)) (now (first .exit)) (now (second .exit)) ⌝ }
+{
+    give_two(
+        precess::precess_eq_coords_FK5(Edition::Published, Rad(old_asc), Rad(old_dec), day1, day2),
+        first,
+        second,
+    )
+}
+
+// Topocentric ecliptic longitude, latitude and semidiameter. Refusals: 1; 3; 4; 5; 6; 7.
+#[no_mangle]
+pub extern "C" fn brundelak_topopcent_ecl_coords_published(
+    ecl_long: f64,
+    ecl_lat: f64,
+    parallax: f64,
+    long: f64,
+    lat: f64,
+    height: f64,
+    sidereal: f64,
+    oblq: f64,
+    semidiameter: f64,
+    first: &mut f64,
+    second: &mut f64,
+    third: &mut f64,
+) -> u8
+    ensures { λ n. ⌜ ToldThree (topopcentEclCoordsRule Published (record { long = «ecl_long»; lat = «ecl_lat» }) (record { 0 = parallax }) (record { long = long; lat = lat }) height (record { 0 = sidereal }) (record { 0 = oblq }) (record { 0 = semidiameter })) n (now (first .entry)) (now (second .entry)) (now (third .entry)) (now (first .exit)) (now (second .exit)) (now (third .exit)) ⌝ }
+{
+    give_three(
+        parallax_ecl::topopcent_ecl_coords(
+            Edition::Published,
+            EclPoint {
+                long: ecl_long,
+                lat: ecl_lat,
+            },
+            Rad(parallax),
+            GeographPoint {
+                long: long,
+                lat: lat,
+            },
+            height,
+            Rad(sidereal),
+            Rad(oblq),
+            Rad(semidiameter),
+        ),
+        first,
+        second,
+        third,
+    )
+}
+
+// A star's place from one day to another: precession, nutation, aberration. Refusals: 1; 2; 3; 7; 4.
+#[no_mangle]
+pub extern "C" fn brundelak_chain_published(
+    asc: f64,
+    dec: f64,
+    day1: f64,
+    day2: f64,
+    first: &mut f64,
+    second: &mut f64,
+) -> u8
+    ensures { λ n. ⌜ ToldTwo (chainRule Published (record { 0 = asc }) (record { 0 = dec }) day1 day2) n (now (first .entry)) (now (second .entry)) (now (first .exit)) (now (second .exit)) ⌝ }
+{
+    give_two(
+        chain::chain(Edition::Published, Rad(asc), Rad(dec), day1, day2),
+        first,
+        second,
+    )
+}

@@ -1,0 +1,7 @@
+-- What differs between the editions, named side by side: the crate's first, Meeus's second.
+use Rattle.edition.specs.declared.Edition.{Edition}
+use Rattle.edition.specs.declared.Edition.the-variants.{Crate, Published}
+
+abbrev pub chosen : {A : Type 0} → Edition → A → A → A
+chosen Crate a b = a
+chosen Published a b = b

@@ -1,0 +1,20 @@
+// The two editions of the rules that the Rust crate has otherwise than Meeus. The caller names one; no other can be named.
+// Rules: specs/rules, in reading order in specs/rules.antt.
+ghost use mathlib.Core.Path.{_≡_};
+ghost use Rattle.edition.specs.rules.Edition.{chosen};
+
+// The crate's rules, by which past files reproduce, or Meeus's as he published them.
+pub enum Edition {
+    Crate,
+    Published,
+}
+
+// The first number in the crate's edition, the second in the published one.
+pub fn chosen(edition: Edition, of_crate: f64, published: f64) -> f64
+    ensures { λ r. ⌜ r ≡ chosen edition «of_crate» published ⌝ }
+{
+    match edition {
+        Edition::Crate => of_crate,
+        Edition::Published => published,
+    }
+}

@@ -1,0 +1,2 @@
+-- What a reader must believe of words. Definitions only.
+pub mod Word
