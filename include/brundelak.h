@@ -25,6 +25,7 @@
  *   11   the first byte of a radio list is not 2
  *   12   a number of a radio list is not in its shortest length or above 32 bits
  *   13   a radio list is cut short, an empty one too, or has bytes over
+ *   14   both arguments of an arctangent are zero, of either sign: there is no direction
  * 1 to 5 are tested first, lowest number first, over all arguments; the others as the work meets them.
  * Limits themselves are accepted.
  *
@@ -72,7 +73,7 @@ uint8_t brundelak_tangent(double x, double *out);
  * Given:     y, x   numbers of any size
  * Returned:  out    angle (radians) of size at most PI, with the sign of y; of size at least a quarter turn where x
  *                   bears a minus sign, -0.0 among them
- * Refusals:  1 */
+ * Refusals:  1, 14 where both are zero */
 uint8_t brundelak_arctangent(double y, double x, double *out);
 
 /* Arcsine.
@@ -183,7 +184,9 @@ uint8_t brundelak_dec_frm_ecl(double ecl_long, double ecl_lat, double oblq_eclip
  *            dec            declination, size at most 1.57
  *            observer_lat   observer's latitude
  * Returned:  out            azimuth from south, west positive, -PI to PI, with the sign of the sine of the hour angle
- * Refusals:  1, 3, 4 */
+ * Refusals:  1, 3, 4, 14
+ * Note:      at the zenith there is no direction: about nine such sights in ten are refused by 14, in the others
+ *            rounding alone gives 0, -PI or PI. */
 uint8_t brundelak_az_frm_eq(double hour_angle, double dec, double observer_lat, double *out);
 
 /* Altitude from equatorial coordinates.
@@ -199,7 +202,7 @@ uint8_t brundelak_alt_frm_eq(double hour_angle, double dec, double observer_lat,
  * Given:     az, alt        azimuth, altitude (size at most 1.57)
  *            observer_lat   observer's latitude
  * Returned:  out            hour angle, -PI to PI
- * Refusals:  1, 3, 4 */
+ * Refusals:  1, 3, 4, 14 (at the pole) */
 uint8_t brundelak_hr_angl_frm_hz(double az, double alt, double observer_lat, double *out);
 
 /* Declination from horizontal coordinates, as the ported crate has it.
@@ -219,7 +222,7 @@ uint8_t brundelak_dec_frm_hz_published(double az, double alt, double observer_la
 /* Galactic longitude from equatorial coordinates of B1950.0.
  * Given:     asc, dec   right ascension, declination (size at most 1.57)
  * Returned:  out        galactic longitude
- * Refusals:  1, 3, 4 */
+ * Refusals:  1, 3, 4, 14 (at the galactic pole) */
 uint8_t brundelak_gal_long_frm_eq(double asc, double dec, double *out);
 
 /* Galactic latitude from equatorial coordinates of B1950.0.
@@ -231,7 +234,7 @@ uint8_t brundelak_gal_lat_frm_eq(double asc, double dec, double *out);
 /* Right ascension of B1950.0 from galactic coordinates.
  * Given:     gal_long, gal_lat   galactic longitude, latitude (size at most 1.57)
  * Returned:  out                 right ascension
- * Refusals:  1, 3, 4 */
+ * Refusals:  1, 3, 4, 14 (at the celestial pole) */
 uint8_t brundelak_asc_frm_gal(double gal_long, double gal_lat, double *out);
 
 /* ---- precession (Meeus, chapter 21) ------------------------------------------------------------------------------ */
@@ -248,7 +251,7 @@ uint8_t brundelak_annual_precess(double asc, double dec, double day, double *fir
  * Given:     old_asc, old_dec   right ascension, declination on day1
  *            day1, day2         Julian days
  * Returned:  first, second      right ascension (not folded), declination on day2
- * Refusals:  1, 2, 3, 7
+ * Refusals:  1, 2, 3, then 14 (the star comes to the pole), 7
  * Note:      two signs are the ported crate's and not Meeus's: docs/DIFFERENCES.md. */
 uint8_t brundelak_precess_eq_coords(double old_asc, double old_dec, double day1, double day2,
                                     double *first, double *second);
@@ -262,7 +265,7 @@ uint8_t brundelak_precess_eq_coords_published(double old_asc, double old_dec, do
  * Given:     old_asc, old_dec   right ascension, declination on day1
  *            day1, day2         Julian days
  * Returned:  first, second      right ascension, declination on day2
- * Refusals:  1, 2, 3, 7
+ * Refusals:  1, 2, 3, then 14, 7
  * Note:      the crate takes counts of degrees as radians here: docs/DIFFERENCES.md. */
 uint8_t brundelak_precess_eq_coords_fk5(double old_asc, double old_dec, double day1, double day2,
                                         double *first, double *second);
@@ -338,7 +341,7 @@ uint8_t brundelak_eq_hz_parallax(double dist, double *out);
  *            height          metres above sea level
  *            sidereal        sidereal time at Greenwich
  * Returned:  first, second   topocentric right ascension, declination
- * Refusals:  1, 3, 4, 5 */
+ * Refusals:  1, 3, 4, 5, 14 */
 uint8_t brundelak_topocent_eq_coords(double asc, double dec, double parallax, double long_, double lat, double height,
                                      double sidereal, double *first, double *second);
 
@@ -371,7 +374,7 @@ uint8_t brundelak_topopcent_ecl_coords_published(double ecl_long, double ecl_lat
  * Given:     asc, dec        right ascension, declination on day1
  *            day1, day2      Julian days
  * Returned:  first, second   right ascension (not folded), declination on day2
- * Refusals:  1, 2, 3, then 7 (precession), then 4 on the precessed declination
+ * Refusals:  1, 2, 3, then 14 and 7 (precession), then 4 on the precessed declination
  * Note:      the obliquity is the true one on day2; files made by the mean one differ as docs/DIFFERENCES.md shows. */
 uint8_t brundelak_chain(double asc, double dec, double day1, double day2, double *first, double *second);
 
@@ -407,7 +410,7 @@ uint8_t brundelak_find(const uint8_t *bytes, size_t len, uint32_t number, size_t
  *            status, status_len    a byte for each star, at least as many as there are stars
  *            asc, asc_len          likewise, and
  *            dec, dec_len          likewise
- * Returned:  status[i]             0, or star i's refusal: 4, 7, or 9 for a record out of range
+ * Returned:  status[i]             0, or star i's refusal: 4, 7, 14, or 9 for a record out of range
  *            asc[i], dec[i]        star i's place on day2; 0.0 and 0.0 where it is refused; places past the stars stay
  *            tally                 20 counts: how many stars have status 0, 1, .. 19
  * Refusals:  1, 2, then 8; all that is lent stays unchanged */
@@ -421,7 +424,7 @@ uint8_t brundelak_batch_published(const uint8_t *bytes, size_t len, double day1,
                                   uint32_t *tally);
 
 /* One status counted in a tally.
- * Given:     status   0, or a refusal number up to 13
+ * Given:     status   0, or a refusal number up to 14
  *            tally    20 counts
  * Returned:  tally    the count of that status raised by one
  * Refusals:  9 for a status that is not known, then 8 for a count that is full, 60000; the counts stay unchanged */

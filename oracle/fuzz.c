@@ -308,7 +308,7 @@ static void batch_by(batch_call *call)
     sound &= kept_beyond(&statuses, stars) && kept_beyond(&ascs, 8 * stars) && kept_beyond(&decs, 8 * stars) && kept_beyond(&tally, 80);
     for (size_t i = 0; i < stars; i++) {
         sound &= status_of[i] == 0 ? isfinite(asc[i]) && isfinite(dec[i]) : asc[i] == 0.0 && dec[i] == 0.0;
-        sound &= status_of[i] == 0 || status_of[i] == 4 || status_of[i] == 7 || status_of[i] == 9;
+        sound &= status_of[i] == 0 || status_of[i] == 4 || status_of[i] == 7 || status_of[i] == 9 || status_of[i] == 14;
     }
     for (size_t i = 0; i < 20; i++)
         sum += counts[i];
@@ -336,7 +336,7 @@ static void tally_raise(void)
         counts[i] = below(2) ? (uint32_t)below(60002) : (uint32_t)bits();
     given(&tally);
     memcpy(before, counts, sizeof before);
-    uint8_t status = brundelak_tally_raise(of, counts), want = of > 13 ? 9 : before[of % 20] >= 60000 ? 8 : 0;
+    uint8_t status = brundelak_tally_raise(of, counts), want = of > 14 ? 9 : before[of % 20] >= 60000 ? 8 : 0;
     if (want == 0)
         before[of]++;
     judge(status, status == want && memcmp(before, counts, sizeof before) == 0 && (status == 0 ? kept_beyond(&tally, 80) : kept(&tally)));

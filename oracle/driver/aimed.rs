@@ -1,7 +1,8 @@
-//! Inputs aimed at refusals 6 and 7, which random ones miss: arguments of an arcsine beside 1, divisors that are zero.
+//! Inputs aimed at refusals 6, 7 and 14, which random ones miss: arguments of an arcsine beside 1, divisors that are zero, no direction.
 use inputs::Random;
 use port::{self, Lent};
 use std::f64::consts::{FRAC_PI_2, PI};
+use written;
 
 fn two(f: fn(&[f64], &mut Lent) -> u8, args: &[f64]) -> (f64, f64) {
     let mut lent = [0.0; 7];
@@ -36,12 +37,35 @@ fn ecliptic_turn(day1: f64, day2: f64) -> (f64, f64) {
     (nu, w.sin().atan2(w.cos() * nu.cos()))
 }
 
-/// An input aimed at 6 or 7, for the functions that can meet them.
+/// Where both arguments of an arctangent come out zero: the points that theorems name, in their bits.
+fn pole(asc: u64, dec: u64, day1: f64, day2: u64) -> Vec<f64> {
+    vec![f64::from_bits(asc), f64::from_bits(dec), day1, f64::from_bits(day2)]
+}
+
+/// An input aimed at 6, 7 or 14, for the functions that can meet them.
 pub fn input(r: &mut Random, name: &str) -> Option<Vec<f64>> {
     let angle = r.between(0.0, FRAC_PI_2);
     let day1 = r.between(1721045.0, 3182045.0);
     let day2 = r.between(1721045.0, 3182045.0);
     Some(match name {
+        "brundelak_arctangent" => vec![[0.0, -0.0][r.below(2)], [0.0, -0.0][r.below(2)]],
+        // The zenith, and the pole by its altitude.
+        "brundelak_az_frm_eq" => vec![0.0, angle, angle],
+        "brundelak_hr_angl_frm_hz" => vec![0.0, -angle, angle],
+        "brundelak_gal_long_frm_eq" => vec![written::radians(192.25), written::radians(27.4)],
+        "brundelak_asc_frm_gal" => vec![written::radians(123.0), written::radians(27.4)],
+        "brundelak_topocent_eq_coords" => vec![0.0, 0.0, FRAC_PI_2, 0.0, 0.0, 0.0, 0.0],
+        "brundelak_precess_eq_coords" | "brundelak_chain" | "brundelak_precess_eq_coords_published" | "brundelak_chain_published"
+            if r.below(8) == 0 =>
+        {
+            pole(0xbfa0b92c872917e9, 0x3ff8addaab05aec1, 2451545.0, 0x4143847b00000000)
+        }
+        "brundelak_precess_eq_coords_fk5" if r.below(8) == 0 => {
+            pole(0x3fe47e1764b16bca, 0xbff0399583afd1f3, 2451545.0, 0x41426cd600000000)
+        }
+        "brundelak_precess_eq_coords_fk5_published" if r.below(8) == 0 => {
+            pole(0xbf752d92049a74c8, 0x3ff90f943d214bc0, 2451545.0, 0x4142d52b18000000)
+        }
         "brundelak_ecl_lat_frm_eq" => vec![-FRAC_PI_2, FRAC_PI_2 - angle, angle],
         "brundelak_dec_frm_ecl" => vec![FRAC_PI_2, FRAC_PI_2 - angle, angle],
         "brundelak_alt_frm_eq" => vec![0.0, angle, angle],

@@ -29,18 +29,18 @@ pub struct Function {
     pub own: fn(&[f64]) -> Vec<f64>,
 }
 
-/// What the routed Rust answers, or 7 where an arcsine in it was refused by 7.
+/// What the routed Rust answers, or 7 where an arcsine in it was refused by 7, 14 where an arctangent was by 14.
 fn met(work: &dyn Fn() -> Vec<f64>) -> Outcome {
     met_with(work, || false)
 }
 
-/// The same where a division by zero is refused by 6: `zero` says whether the divisor was.
+/// The same where a division by zero is refused by 6: `zero` says whether the divisor was, which is tested before the arctangents.
 fn met_with<F: Fn() -> bool>(work: &dyn Fn() -> Vec<f64>, zero: F) -> Outcome {
     forget();
     let answer = work();
     match first_refusal() {
         0 => Answer(answer),
-        1 if zero() => Refused(6),
+        1 | 14 if zero() => Refused(6),
         1 => Refused(7), // an arcsine of an infinity
         n => Refused(n),
     }
@@ -151,7 +151,11 @@ pub fn all() -> Vec<Function> {
         function!(rule brundelak_sine [Alone] (1, 3) |a| Answer(vec![written::sine(a[0])]), vec![a[0].sin()]),
         function!(rule brundelak_cosine [Alone] (1, 3) |a| Answer(vec![written::cosine(a[0])]), vec![a[0].cos()]),
         function!(rule brundelak_tangent [AloneSteep] (1, 3, 4) |a| Answer(vec![written::tangent(a[0])]), vec![a[0].tan()]),
-        function!(rule brundelak_arctangent [Number, Number] (1) |a| Answer(vec![written::arctangent(a[0], a[1])]), vec![a[0].atan2(a[1])]),
+        function!(rule brundelak_arctangent [Number, Number] (1, 14) |a| if written::no_direction(a[0], a[1]) {
+            Refused(14)
+        } else {
+            Answer(vec![written::arctangent(a[0], a[1])])
+        }, vec![a[0].atan2(a[1])]),
         function!(rule brundelak_arcsine [Unit] (1, 7) |a| if a[0].abs() > 1.0 {
             Refused(7)
         } else {
@@ -179,26 +183,26 @@ pub fn all() -> Vec<Function> {
             |a| vec![coords::asc_frm_ecl(a[0], a[1], a[2])]),
         function!(rust brundelak_dec_frm_ecl [Angle, Latitude, Angle] (1, 3, 7)
             |a| vec![coords::dec_frm_ecl(a[0], a[1], a[2])]),
-        function!(rust brundelak_az_frm_eq [Angle, Steep, Latitude] (1, 3, 4)
+        function!(rust brundelak_az_frm_eq [Angle, Steep, Latitude] (1, 3, 4, 14)
             |a| vec![coords::az_frm_eq(a[0], a[1], a[2])]),
         function!(rust brundelak_alt_frm_eq [Angle, Latitude, Latitude] (1, 3, 7)
             |a| vec![coords::alt_frm_eq(a[0], a[1], a[2])]),
-        function!(rust brundelak_hr_angl_frm_hz [Angle, Steep, Latitude] (1, 3, 4)
+        function!(rust brundelak_hr_angl_frm_hz [Angle, Steep, Latitude] (1, 3, 4, 14)
             |a| vec![coords::hr_angl_frm_hz(a[0], a[1], a[2])]),
         function!(rust brundelak_dec_frm_hz [Angle, Latitude, Latitude] (1, 3, 7)
             |a| vec![coords::dec_frm_hz(a[0], a[1], a[2])]),
-        function!(rust brundelak_gal_long_frm_eq [Angle, Steep] (1, 3, 4)
+        function!(rust brundelak_gal_long_frm_eq [Angle, Steep] (1, 3, 4, 14)
             |a| vec![coords::gal_long_frm_eq(a[0], a[1])]),
         function!(rust brundelak_gal_lat_frm_eq [Angle, Latitude] (1, 3, 7)
             |a| vec![coords::gal_lat_frm_eq(a[0], a[1])]),
-        function!(rust brundelak_asc_frm_gal [Angle, Steep] (1, 3, 4)
+        function!(rust brundelak_asc_frm_gal [Angle, Steep] (1, 3, 4, 14)
             |a| vec![coords::asc_frm_gal(a[0], a[1])]),
 
         function!(rust brundelak_annual_precess [Angle, Steep, Day] (1, 2, 3, 4)
             |a| pair(precess::annual_precess(a[0], a[1], a[2]))),
-        function!(rust brundelak_precess_eq_coords [Angle, Latitude, Day, Day] (1, 2, 3, 7)
+        function!(rust brundelak_precess_eq_coords [Angle, Latitude, Day, Day] (1, 2, 3, 7, 14)
             |a| pair(precess::precess_eq_coords(a[0], a[1], a[2], a[3]))),
-        function!(rust brundelak_precess_eq_coords_fk5 [Angle, Latitude, Day, Day] (1, 2, 3, 7)
+        function!(rust brundelak_precess_eq_coords_fk5 [Angle, Latitude, Day, Day] (1, 2, 3, 7, 14)
             |a| pair(precess::precess_eq_coords_FK5(a[0], a[1], a[2], a[3]))),
         function!(rust brundelak_precess_ecl_coords [Angle, Latitude, Day, Day] (1, 2, 3, 7)
             |a| pair(precess::precess_ecl_coords(a[0], a[1], a[2], a[3]))),
@@ -224,7 +228,7 @@ pub fn all() -> Vec<Function> {
             |a| pair(aberr::stell_aberr_in_eq_coords(&coords::EqPoint { asc: a[0], dec: a[1] }, a[2]))),
 
         function!(rust brundelak_eq_hz_parallax [Distance] (1, 5) |a| vec![parallax::eq_hz_parallax(a[0])]),
-        function!(rust brundelak_topocent_eq_coords [Angle, Latitude, Angle, Angle, Steep, Height, Angle] (1, 3, 4, 5) |a| {
+        function!(rust brundelak_topocent_eq_coords [Angle, Latitude, Angle, Angle, Steep, Height, Angle] (1, 3, 4, 5, 14) |a| {
             let p = parallax::topocent_eq_coords(
                 &coords::EqPoint { asc: a[0], dec: a[1] },
                 a[2],
@@ -271,23 +275,23 @@ pub fn all() -> Vec<Function> {
         Function {
             name: "brundelak_chain",
             sorts: &CHAIN,
-            meets: &[1, 2, 3, 4, 7],
+            meets: &[1, 2, 3, 4, 7, 14],
             port: port::brundelak_chain,
             expected: chain_in,
             own: own_chain,
         },
         function!(rule brundelak_dec_frm_hz_published [Angle, Latitude, Latitude] (1, 3, 7)
             |a| WRITTEN.dec_frm_hz(a), published::numbers(OWN.dec_frm_hz(a))),
-        function!(rule brundelak_precess_eq_coords_published [Angle, Latitude, Day, Day] (1, 2, 3, 7)
+        function!(rule brundelak_precess_eq_coords_published [Angle, Latitude, Day, Day] (1, 2, 3, 7, 14)
             |a| WRITTEN.precess_eq_coords(a), published::numbers(OWN.precess_eq_coords(a))),
-        function!(rule brundelak_precess_eq_coords_fk5_published [Angle, Latitude, Day, Day] (1, 2, 3, 7)
+        function!(rule brundelak_precess_eq_coords_fk5_published [Angle, Latitude, Day, Day] (1, 2, 3, 7, 14)
             |a| WRITTEN.precess_eq_coords_fk5(a), published::numbers(OWN.precess_eq_coords_fk5(a))),
         function!(rule brundelak_topopcent_ecl_coords_published [Angle, Latitude, Angle, Angle, Steep, Height, Angle, Angle, Angle] (1, 3, 4, 5, 6, 7)
             |a| WRITTEN.topopcent_ecl_coords(a), published::numbers(OWN.topopcent_ecl_coords(a))),
         Function {
             name: "brundelak_chain_published",
             sorts: &CHAIN,
-            meets: &[1, 2, 3, 4, 7],
+            meets: &[1, 2, 3, 4, 7, 14],
             port: port::brundelak_chain_published,
             expected: published_chain_in,
             own: own_published_chain,

@@ -7,8 +7,9 @@ use written;
 pub struct Library {
     sine: fn(f64) -> f64,
     cosine: fn(f64) -> f64,
-    arctangent: fn(f64, f64) -> f64,
-    /// None where it is refused.
+    /// None where it is refused, by 14.
+    arctangent: fn(f64, f64) -> Option<f64>,
+    /// None where it is refused, by 7.
     arcsine: fn(f64) -> Option<f64>,
     earth: fn(f64, f64) -> (f64, f64),
 }
@@ -16,7 +17,7 @@ pub struct Library {
 pub const WRITTEN: Library = Library {
     sine: written::sine,
     cosine: written::cosine,
-    arctangent: written::arctangent,
+    arctangent: |y, x| if written::no_direction(y, x) { None } else { Some(written::arctangent(y, x)) },
     arcsine: |s| if s.abs() <= 1.0 { Some(written::arcsine(s)) } else { None },
     earth: written::earth,
 };
@@ -24,7 +25,7 @@ pub const WRITTEN: Library = Library {
 pub const OWN: Library = Library {
     sine: f64::sin,
     cosine: f64::cos,
-    arctangent: f64::atan2,
+    arctangent: |y, x| Some(y.atan2(x)),
     arcsine: |s| Some(s.asin()),
     earth: ::own::planet::earth::rho_sin_cos_phi,
 };
@@ -36,7 +37,10 @@ impl Library {
         let (sin_dec, cos_dec) = ((self.sine)(dec), (self.cosine)(dec));
         let (sin_theta, cos_theta) = ((self.sine)(theta), (self.cosine)(theta));
         let x = cos_theta * cos_dec * cos_asc - sin_theta * sin_dec;
-        let new_asc = (self.arctangent)(cos_dec * sin_asc, x) + zeta;
+        let new_asc = match (self.arctangent)(cos_dec * sin_asc, x) {
+            Some(angle) => angle + zeta,
+            None => return Refused(14),
+        };
         match (self.arcsine)(sin_theta * cos_dec * cos_asc + cos_theta * sin_dec) {
             Some(new_dec) => Answer(vec![new_asc, new_dec]),
             None => Refused(7),
@@ -86,12 +90,18 @@ impl Library {
         if n == 0.0 {
             return Refused(6);
         }
-        let long = (self.arctangent)(sin_long * cos_lat - parallax * (rho_sin * sin_oblq + rho_cos * cos_oblq * sin_time), n);
+        let long = match (self.arctangent)(sin_long * cos_lat - parallax * (rho_sin * sin_oblq + rho_cos * cos_oblq * sin_time), n) {
+            Some(angle) => angle,
+            None => return Refused(14),
+        };
         let cosine = (self.cosine)(long);
         if cosine == 0.0 {
             return Refused(6);
         }
-        let lat = (self.arctangent)(sin_lat - parallax * (rho_sin * cos_oblq - rho_cos * sin_oblq * sin_time), n / cosine);
+        let lat = match (self.arctangent)(sin_lat - parallax * (rho_sin * cos_oblq - rho_cos * sin_oblq * sin_time), n / cosine) {
+            Some(angle) => angle,
+            None => return Refused(14),
+        };
         match (self.arcsine)(cosine * (self.cosine)(lat) * (self.sine)(a[8]) / n) {
             Some(semidiameter) => Answer(vec![written::folded(long, 2.0 * PI), lat, semidiameter]),
             None => Refused(7),

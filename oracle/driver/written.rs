@@ -93,10 +93,14 @@ fn atn(v: f64) -> f64 {
     }
 }
 
+/// Whether the arctangent is refused by 14.
+pub fn no_direction(y: f64, x: f64) -> bool {
+    y == 0.0 && x == 0.0
+}
+
+/// Where it is not.
 pub fn arctangent(y: f64, x: f64) -> f64 {
-    let mut base = if y == 0.0 && x == 0.0 {
-        0.0
-    } else if y.abs() <= x.abs() {
+    let mut base = if y.abs() <= x.abs() {
         atn(y.abs() / x.abs())
     } else {
         FRAC_PI_2 - atn(x.abs() / y.abs())

@@ -33,6 +33,8 @@ pub enum Refusal {
     Spelling,
     /// 13: a radio list is cut short, an empty one too, or has bytes over.
     End,
+    /// 14: both arguments of an arctangent are zero: there is no direction.
+    NoDirection,
     /// A number that this version has no name for.
     Other(u8),
 }
@@ -55,6 +57,7 @@ impl Refusal {
             11 => Refusal::FirstByte,
             12 => Refusal::Spelling,
             13 => Refusal::End,
+            14 => Refusal::NoDirection,
             n => Refusal::Other(n),
         })
     }
@@ -75,6 +78,7 @@ impl Refusal {
             Refusal::FirstByte => 11,
             Refusal::Spelling => 12,
             Refusal::End => 13,
+            Refusal::NoDirection => 14,
             Refusal::Other(n) => n,
         }
     }
@@ -96,6 +100,7 @@ impl fmt::Display for Refusal {
             Refusal::FirstByte => "the first byte of a radio list is not 2",
             Refusal::Spelling => "a number of a radio list is not in its shortest length or above 32 bits",
             Refusal::End => "a radio list is cut short, an empty one too, or has bytes over",
+            Refusal::NoDirection => "there is no direction: both arguments of an arctangent are zero",
             Refusal::Other(_) => "the call was refused",
         };
         write!(f, "refused by {}: {}", self.number(), why)

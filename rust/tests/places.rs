@@ -25,7 +25,9 @@ fn elementary_cases() {
     assert_eq!(elementary::sin(-0.0).unwrap().to_bits(), (-0.0f64).to_bits());
     assert_eq!(elementary::cos(0.0), Ok(1.0));
     assert_eq!(elementary::atan2(1.0, 1.0), Ok(std::f64::consts::FRAC_PI_4));
-    assert_eq!(elementary::atan2(0.0, -0.0), Ok(PI));
+    for (y, x) in [(0.0, 0.0), (0.0, -0.0), (-0.0, 0.0), (-0.0, -0.0)] {
+        assert_eq!(elementary::atan2(y, x), Err(Refusal::NoDirection));
+    }
     assert_eq!(elementary::atan2(-1.0, 0.0), Ok(-FRAC_PI_2));
     assert_eq!(elementary::sqrt(4.0), Ok(2.0));
     assert_eq!(elementary::sqrt(f64::from_bits(1)), Ok(2f64.powi(-537)));
@@ -42,6 +44,27 @@ fn azimuth_keeps_its_side() {
     let (east, west) = (coords::az_frm_eq(-0.7, 0.4, 0.9).unwrap(), coords::az_frm_eq(0.7, 0.4, 0.9).unwrap());
     assert_eq!(east, -west);
     assert_eq!(coords::alt_frm_eq(-0.7, 0.4, 0.9), coords::alt_frm_eq(0.7, 0.4, 0.9));
+}
+
+/// Straight overhead there is no direction: refused by 14 at about nine latitudes in ten, and at the others 0 or half a turn in size.
+#[test]
+fn no_direction_at_the_zenith() {
+    let sights = 20000;
+    let mut none = 0;
+    for i in 1..=sights {
+        let lat = 1.5 * i as f64 / sights as f64;
+        match coords::az_frm_eq(0.0, lat, lat) {
+            Err(refusal) => {
+                assert_eq!(refusal, Refusal::NoDirection);
+                none += 1;
+            }
+            Ok(az) => assert!(az == 0.0 || az.abs() == PI),
+        }
+    }
+    assert!(none > sights * 8 / 10 && none < sights * 95 / 100);
+    assert_eq!(number(coords::az_frm_eq(-0.0, 0.0, -0.0)), 14);
+    assert_eq!(number(coords::hr_angl_frm_hz(0.0, 0.0, 0.0)), 14);
+    assert_eq!(number(coords::gal_long_frm_eq(deg(192.25), deg(27.4))), 14);
 }
 
 /// Meeus, example 13.b: Venus on 1987 April 10.
@@ -187,7 +210,7 @@ fn a_batch_is_the_chain_at_each_star() {
 fn a_tally_counts_known_statuses() {
     let once = batch::tally_raise([0; 20], 9).unwrap();
     assert_eq!((once[9], once.iter().sum::<u32>()), (1, 1));
-    assert_eq!(batch::tally_raise(once, 13).map(|t| (t[9], t[13])), Ok((1, 1)));
-    assert_eq!(batch::tally_raise(once, 14), Err(Refusal::Record));
+    assert_eq!(batch::tally_raise(once, 14).map(|t| (t[9], t[14])), Ok((1, 1)));
+    assert_eq!(batch::tally_raise(once, 15), Err(Refusal::Record));
     assert_eq!(batch::tally_raise([60000; 20], 0), Err(Refusal::List));
 }

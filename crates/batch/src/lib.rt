@@ -51,7 +51,7 @@ fn dec_of(star: Star) -> Rad
     angle::radians(dec_degrees(star))
 }
 
-// A star's place under a night. Refusals: 9 for a record out of range; then 7 and 4, since the angles of one in range are near enough.
+// A star's place under a night. Refusals: 9 for a record out of range; then 14, 7 and 4, since the angles of one in range are near enough.
 pub fn reduce_star(star: Star, night: Night) -> Two
     ensures { λ r. ⌜ shownTwo r ≡ reduceStar star night ⌝ }
 {

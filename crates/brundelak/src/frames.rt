@@ -95,7 +95,7 @@ pub extern "C" fn brundelak_dec_frm_ecl(
     )
 }
 
-// The azimuth, from south, west positive. Refusals: 1; 3; 4.
+// The azimuth, from south, west positive. Refusals: 1; 3; 4; 14.
 #[no_mangle]
 pub extern "C" fn brundelak_az_frm_eq(
     hour_angle: f64,
@@ -127,7 +127,7 @@ pub extern "C" fn brundelak_alt_frm_eq(
     )
 }
 
-// The hour angle from horizontal coordinates. Refusals: 1; 3; 4.
+// The hour angle from horizontal coordinates. Refusals: 1; 3; 4; 14.
 #[no_mangle]
 pub extern "C" fn brundelak_hr_angl_frm_hz(
     az: f64,
@@ -154,7 +154,7 @@ pub extern "C" fn brundelak_dec_frm_hz(az: f64, alt: f64, observer_lat: f64, out
     )
 }
 
-// The galactic longitude. Refusals: 1; 3; 4.
+// The galactic longitude. Refusals: 1; 3; 4; 14.
 #[no_mangle]
 pub extern "C" fn brundelak_gal_long_frm_eq(asc: f64, dec: f64, out: &mut f64) -> u8
     ensures { λ n. ⌜ Told (numberOfRadians (galLongFrmEqRule (record { 0 = asc }) (record { 0 = dec }))) n (now (out .entry)) (now (out .exit)) ⌝ }
@@ -170,7 +170,7 @@ pub extern "C" fn brundelak_gal_lat_frm_eq(asc: f64, dec: f64, out: &mut f64) ->
     give_radians(coords_gal::gal_lat_frm_eq(Rad(asc), Rad(dec)), out)
 }
 
-// The right ascension from galactic coordinates. Refusals: 1; 3; 4.
+// The right ascension from galactic coordinates. Refusals: 1; 3; 4; 14.
 #[no_mangle]
 pub extern "C" fn brundelak_asc_frm_gal(gal_long: f64, gal_lat: f64, out: &mut f64) -> u8
     ensures { λ n. ⌜ Told (numberOfRadians (ascFrmGalRule (record { 0 = «gal_long» }) (record { 0 = «gal_lat» }))) n (now (out .entry)) (now (out .exit)) ⌝ }

@@ -32,7 +32,7 @@ pub extern "C" fn brundelak_tangent(x: f64, out: &mut f64) -> u8
     give(elementary::tangent(Rad(x)), out)
 }
 
-// The arctangent of (y, x). Refusals: 1.
+// The arctangent of (y, x). Refusals: 1; 14 where both are zero.
 #[no_mangle]
 pub extern "C" fn brundelak_arctangent(y: f64, x: f64, out: &mut f64) -> u8
     ensures { λ n. ⌜ Told (numberOfRadians (arctangentRule y x)) n (now (out .entry)) (now (out .exit)) ⌝ }

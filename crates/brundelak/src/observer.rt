@@ -21,7 +21,7 @@ pub extern "C" fn brundelak_eq_hz_parallax(dist: f64, out: &mut f64) -> u8
     give_radians(parallax::eq_hz_parallax(dist), out)
 }
 
-// Topocentric right ascension and declination. Refusals: 1; 3; 4; 5.
+// Topocentric right ascension and declination. Refusals: 1; 3; 4; 5; 14.
 #[no_mangle]
 pub extern "C" fn brundelak_topocent_eq_coords(
     asc: f64,

@@ -36,7 +36,7 @@ pub extern "C" fn brundelak_annual_precess(
     )
 }
 
-// Equatorial coordinates from one day to another. Refusals: 1; 2; 3; 7.
+// Equatorial coordinates from one day to another. Refusals: 1; 2; 3; 14; 7.
 #[no_mangle]
 pub extern "C" fn brundelak_precess_eq_coords(
     old_asc: f64,
@@ -55,7 +55,7 @@ pub extern "C" fn brundelak_precess_eq_coords(
     )
 }
 
-// Coordinates of the FK4 system from one day to another. Refusals: 1; 2; 3; 7.
+// Coordinates of the FK4 system from one day to another. Refusals: 1; 2; 3; 14; 7.
 #[no_mangle]
 pub extern "C" fn brundelak_precess_eq_coords_fk5(
     old_asc: f64,
@@ -180,7 +180,7 @@ pub extern "C" fn brundelak_stell_aberr_in_eq_coords(
     )
 }
 
-// A star's place from one day to another: precession, nutation, aberration. Refusals: 1; 2; 3; 7; 4.
+// A star's place from one day to another: precession, nutation, aberration. Refusals: 1; 2; 3; 14; 7; 4.
 #[no_mangle]
 pub extern "C" fn brundelak_chain(
     asc: f64,

@@ -143,7 +143,7 @@ fn reduced_at(p: EqPoint, night: Night) -> Two
     )
 }
 
-// A star's place under a night, of a place that is not refused. Refusals: 7; 4.
+// A star's place under a night, of a place that is not refused. Refusals: 14; 7; 4.
 pub fn reduced_in(asc: Rad, dec: Rad, night: Night) -> Two
     ensures { λ r. ⌜ shownTwo r ≡ reducedIn asc dec night ⌝ }
 {
@@ -156,7 +156,7 @@ pub fn reduced_in(asc: Rad, dec: Rad, night: Night) -> Two
 
 // ---- the chain
 
-// A star's place on the second day from its place on the first. Refusals: 1; 2; 3; then 7, and 4 for the precessed declination.
+// A star's place on the second day from its place on the first. Refusals: 1; 2; 3; then 14, 7, and 4 for the precessed declination.
 pub fn chain(edition: Edition, asc: Rad, dec: Rad, day1: f64, day2: f64) -> Two
     ensures { λ r. ⌜ shownTwo r ≡ chainRule edition asc dec day1 day2 ⌝ }
 {

@@ -63,7 +63,7 @@ fn gal_long_in(asc: Rad, dec: Rad) -> Radians
     )
 }
 
-// The galactic longitude from equatorial coordinates. Refusals: 1; 3; 4 past 1.57 for declination.
+// The galactic longitude from equatorial coordinates. Refusals: 1; 3; 4 past 1.57 for declination; then 14 at the galactic pole.
 pub fn gal_long_frm_eq(asc: Rad, dec: Rad) -> Radians
     ensures { λ r. ⌜ shownRadians r ≡ galLongFrmEqRule asc dec ⌝ }
 {
@@ -112,7 +112,7 @@ fn asc_frm_gal_in(long: Rad, lat: Rad) -> Radians
     )
 }
 
-// The right ascension from galactic coordinates. Refusals: 1; 3; 4 past 1.57 for latitude.
+// The right ascension from galactic coordinates. Refusals: 1; 3; 4 past 1.57 for latitude; then 14 at the celestial pole.
 pub fn asc_frm_gal(gal_long: Rad, gal_lat: Rad) -> Radians
     ensures { λ r. ⌜ shownRadians r ≡ ascFrmGalRule «gal_long» «gal_lat» ⌝ }
 {

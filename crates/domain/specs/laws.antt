@@ -2,6 +2,7 @@
 -- is true, each answer is finite, and the refusals that the work can meet are named. Theorems only.
 pub mod Elementary
 pub mod Frames
+pub mod FrameRefusals
 pub mod Days
 pub mod Helpers
 pub mod Conversions
@@ -24,4 +25,5 @@ pub mod TopocentEq
 pub mod TopopcentEcl
 pub mod Chain
 pub mod Star
+pub mod Fourteen
 pub mod Wrong

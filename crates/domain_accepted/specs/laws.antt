@@ -2,6 +2,8 @@
 -- it. Theorems only.
 pub mod Accepted
 pub mod Near
+pub mod Neighbours
+pub mod Cosine
 pub mod Outcome
 pub mod Elementary
 pub mod Horizon

@@ -1,3 +1,4 @@
 -- What the theorems are stated by. Definitions only.
 pub mod Outcome
 pub mod Within
+pub mod Away

@@ -3,7 +3,7 @@
 ghost use mathlib.Core.Path.{_≡_};
 ghost use Rattle.quantity.specs.rules.Answer.{shownRadians};
 ghost use Rattle.elementary_arc.specs.rules.Series.{arctangentSeries};
-ghost use Rattle.elementary_arc.specs.rules.Arctangent.{atn, bothZero, base, turned, arctangentOf, arctangentIn, arctangentRefusal, arctangentRule};
+ghost use Rattle.elementary_arc.specs.rules.Arctangent.{atn, base, turned, arctangentOf, bothZero, arctangentIn, arctangentRefusal, arctangentRule};
 ghost use Rattle.elementary_arc.specs.rules.Arcsine.{arcsineIn, arcsineRule};
 use quantity::HALF;
 use quantity::One;
@@ -92,20 +92,10 @@ fn atn(v: f64) -> f64
     }
 }
 
-// Whether y and x are zero, of either sign.
-fn both_zero(y: f64, x: f64) -> bool
-    ensures { λ r. ⌜ r ≡ bothZero y x ⌝ }
-{
-    if y == 0.0 { x == 0.0 } else { false }
-}
-
 // The base of two sizes.
 fn base(y: f64, x: f64) -> f64
     ensures { λ r. ⌜ r ≡ base y x ⌝ }
 {
-    if both_zero(y, x) {
-        return 0.0;
-    }
     if y <= x {
         atn(y / x)
     } else {
@@ -120,7 +110,7 @@ fn turned(minus: bool, b: f64) -> f64
     if minus { PI - b } else { b }
 }
 
-// The arctangent of (y, x): the angle from the second axis, with y's sign.
+// The arctangent of (y, x), which are not both zero: the angle from the second axis, with y's sign.
 fn arctangent_of(y: f64, x: f64) -> Rad
     ensures { λ r. ⌜ r ≡ arctangentOf y x ⌝ }
 {
@@ -131,10 +121,20 @@ fn arctangent_of(y: f64, x: f64) -> Rad
     Rad(double::negated_if(double::bears_minus(y), double::size(b)))
 }
 
-// The arctangent as other functions use it. Answered: the angle. Refusals, which callers hand on: none.
+// Whether y and x are zero, of either sign.
+fn both_zero(y: f64, x: f64) -> bool
+    ensures { λ r. ⌜ r ≡ bothZero y x ⌝ }
+{
+    if y == 0.0 { x == 0.0 } else { false }
+}
+
+// The arctangent as other functions use it. Refusals, which callers hand on: 14 where both are zero.
 pub fn arctangent_in(y: f64, x: f64) -> Radians
     ensures { λ r. ⌜ shownRadians r ≡ arctangentIn y x ⌝ }
 {
+    if both_zero(y, x) {
+        return Radians::Refused(14);
+    }
     Radians::Are(arctangent_of(y, x))
 }
 
@@ -145,7 +145,7 @@ fn arctangent_refusal(y: f64, x: f64) -> u8
     quantity::lower(quantity::number_refusal(y), quantity::number_refusal(x))
 }
 
-// The arctangent of (y, x), called alone. Refusals: 1.
+// The arctangent of (y, x), called alone. Refusals: 1; 14 where both are zero.
 pub fn arctangent(y: f64, x: f64) -> Radians
     ensures { λ r. ⌜ shownRadians r ≡ arctangentRule y x ⌝ }
 {
@@ -156,7 +156,7 @@ pub fn arctangent(y: f64, x: f64) -> Radians
     arctangent_in(y, x)
 }
 
-// The arcsine as other functions use it. Refusals, which callers hand on: 7 where s exceeds 1 in size.
+// The arcsine as other functions use it. Refusals, which callers hand on: 7 where s exceeds 1 in size; never 14.
 pub fn arcsine_in(s: f64) -> Radians
     ensures { λ r. ⌜ shownRadians r ≡ arcsineIn s ⌝ }
 {

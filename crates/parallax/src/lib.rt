@@ -168,7 +168,7 @@ fn topocent_refusal(
 }
 
 // The topocentric equatorial point of a body. Given: its point, its equatorial horizontal parallax, the observer's place and height,
-// and the sidereal time at Greenwich. Refusals: 1; 3; 4 past 1.57 for the observer's latitude; 5.
+// and the sidereal time at Greenwich. Refusals: 1; 3; 4 past 1.57 for the observer's latitude; 5; then 14.
 pub fn topocent_eq_coords(
     eq_point: EqPoint,
     eq_hz_parllx: Rad,

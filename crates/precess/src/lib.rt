@@ -173,7 +173,7 @@ pub fn eq_turns(edition: Edition, day1: f64, day2: f64) -> EqTurns
     )
 }
 
-// A place after the turns, from the direction of its right ascension with xi added and its declination. Refusals: 7.
+// A place after the turns, from the direction of its right ascension with xi added and its declination. Refusals: 14; 7.
 fn placed(d: Direction, turns: EqTurns) -> Two
     ensures { λ r. ⌜ shownTwo r ≡ placed d turns ⌝ }
 {
@@ -190,7 +190,7 @@ fn placed(d: Direction, turns: EqTurns) -> Two
     )
 }
 
-// A place under the turns of a night, of arguments that are not refused. Refusals: 7.
+// A place under the turns of a night, of arguments that are not refused. Refusals: 14; 7.
 pub fn turned_in(asc: Rad, dec: Rad, turns: EqTurns) -> Two
     ensures { λ r. ⌜ shownTwo r ≡ turnedIn asc dec turns ⌝ }
 {
@@ -201,7 +201,7 @@ pub fn turned_in(asc: Rad, dec: Rad, turns: EqTurns) -> Two
     placed(elementary::toward(p), turns)
 }
 
-// Equatorial coordinates reduced from the first day to the second. Refusals: 1; 2; 3; then 7.
+// Equatorial coordinates reduced from the first day to the second. Refusals: 1; 2; 3; then 14; 7.
 pub fn precess_eq_coords(edition: Edition, old_asc: Rad, old_dec: Rad, day1: f64, day2: f64) -> Two
     ensures { λ r. ⌜ shownTwo r ≡ precessEqCoordsRule edition «old_asc» «old_dec» day1 day2 ⌝ }
 {
@@ -285,7 +285,7 @@ fn fk4_turns(edition: Edition, day1: f64, day2: f64) -> EqTurns
     )
 }
 
-// Equatorial coordinates of the FK4 system reduced from the first day to the second. Refusals: 1; 2; 3; then 7.
+// Equatorial coordinates of the FK4 system reduced from the first day to the second. Refusals: 1; 2; 3; then 14; 7.
 pub fn precess_eq_coords_FK5(
     edition: Edition,
     old_asc: Rad,

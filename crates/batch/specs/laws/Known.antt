@@ -12,7 +12,7 @@ use Rattle.quantity.specs.rules.Answer.{Answer, answered, refused, Pair, unless
 use Rattle.quantity.specs.rules.Refusal.{lower, past, angleRefusal, latitudeRefusal, steepRefusal}
 use Rattle.edition.specs.declared.Edition.{Edition}
 use Rattle.root.specs.rules.Root.{rootRule, rootRefusal}
-use Rattle.elementary_arc.specs.rules.Arctangent.{arctangentIn}
+use Rattle.elementary_arc.specs.rules.Arctangent.{bothZero, arctangentIn}
 use Rattle.elementary_arc.specs.rules.Arcsine.{arcsineIn}
 use Rattle.precess.specs.declared.EqTurns.{EqTurns}
 use Rattle.precess.specs.rules.Equatorial.{placed, turnedIn}
@@ -83,7 +83,7 @@ known-root x =
 
 known-arctangent : (y x : Float) → statusOf (arctangentIn y x) ≤ highestStatus
 unfolding arctangentIn
-known-arctangent y x = omega arith
+known-arctangent y x = known-choice (bothZero y x) (refused 14) _ (omega arith) (omega arith)
 
 known-arcsine : (s : Float) → statusOf (arcsineIn s) ≤ highestStatus
 unfolding arcsineIn

@@ -1,5 +1,5 @@
--- Condition 3: azimuth keeps the sign of the sine of the hour angle, and its size is at most a quarter turn, or at least one, as the
--- arctangent's second argument bears no minus sign or bears one. Assumes nothing.
+-- Condition 3, on every answered call: azimuth keeps the sign of the sine of the hour angle, and its size is at most a quarter turn, or
+-- at least one, as the arctangent's second argument bears no minus sign or bears one. Assumes nothing.
 use mathlib.Core.Path.{_≡_}
 use mathlib.Core.Bool.{true, false}
 use Rattle.double.specs.rules.Sign.{bearsMinus, size}
@@ -14,8 +14,6 @@ use Rattle.elementary_arc.specs.laws.Arctangent.{arctangent-in-sign, arctangent
 use Rattle.coords.specs.rules.Arguments.{steepSkyRefusal}
 use Rattle.domain_accepted.specs.laws.Horizon.{westward-finite, southward-finite}
 use Rattle.coords.specs.rules.Horizon.{southward, azimuthIn, azFrmEqRule}
-
--- ---- on every answered call
 
 module _ (h d p : Rad) (v : Rad) (answer : azFrmEqRule h d p ≡ answered v) where
   pub azimuth-accepted : steepSkyRefusal h d p ≡ 0

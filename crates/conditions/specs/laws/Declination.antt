@@ -1,27 +1,29 @@
 -- Condition 3: negate declination with latitude, the arctangent's second argument not being zero: altitude stays, the azimuth's
--- sign stays, and the size (w .0)ith a negative second argument is PI less the other, rounded once. Refused calls refuse alike.
+-- sign stays, and the size with a negative second argument is PI less the other, rounded once. Refused calls refuse alike, whatever the
+-- second argument.
 -- Assumes nothing.
 use Prim.Native.Nat.{ℕ}
 use mathlib.Core.Path.{_≡_, sym, ap, _∙_}
-use mathlib.Core.Bool.{Bool, true, false, not, cond}
-use lib.Dec.{eqb}
+use mathlib.Core.Bool.{Bool, true, false, not, _&&_}
 use lib.Ieee.{binary64, neg}
 use Rattle.double.specs.rules.Operations.{_⊖_, _⊗_}
 use Rattle.double.specs.rules.Sign.{bearsMinus, size}
-use Rattle.double.specs.rules.Order.{NonZero}
+use Rattle.double.specs.rules.Order.{isZero, NonZero}
 use Rattle.double.specs.laws.Sign.{neg-neg, minus-neg}
 use Rattle.double.specs.laws.Mirror.{mul-neg-l, mul-neg-r, mul-neg-neg, sub-neg-neg}
+use Rattle.double.specs.laws.Zero.{sub-zero-neg}
 use Rattle.quantity.specs.declared.Rad.{Rad}
 use Rattle.quantity.specs.rules.Angle.{PI, opposite}
-use Rattle.quantity.specs.rules.Answer.{answered, refused, unless}
+use Rattle.quantity.specs.rules.Answer.{answered, refused}
 use Rattle.quantity.specs.laws.Refusal.{latitude-opposite, steep-opposite}
 use Rattle.elementary.specs.rules.Sine.{sineOf, cosineOf, tangentOf}
-use Rattle.elementary_arc.specs.rules.Arctangent.{arctangentOf, arctangentIn}
+use Rattle.elementary_arc.specs.rules.Arctangent.{arctangentIn}
 use Rattle.elementary.specs.laws.Mirror.{sine-odd, cosine-even, tangent-odd}
 use Rattle.elementary_arc.specs.laws.Arctangent.{arctangent-in-behind}
 use Rattle.coords.specs.rules.Arguments.{steepSkyRefusal}
 use Rattle.coords.specs.rules.Horizon.{southward, azimuthIn, azFrmEqRule, altitudeIn, altFrmEqRule}
 use Rattle.domain_accepted.specs.laws.Horizon.{southward-finite}
+use Rattle.conditions.specs.laws.Alike.{opposite-twice, refused-alike, arctangents-refused-alike}
 use Rattle.conditions.specs.laws.Azimuth.{azimuth-accepted, azimuth-worked-out, azimuth-sign}
 
 -- ---- altitude
@@ -40,26 +42,26 @@ altitude-declination h d p = rw (latitude-opposite d, latitude-opposite p, altit
 refusal-declination : (h d p : Rad) → steepSkyRefusal h (opposite d) (opposite p) ≡ steepSkyRefusal h d p
 refusal-declination h d p = rw (steep-opposite d, latitude-opposite p)
 
--- what is refused before the work is refused whatever the work
-refused-first : (m n : ℕ) (v w : Rad) → unless m (answered v) ≡ refused n → unless m (answered w) ≡ refused n
-refused-first m n v w e = by-case (eqb m 0) e
-  where
-    by-case : (b : Bool) → cond b (answered v) (refused m) ≡ refused n → cond b (answered w) (refused m) ≡ refused n
-    by-case true e = cc
-    by-case false e = e
+-- the second argument is zero in the one as in the other
+southward-zero : (h d p : Rad) → isZero (southward h (opposite d) (opposite p)) ≡ isZero (southward h d p)
+southward-zero h d p =
+    rw
+    (sine-odd p, tangent-odd d, cosine-even p, mul-neg-r binary64 (cosineOf h) (sineOf p), mul-neg-l binary64 (tangentOf d) (cosineOf p))
+    (sub-zero-neg binary64 (cosineOf h ⊗ sineOf p) (tangentOf d ⊗ cosineOf p))
 
+-- by 14 too
 pub azimuth-refused-there : (h d p : Rad) (n : ℕ) → azFrmEqRule h d p ≡ refused n → azFrmEqRule h (opposite d) (opposite p) ≡ refused n
-unfolding azimuthIn arctangentIn
+unfolding azimuthIn
 azimuth-refused-there h d p n e =
+    let x = southward h d p in
+    let x' = southward h (opposite d) (opposite p) in
     rw (refusal-declination h d p)
-    (refused-first (steepSkyRefusal h d p) n (arctangentOf (sineOf h) (southward h d p)) (arctangentOf (sineOf h) (southward h (opposite d) (opposite p))) e)
+    (refused-alike (steepSkyRefusal h d p) n (azimuthIn h d p) (azimuthIn h (opposite d) (opposite p))
+    (arctangents-refused-alike (sineOf h) x (sineOf h) x' (ap (λ (b : Bool). isZero (sineOf h) && b) (southward-zero h d p))) e)
 
 pub azimuth-refused-here : (h d p : Rad) (n : ℕ) → azFrmEqRule h (opposite d) (opposite p) ≡ refused n → azFrmEqRule h d p ≡ refused n
-unfolding azimuthIn arctangentIn
 azimuth-refused-here h d p n e =
-    refused-first (steepSkyRefusal h d p) n (arctangentOf (sineOf h) (southward h (opposite d) (opposite p)))
-    (arctangentOf (sineOf h) (southward h d p))
-    (rw (refusal-declination h d p) at e)
+    rw (opposite-twice d, opposite-twice p) at (azimuth-refused-there h (opposite d) (opposite p) n e)
 
 -- ---- azimuth, answered
 

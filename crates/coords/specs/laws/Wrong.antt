@@ -18,7 +18,7 @@ use Rattle.edition.specs.declared.Edition.the-variants.{Crate, Published}
 use Rattle.elementary_arc.specs.notions.Computed.{computed}
 use Rattle.coords.specs.rules.HourAngle.{hrAnglFrmObserverLongRule, hrAnglFrmLocSidrRule}
 use Rattle.coords.specs.rules.Horizon.{azimuthIn, azFrmEqRule, altitudeIn, altFrmEqRule, hrAnglFrmHzIn, hrAnglFrmHzRule, decFrmHzIn, decFrmHzRule}
-use Rattle.coords.specs.notions.Wrong.{longitudeAdded, localTimeTurned, oppositeQuadrant, sineAndCosineTraded, hourAngleReducedFirst, latitudeForDeclination, declinationNotSteep, altitudeRegrouped, limitOfAnAngleForALatitude, hourAngleOfTheRatio, cosineOfAzimuthOnce}
+use Rattle.coords.specs.notions.Wrong.{longitudeAdded, localTimeTurned, oppositeQuadrant, sineAndCosineTraded, hourAngleReducedFirst, latitudeForDeclination, declinationNotSteep, zenithIsSouth, altitudeRegrouped, limitOfAnAngleForALatitude, hourAngleOfTheRatio, cosineOfAzimuthOnce}
 
 -- ---- hour angles
 
@@ -40,7 +40,7 @@ local-time-turned-excluded = apart (ofAnswer ofRad) refl
 
 -- ---- azimuth
 
-pub az-frm-eq-varies : Varies (azFrmEqRule r½ r0 r0) (azFrmEqRule r0 r0 r0)
+pub az-frm-eq-varies : Varies (azFrmEqRule r½ r0 r0) (azFrmEqRule r0 r½ r0)
 unfolding computed azimuthIn
 az-frm-eq-varies = record { here = refl; there = refl; apart = apart (ofAnswer ofRad) refl }
 
@@ -52,13 +52,13 @@ module _ (f : Rad → Rad → Rad → Radians) (meets : (h d p : Rad) → shownR
 
   pub azimuth-answers-a-constant-excluded : (c : Radians) → ¬ ((h d p : Rad) → f h d p ≡ c)
   azimuth-answers-a-constant-excluded c wrong =
-      is-not-constant az-frm-eq-varies (meets r½ r0 r0) (meets r0 r0 r0) (ap shownRadians (wrong r½ r0 r0 ∙ sym (wrong r0 r0 r0)))
+      is-not-constant az-frm-eq-varies (meets r½ r0 r0) (meets r0 r½ r0) (ap shownRadians (wrong r½ r0 r0 ∙ sym (wrong r0 r½ r0)))
 
 pub opposite-quadrant-excluded : oppositeQuadrant r0 r½ r0 ≢ azFrmEqRule r0 r½ r0
 unfolding computed azimuthIn
 opposite-quadrant-excluded = apart (ofAnswer ofRad) refl
 
-pub sine-and-cosine-traded-excluded : sineAndCosineTraded r0 r0 r0 ≢ azFrmEqRule r0 r0 r0
+pub sine-and-cosine-traded-excluded : sineAndCosineTraded r½ r½ r0 ≢ azFrmEqRule r½ r½ r0
 unfolding computed azimuthIn
 sine-and-cosine-traded-excluded = apart (ofAnswer ofRad) refl
 
@@ -73,6 +73,11 @@ latitude-for-declination-excluded = apart (ofAnswer ofRad) refl
 pub declination-not-steep-excluded : declinationNotSteep r0 (rad HALF) r0 ≢ azFrmEqRule r0 (rad HALF) r0
 unfolding computed azimuthIn
 declination-not-steep-excluded = apart (ofAnswer ofRad) refl
+
+-- at the zenith of the equator
+pub zenith-is-south-excluded : zenithIsSouth r0 r0 r0 ≢ azFrmEqRule r0 r0 r0
+unfolding computed azimuthIn
+zenith-is-south-excluded = apart (ofAnswer ofRad) refl
 
 -- ---- altitude
 
@@ -90,7 +95,7 @@ limit-of-an-angle-for-a-latitude-excluded = apart (ofAnswer ofRad) refl
 
 -- ---- from horizontal coordinates
 
-pub hr-angl-frm-hz-varies : Varies (hrAnglFrmHzRule r½ r0 r0) (hrAnglFrmHzRule r0 r0 r0)
+pub hr-angl-frm-hz-varies : Varies (hrAnglFrmHzRule r½ r0 r0) (hrAnglFrmHzRule r0 r½ r0)
 unfolding computed hrAnglFrmHzIn
 hr-angl-frm-hz-varies = record { here = refl; there = refl; apart = apart (ofAnswer ofRad) refl }
 

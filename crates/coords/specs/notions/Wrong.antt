@@ -1,16 +1,17 @@
 -- Wrong variants of hour angles and horizontal coordinates.
+use mathlib.Core.Bool.{cond}
 use lib.Ieee.{Float}
-use Rattle.double.specs.rules.Operations.{bits, one, _⊕_, _⊖_, _⊗_, _⊘_}
+use Rattle.double.specs.rules.Operations.{bits, zero, one, _⊕_, _⊖_, _⊗_, _⊘_}
 use Rattle.quantity.specs.declared.Rad.{Rad}
 use Rattle.quantity.specs.rules.Angle.{rad}
 use Rattle.quantity.specs.rules.Answer.{Answer, answered, unless}
 use Rattle.quantity.specs.rules.Refusal.{lower, angleRefusal, latitudeRefusal}
 use Rattle.elementary.specs.rules.Sine.{sineOf, cosineOf, tangentOf}
-use Rattle.elementary_arc.specs.rules.Arctangent.{arctangentIn}
+use Rattle.elementary_arc.specs.rules.Arctangent.{bothZero, arctangentIn}
 use Rattle.elementary_arc.specs.rules.Arcsine.{arcsineIn}
 use Rattle.coords.specs.rules.Arguments.{skyRefusal, steepSkyRefusal}
 use Rattle.coords.specs.rules.HourAngle.{observerLongRefusal, locSidrRefusal}
-use Rattle.coords.specs.rules.Horizon.{azimuthIn, azFrmEqRule, altitudeIn}
+use Rattle.coords.specs.rules.Horizon.{southward, azimuthIn, azFrmEqRule, altitudeIn}
 
 -- 2·PI
 abbrev turn : Float
@@ -47,6 +48,11 @@ latitudeForDeclination h d p = azFrmEqRule h p d
 -- a declination past 1.57 let in
 abbrev pub declinationNotSteep : Rad → Rad → Rad → Answer Rad
 declinationNotSteep h d p = unless (skyRefusal h d p) (azimuthIn h d p)
+
+-- 14 turned into an angle
+abbrev pub zenithIsSouth : Rad → Rad → Rad → Answer Rad
+zenithIsSouth h d p =
+    unless (steepSkyRefusal h d p) (cond (bothZero (sineOf h) (southward h d p)) (answered (rad zero)) (azimuthIn h d p))
 
 -- ---- altitude
 

@@ -1,5 +1,5 @@
 -- The chain on arguments that are not refused: the steps at the precessed point refuse nothing but its declination, by 4, so that the
--- chain meets 7 and 4 only; and each answer is finite. Assumes nothing.
+-- chain meets 14, 7 and 4 only; and each answer is finite. Assumes nothing.
 use Prim.Native.Nat.{ℕ}
 use mathlib.Core.Path.{_≡_, refl, sym, _∙_, subst}
 use mathlib.Core.Logic.{_⊎_, inl, inr}
@@ -31,7 +31,7 @@ use Rattle.aberr.specs.rules.Star.{stellAberrRefusal, stellAberrInEqCoordsIn, s
 use Rattle.chain.specs.rules.Numbers.{n84381·448, n46·8150, n0·00059, n0·001813}
 use Rattle.chain.specs.rules.Obliquity.{meanObliquity, meanObliquityOf, trueObliquity}
 use Rattle.chain.specs.rules.Chain.{point, sum, fromPoint, chainRule}
-use Rattle.domain_accepted.specs.notions.Outcome.{Outcome, FourOrSeven}
+use Rattle.domain_accepted.specs.notions.Outcome.{Outcome, FourSevenOrFourteen}
 use Rattle.domain_accepted.specs.notions.Within.{Within, IsPlace, BothFinite, BothWithin}
 use Rattle.domain_accepted.specs.laws.Outcome.{outcome-answered, outcome-then}
 use Rattle.domain_accepted.specs.laws.Near.{within, near-far}
@@ -121,7 +121,7 @@ module _ (p n : Pair) (day : Float) (P : IsPlace p) (N : BothWithin 1 n) (D : da
   aberr-cases =
       elim (steep-cases (rad (second p)) (P .1)) [ inl z ↦ inl (rw (asc-none, z, D)) | inr f ↦ inr (rw (asc-none, f, D)) ]
 
-  nutation-step : Outcome (BothWithin 4194304) FourOrSeven (nutationInEqCoordsRule (point p) (rad (first n)) (rad (second n)) oblq)
+  nutation-step : Outcome (BothWithin 4194304) FourSevenOrFourteen (nutationInEqCoordsRule (point p) (rad (first n)) (rad (second n)) oblq)
   unfolding nutationInEqCoordsRule
   nutation-step =
       let long = rad (first n) in
@@ -136,7 +136,7 @@ module _ (p n : Pair) (day : Float) (P : IsPlace p) (N : BothWithin 1 n) (D : da
             ];
       }
 
-  aberr-step : Outcome (BothWithin 8) FourOrSeven (stellAberrInEqCoordsRule (point p) day)
+  aberr-step : Outcome (BothWithin 8) FourSevenOrFourteen (stellAberrInEqCoordsRule (point p) day)
   unfolding stellAberrInEqCoordsRule
   aberr-step =
       record {
@@ -149,7 +149,7 @@ module _ (p n : Pair) (day : Float) (P : IsPlace p) (N : BothWithin 1 n) (D : da
             ];
       }
 
-  from-outcome : Outcome BothFinite FourOrSeven (fromPoint p n day)
+  from-outcome : Outcome BothFinite FourSevenOrFourteen (fromPoint p n day)
   unfolding isFinite le neg add ofBits round
   from-outcome =
       outcome-then (λ (s : Pair). then (stellAberrInEqCoordsRule (point p) day) (λ (a : Pair). answered (sum p s a)))
@@ -164,15 +164,15 @@ module _ (p n : Pair) (day : Float) (P : IsPlace p) (N : BothWithin 1 n) (D : da
 -- ---- the chain
 
 module _ (edition : Edition) (asc dec : Rad) (day1 day2 : Float) where
-  outcome : placeRefusal asc dec day1 day2 ≡ 0 → Outcome BothFinite FourOrSeven (chainRule edition asc dec day1 day2)
+  outcome : placeRefusal asc dec day1 day2 ≡ 0 → Outcome BothFinite FourSevenOrFourteen (chainRule edition asc dec day1 day2)
   unfolding chainRule
   outcome none =
       let D = second-accepted day1 day2 (place-accepted asc dec day1 day2 none .2) in
-      let precessed : Outcome IsPlace FourOrSeven (precessEqCoordsRule edition asc dec day1 day2) = record {
+      let precessed : Outcome IsPlace FourSevenOrFourteen (precessEqCoordsRule edition asc dec day1 day2) = record {
         answers = precess-eq-coords-answers edition asc dec day1 day2;
         refuses = λ n e. inr (precess-eq-coords-refuses edition asc dec day1 day2 none n e);
       } in
-      let nutated : Outcome (BothWithin 1) FourOrSeven (nutationRule day2) = record {
+      let nutated : Outcome (BothWithin 1) FourSevenOrFourteen (nutationRule day2) = record {
         answers = nutation-answers day2;
         refuses = λ n e. absurd (nutation-refuses day2 D n e);
       } in
@@ -180,8 +180,8 @@ module _ (edition : Edition) (asc dec : Rad) (day1 day2 : Float) where
       (λ p P. outcome-then (λ (n : Pair). fromPoint p n day2) (λ n N. from-outcome p n day2 P N D) (nutationRule day2) nutated)
       (precessEqCoordsRule edition asc dec day1 day2) precessed
 
-  -- 7 in precession, or 4 for the precessed declination
-  pub chain-refuses : placeRefusal asc dec day1 day2 ≡ 0 → (n : ℕ) → chainRule edition asc dec day1 day2 ≡ refused n → FourOrSeven n
+  -- 14 or 7 in precession, or 4 for the precessed declination
+  pub chain-refuses : placeRefusal asc dec day1 day2 ≡ 0 → (n : ℕ) → chainRule edition asc dec day1 day2 ≡ refused n → FourSevenOrFourteen n
   chain-refuses none = outcome none .refuses
 
   pub chain-finite : (v : Pair) → chainRule edition asc dec day1 day2 ≡ answered v → BothFinite v

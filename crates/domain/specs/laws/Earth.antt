@@ -2,7 +2,7 @@
 -- Assumes nothing.
 use Prim.Native.Nat.{ℕ}
 use mathlib.Core.Path.{_≡_}
-use lib.Ieee.{Float, neg, add, mul, div, le, ofBits, round}
+use lib.Ieee.{Float, neg, add, mul, div, eq, le, ofBits, round}
 use Rattle.double.specs.rules.Operations.{one, _⊕_, _⊗_, _⊘_}
 use Rattle.double.specs.rules.Sign.{size, isFinite}
 use Rattle.double.specs.rules.Order.{_≼_}
@@ -20,16 +20,17 @@ use Rattle.domain_accepted.specs.laws.Accepted.{steep-far, steep-tangent}
 use Rattle.domain_accepted.specs.notions.Outcome.{Outcome, Never}
 use Rattle.domain_accepted.specs.notions.Within.{Angle, Within, BothFinite, BothWithin}
 use Rattle.domain_accepted.specs.laws.Outcome.{outcome-answered, outcome-wider, outcome-then, rule-answers, rule-refuses}
-use Rattle.domain_accepted.specs.laws.Elementary.{arctangent-outcome}
+use Rattle.domain_accepted.specs.laws.Elementary.{arctangent-outcome-of, second-not-zero}
 use Rattle.domain_accepted.specs.laws.Near.{within, near-far, near-sine, near-cosine}
 
 module _ (lat : Rad) (height : Float) (L : steepRefusal lat ≡ 0) (H : heightRefusal height ≡ 0) where
-  -- u, which goes into a sine
+  -- u, which goes into a sine: its second argument is 1, so that 14 is never met
   u-outcome : {Q : ℕ → Type 0} → Outcome (Angle (Within 2048)) Q (arctangentIn (ratio ⊗ tangentOf lat) one)
-  unfolding isFinite le neg mul ofBits round
+  unfolding isFinite eq le neg mul ofBits round
   u-outcome =
       outcome-wider (λ v i. within 2048 (known i) tt)
-      (arctangent-outcome (ratio ⊗ tangentOf lat) one (within 32768 (con ratio ⊠ known (steep-tangent lat L)) tt .finite) tt)
+      (arctangent-outcome-of (ratio ⊗ tangentOf lat) one (within 32768 (con ratio ⊠ known (steep-tangent lat L)) tt .finite) tt
+      (second-not-zero (ratio ⊗ tangentOf lat) one tt))
 
   pub u-far : (u : Rad) → arctangentIn (ratio ⊗ tangentOf lat) one ≡ answered u → size (u .0) ≼ farthestAlone
   u-far u e = near-far (u .0) (u-outcome {Q = Never} .answers u e)

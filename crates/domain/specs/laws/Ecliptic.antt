@@ -5,7 +5,9 @@ use mathlib.Core.Path.{_≡_, refl}
 use lib.Ieee.{Float, neg, add, sub, mul, div, le, ofBits, round}
 use Rattle.double.specs.rules.Operations.{_⊕_, _⊖_, _⊗_}
 use Rattle.double.specs.rules.Sign.{size, isFinite}
-use Rattle.double.specs.rules.Order.{Between, _≼_}
+use Rattle.double.specs.rules.Order.{Between, NonZero, _≼_}
+use Rattle.double.specs.rules.Table.{over}
+use Rattle.double.specs.laws.Between.{between→size}
 use Rattle.double.specs.notions.Range.{known, con, _⊞_, _⊟_, _⊠_}
 use Rattle.quantity.specs.declared.Rad.{Rad}
 use Rattle.quantity.specs.rules.Answer.{answered, refused, Pair, takenFrom}
@@ -25,7 +27,8 @@ use Rattle.domain_accepted.specs.notions.Outcome.{Outcome, Seven}
 use Rattle.domain_accepted.specs.notions.Within.{Within, IsPlace, BothFinite}
 use Rattle.domain.specs.notions.Turns.{EclTurnsNear}
 use Rattle.domain_accepted.specs.laws.Outcome.{outcome-with, outcome-both, rule-answers, rule-refuses}
-use Rattle.domain_accepted.specs.laws.Elementary.{arctangent-outcome, arcsine-outcome}
+use Rattle.domain_accepted.specs.laws.Elementary.{arctangent-outcome-of, second-not-zero, arcsine-outcome}
+use Rattle.domain_accepted.specs.laws.Cosine.{cosine-away, latitude-away, product-not-zero}
 use Rattle.domain_accepted.specs.laws.Near.{within, near-far, near-sine, near-cosine}
 use Rattle.domain.specs.laws.Days.{century-within, span-within, first-accepted, place-accepted}
 
@@ -85,6 +88,14 @@ module _ (long lat : Rad) (turns : EclTurns) (L : angleRefusal long ≡ 0) (B : 
   pub ecl-turned-far : size (turns .pi .0 ⊖ long .0) ≼ farthestAlone
   ecl-turned-far = near-far (turns .pi .0 ⊖ long .0) turned-within
 
+  -- the arctangent's second argument is a product of two cosines, so that 14 is never met
+  second-some : NonZero (cosineOf lat ⊗ cosineOf (rad (turns .pi .0 ⊖ long .0)))
+  unfolding isFinite le neg add sub ofBits round
+  second-some =
+      let p = turns .pi .0 ⊖ long .0 in
+      product-not-zero (cosineOf lat) (cosineOf (rad p)) (latitude-away lat B)
+      (cosine-away (rad p) (between→size (over 80 1) p (within 80 (known (N .pi) ⊟ known (angle-between long L)) tt)))
+
   ecl-turned-outcome : Outcome IsPlace Seven (eclTurnedIn long lat turns)
   unfolding eclTurnedIn eclPlaced takenFrom isFinite le neg add sub mul ofBits round
   ecl-turned-outcome =
@@ -99,7 +110,8 @@ module _ (long lat : Rad) (turns : EclTurns) (L : angleRefusal long ≡ 0) (B : 
       let z = rad (turns .rho .0 ⊕ turns .pi .0) in
       outcome-both (Within 64) (Between (neg HALF) HALF) (takenFrom z (arctangentIn y x)) (arcsineIn s)
       (outcome-with (λ (v : Rad). rad (z .0 ⊖ v .0)) (λ v i. within 64 ((known (N .rho) ⊞ known (N .pi)) ⊟ known i) tt) (arctangentIn y x)
-      (arctangent-outcome y x (within 4 (known (N .cosine) ⊠ cb ⊠ sp ⊟ known (N .sine) ⊠ sb) tt .finite) (within 2 (cb ⊠ cp) tt .finite)))
+      (arctangent-outcome-of y x (within 4 (known (N .cosine) ⊠ cb ⊠ sp ⊟ known (N .sine) ⊠ sb) tt .finite) (within 2 (cb ⊠ cp) tt .finite)
+      (second-not-zero y x second-some)))
       (arcsine-outcome refl s (within 4 (known (N .cosine) ⊠ sb ⊞ known (N .sine) ⊠ cb ⊠ sp) tt .finite))
 
 -- ---- the function

@@ -1,20 +1,22 @@
--- No answer of sine, cosine, tangent, arctangent and arcsine, called alone, is a NaN or an infinity. Assumes nothing.
-use mathlib.Core.Path.{_≡_}
-use lib.Dec.{lit<}
+-- No answer of sine, cosine, tangent, arctangent and arcsine, called alone, is a NaN or an infinity, and the arctangent of accepted
+-- numbers is refused by 14 only. Assumes nothing.
+use Prim.Native.Nat.{ℕ}
+use mathlib.Core.Path.{_≡_, subst}
+use lib.Dec.{T, lit<}
 use lib.Ieee.{Float, ofBits}
 use Rattle.double.specs.rules.Sign.{isFinite}
 use Rattle.double.specs.rules.Order.{Finite}
 use Rattle.quantity.specs.declared.Rad.{Rad}
-use Rattle.quantity.specs.rules.Answer.{answered}
+use Rattle.quantity.specs.rules.Answer.{answered, refused, unless}
 use Rattle.quantity.specs.rules.Refusal.{past, steepest, numberRefusal}
 use Rattle.quantity.specs.laws.Refusal.{finite-steepest}
 use Rattle.quantity.specs.laws.Steps.{same-value}
 use Rattle.elementary.specs.laws.Accepted.{lower-none, answered-unless, past-accepted, number-accepted}
 use Rattle.elementary.specs.rules.Sine.{farthestAlone, aloneRefusal, sineOf, cosineOf, tangentOf, sineRule, cosineRule, tangentRefusal, tangentRule}
 use Rattle.elementary.specs.laws.Sine.{sine-finite, cosine-finite, tangent-finite}
-use Rattle.elementary_arc.specs.rules.Arctangent.{arctangentIn, arctangentRefusal, arctangentRule}
+use Rattle.elementary_arc.specs.rules.Arctangent.{bothZero, arctangentIn, arctangentRefusal, arctangentRule}
 use Rattle.elementary_arc.specs.rules.Arcsine.{arcsineIn, arcsineRule}
-use Rattle.elementary_arc.specs.laws.Arctangent.{arctangent-in-finite}
+use Rattle.elementary_arc.specs.laws.Arctangent.{arctangent-refuses-fourteen, arctangent-in-finite}
 use Rattle.elementary_arc.specs.laws.Arcsine.{arcsine-finite}
 
 -- ---- sine, cosine, tangent
@@ -43,6 +45,13 @@ tangent-answers-finite x v e =
     rw (← same-value (a .1)) (tangent-finite x (past-accepted (x .0) steepest 4 (lit< tt) finite-steepest (n .1)))
 
 -- ---- arctangent, arcsine
+
+-- of numbers that are not refused 14 is the only refusal, and is given only of two zeros
+pub arctangent-alone-refuses : (y x : Float) → arctangentRefusal y x ≡ 0 → (n : ℕ) → arctangentRule y x ≡ refused n
+    → (n ≡ 14) × T (bothZero y x)
+unfolding arctangentRule
+arctangent-alone-refuses y x none n e =
+    arctangent-refuses-fourteen y x n (subst (λ (k : ℕ). unless k (arctangentIn y x) ≡ refused n) none e)
 
 pub arctangent-answers-finite : (y x : Float) (v : Rad) → arctangentRule y x ≡ answered v → Finite (v .0)
 unfolding arctangentRule

@@ -1,7 +1,8 @@
 -- Precession of equatorial coordinates, by either function, on arguments that are not refused: each angle that is worked out stays
--- far below 400000.0, each answer is finite, and 7 is the only refusal that the work meets. Assumes nothing.
+-- far below 400000.0, each answer is finite, and the work meets 14 and 7 only. Assumes nothing.
 use Prim.Native.Nat.{ℕ}
 use mathlib.Core.Path.{_≡_, refl}
+use mathlib.Core.Logic.{inl, inr}
 use lib.Ieee.{Float, neg, add, sub, mul, div, le, ofBits, round}
 use Rattle.double.specs.rules.Operations.{_⊕_, _⊖_, _⊗_}
 use Rattle.double.specs.rules.Sign.{size, isFinite}
@@ -25,7 +26,7 @@ use Rattle.precess.specs.rules.Days.{spanOf, daysRefusal, placeRefusal}
 use Rattle.precess.specs.rules.Equatorial.{eqXi, eqZeta, eqTheta, turnsOf, eqTurnsOf, placed, turnedIn, precessEqCoordsRule}
 use Rattle.precess.specs.rules.Fk4.{fk4Century, fk4Span, fk4Xi, fk4Zeta, fk4Theta, degreesAsRadians, fk4Angle, fk4TurnsOf, precessEqCoordsFK5Rule}
 use Rattle.domain_accepted.specs.laws.Accepted.{angle-between, latitude-sine, latitude-cosine}
-use Rattle.domain_accepted.specs.notions.Outcome.{Outcome, Seven}
+use Rattle.domain_accepted.specs.notions.Outcome.{Outcome, SevenOrFourteen}
 use Rattle.domain_accepted.specs.notions.Within.{Within, IsPlace, BothFinite}
 use Rattle.domain.specs.notions.Turns.{EqTurnsNear}
 use Rattle.domain_accepted.specs.laws.Outcome.{outcome-with, outcome-both, rule-answers, rule-refuses}
@@ -154,7 +155,7 @@ module _ (asc dec : Rad) (turns : EqTurns) (A : angleRefusal asc ≡ 0) (D : lat
   pub turned-far : size (asc .0 ⊕ turns .xi .0) ≼ farthestAlone
   turned-far = near-far (asc .0 ⊕ turns .xi .0) turned-within
 
-  pub turned-outcome : Outcome IsPlace Seven (turnedIn asc dec turns)
+  pub turned-outcome : Outcome IsPlace SevenOrFourteen (turnedIn asc dec turns)
   unfolding turnedIn directionOf placed plus isFinite le neg add sub mul ofBits round
   turned-outcome =
       let a = rad (asc .0 ⊕ turns .xi .0) in
@@ -167,18 +168,18 @@ module _ (asc dec : Rad) (turns : EqTurns) (A : angleRefusal asc ≡ 0) (D : lat
       let s = turns .sine ⊗ cosineOf dec ⊗ cosineOf a ⊕ turns .cosine ⊗ sineOf dec in
       outcome-both (Within 64) (Between (neg HALF) HALF) (plus (arctangentIn y x) (turns .zeta)) (arcsineIn s)
       (outcome-with (λ (v : Rad). rad (v .0 ⊕ turns .zeta .0)) (λ v i. within 64 (known i ⊞ known (N .zeta)) tt) (arctangentIn y x)
-      (arctangent-outcome y x (within 2 (cd ⊠ sa) tt .finite) (within 4 (known (N .cosine) ⊠ cd ⊠ ca ⊟ known (N .sine) ⊠ sd) tt .finite)))
-      (arcsine-outcome refl s (within 4 (known (N .sine) ⊠ cd ⊠ ca ⊞ known (N .cosine) ⊠ sd) tt .finite))
+      (arctangent-outcome (inr refl) y x (within 2 (cd ⊠ sa) tt .finite) (within 4 (known (N .cosine) ⊠ cd ⊠ ca ⊟ known (N .sine) ⊠ sd) tt .finite)))
+      (arcsine-outcome (inl refl) s (within 4 (known (N .sine) ⊠ cd ⊠ ca ⊞ known (N .cosine) ⊠ sd) tt .finite))
 
 -- ---- the two functions
 
 module _ (edition : Edition) (asc dec : Rad) (day1 day2 : Float) where
-  eq-outcome : placeRefusal asc dec day1 day2 ≡ 0 → Outcome IsPlace Seven (turnedIn asc dec (eqTurnsOf edition day1 day2))
+  eq-outcome : placeRefusal asc dec day1 day2 ≡ 0 → Outcome IsPlace SevenOrFourteen (turnedIn asc dec (eqTurnsOf edition day1 day2))
   eq-outcome e =
       let n = place-accepted asc dec day1 day2 e in
       turned-outcome asc dec (eqTurnsOf edition day1 day2) (n .0) (n .1) (eq-turns-near edition day1 day2 (n .2))
 
-  fk4-outcome : placeRefusal asc dec day1 day2 ≡ 0 → Outcome IsPlace Seven (turnedIn asc dec (fk4TurnsOf edition day1 day2))
+  fk4-outcome : placeRefusal asc dec day1 day2 ≡ 0 → Outcome IsPlace SevenOrFourteen (turnedIn asc dec (fk4TurnsOf edition day1 day2))
   fk4-outcome e =
       let n = place-accepted asc dec day1 day2 e in
       turned-outcome asc dec (fk4TurnsOf edition day1 day2) (n .0) (n .1) (fk4-turns-near edition day1 day2 (n .2))
@@ -191,7 +192,7 @@ module _ (edition : Edition) (asc dec : Rad) (day1 day2 : Float) where
       let i = precess-eq-coords-answers p e in
       (i .0 .finite, i .1 .finite)
 
-  pub precess-eq-coords-refuses : placeRefusal asc dec day1 day2 ≡ 0 → (n : ℕ) → precessEqCoordsRule edition asc dec day1 day2 ≡ refused n → n ≡ 7
+  pub precess-eq-coords-refuses : placeRefusal asc dec day1 day2 ≡ 0 → (n : ℕ) → precessEqCoordsRule edition asc dec day1 day2 ≡ refused n → SevenOrFourteen n
   precess-eq-coords-refuses = rule-refuses (placeRefusal asc dec day1 day2) (turnedIn asc dec (eqTurnsOf edition day1 day2)) eq-outcome
 
   pub precess-eq-coords-fk5-answers : (p : Pair) → precessEqCoordsFK5Rule edition asc dec day1 day2 ≡ answered p → IsPlace p
@@ -203,5 +204,5 @@ module _ (edition : Edition) (asc dec : Rad) (day1 day2 : Float) where
       (i .0 .finite, i .1 .finite)
 
   pub precess-eq-coords-fk5-refuses : placeRefusal asc dec day1 day2 ≡ 0 → (n : ℕ)
-      → precessEqCoordsFK5Rule edition asc dec day1 day2 ≡ refused n → n ≡ 7
+      → precessEqCoordsFK5Rule edition asc dec day1 day2 ≡ refused n → SevenOrFourteen n
   precess-eq-coords-fk5-refuses = rule-refuses (placeRefusal asc dec day1 day2) (turnedIn asc dec (fk4TurnsOf edition day1 day2)) fk4-outcome

@@ -30,7 +30,7 @@ use Rattle.coords_ecl.specs.rules.Ecliptic.{eclLongSum, eclLongIn, eclLongFrmEq
 use Rattle.coords.specs.rules.Horizon.{southward, azimuthIn, azFrmEqRule, upward, altitudeIn, altFrmEqRule, hrAnglFrmHzIn, hrAnglFrmHzRule, decFrmHzIn, decFrmHzRule}
 use Rattle.coords_gal.specs.rules.Galactic.{southCelPoleLong, galPoleAsc, galPoleDec, celPoleLong, southGalPoleAsc, roundPole, galLongIn, galLongFrmEqRule, galLatIn, galLatFrmEqRule, ascFrmGalIn, ascFrmGalRule}
 use Rattle.domain_accepted.specs.notions.Within.{Angle}
-use Rattle.domain_accepted.specs.notions.Outcome.{Outcome, Never, Seven}
+use Rattle.domain_accepted.specs.notions.Outcome.{Outcome, Never, Seven, Fourteen}
 use Rattle.domain_accepted.specs.laws.Outcome.{outcome-answered, outcome-with, rule-answers}
 use Rattle.domain_accepted.specs.laws.Elementary.{arctangent-outcome, arcsine-outcome}
 use Rattle.domain_accepted.specs.laws.Near.{within, near-far}
@@ -45,10 +45,10 @@ of-sum n z v answer finite =
 
 of-arctangent : (n : ℕ) (y x : Float) (v : Rad) → unless n (arctangentIn y x) ≡ answered v → (n ≡ 0 → Finite y × Finite x) → Finite (v .0)
 of-arctangent n y x v answer finite =
-    rule-answers {Q = Never} n (arctangentIn y x)
+    rule-answers {Q = Fourteen} n (arctangentIn y x)
     (λ none.
     let f = finite none in
-    arctangent-outcome y x (f .0) (f .1)) v answer .finite
+    arctangent-outcome refl y x (f .0) (f .1)) v answer .finite
 
 of-arcsine : (n : ℕ) (s : Float) (v : Rad) → unless n (arcsineIn s) ≡ answered v → (n ≡ 0 → Finite s) → size (v .0) ≼ HALF
 of-arcsine n s v answer finite =
@@ -179,11 +179,11 @@ pole-long-far l none =
 
 -- an angle at the pole is half a turn at most
 round-pole-outcome : (n d : Rad) → size (n .0) ≼ farthestAlone → steepRefusal d ≡ 0
-    → Outcome (Angle (Between (neg PI) PI)) Never (roundPole (fold n) (fold d))
+    → Outcome (Angle (Between (neg PI) PI)) Fourteen (roundPole (fold n) (fold d))
 unfolding roundPole isFinite le neg add sub mul ofBits round
 round-pole-outcome n d N none =
     let p = radiansOf galPoleDec in
-    arctangent-outcome (sineOf n) (sineOf p ⊗ cosineOf n ⊖ cosineOf p ⊗ tangentOf d) (sine-between n N .finite)
+    arctangent-outcome refl (sineOf n) (sineOf p ⊗ cosineOf n ⊖ cosineOf p ⊗ tangentOf d) (sine-between n N .finite)
     (within 32768
     (known (sine-between p pole-far) ⊠ known (cosine-between n N) ⊟ known (cosine-between p pole-far) ⊠ known (steep-tangent d none)) tt
     .finite)
@@ -193,7 +193,7 @@ unfolding galLongIn takenFrom isFinite le neg add sub mul ofBits round
 gal-long-frm-eq-finite a d v answer =
     let z = radiansOf southCelPoleLong in
     let m = rad (radiansOf galPoleAsc .0 ⊖ a .0) in
-    rule-answers {P = Angle Finite} {Q = Never} (steepGalRefusal a d) (galLongIn a d)
+    rule-answers {P = Angle Finite} {Q = Fourteen} (steepGalRefusal a d) (galLongIn a d)
     (λ none.
     let n = lower-none (angleRefusal a) (steepRefusal d) none in
     outcome-with (λ (x : Rad). rad (z .0 ⊖ x .0)) (λ x i. within 32768 (con (z .0) ⊟ known i) tt .finite) (roundPole (fold m) (fold d))
@@ -204,7 +204,7 @@ unfolding ascFrmGalIn addedTo isFinite le neg add sub mul ofBits round
 asc-frm-gal-finite l b v answer =
     let z = radiansOf southGalPoleAsc in
     let m = rad (l .0 ⊖ radiansOf celPoleLong .0) in
-    rule-answers {P = Angle Finite} {Q = Never} (steepGalRefusal l b) (ascFrmGalIn l b)
+    rule-answers {P = Angle Finite} {Q = Fourteen} (steepGalRefusal l b) (ascFrmGalIn l b)
     (λ none.
     let n = lower-none (angleRefusal l) (steepRefusal b) none in
     outcome-with (λ (x : Rad). rad (z .0 ⊕ x .0)) (λ x i. within 32768 (con (z .0) ⊞ known i) tt .finite) (roundPole (fold m) (fold b))

@@ -3,6 +3,7 @@ use Prim.Native.Nat.{ℕ}
 use mathlib.Core.Path.{_≡_}
 use lib.Ieee.{Float, neg, le, ofBits, round}
 use Rattle.double.specs.rules.Sign.{isFinite}
+use Rattle.double.specs.rules.Order.{NonZero}
 use Rattle.double.specs.notions.Range.{known}
 use Rattle.quantity.specs.declared.Rad.{Rad}
 use Rattle.quantity.specs.declared.GeographPoint.{GeographPoint}
@@ -14,7 +15,7 @@ use Rattle.parallax.specs.rules.Observer.{observerRefusal}
 use Rattle.domain_accepted.specs.notions.Outcome.{Outcome}
 use Rattle.domain_accepted.specs.notions.Within.{Angle, Within}
 use Rattle.domain_accepted.specs.laws.Outcome.{outcome-wider}
-use Rattle.domain_accepted.specs.laws.Elementary.{arctangent-outcome}
+use Rattle.domain_accepted.specs.laws.Elementary.{arctangent-outcome, arctangent-outcome-of, second-not-zero}
 use Rattle.domain_accepted.specs.laws.Near.{within}
 
 pub observer-accepted : (parallax : Rad) (place : GeographPoint) (height : Float) (sidereal : Rad)
@@ -31,6 +32,15 @@ observer-accepted parallax place height sidereal e =
     (a .0, a .1, c .0, c .1, b .1)
 
 -- the answer of an arctangent goes into a sine
-pub arctangent-near : {Q : ℕ → Type 0} (y x : Float) → Within 1024 y → Within 1024 x → Outcome (Angle (Within 2048)) Q (arctangentIn y x)
+pub arctangent-near : {Q : ℕ → Type 0} → Q 14 → (y x : Float) → Within 1024 y → Within 1024 x
+    → Outcome (Angle (Within 2048)) Q (arctangentIn y x)
 unfolding isFinite le neg ofBits round
-arctangent-near y x Y X = outcome-wider (λ v i. within 2048 (known i) tt) (arctangent-outcome y x (Y .finite) (X .finite))
+arctangent-near fourteen y x Y X =
+    outcome-wider (λ v i. within 2048 (known i) tt) (arctangent-outcome fourteen y x (Y .finite) (X .finite))
+
+-- by a second number that is not zero
+pub arctangent-near-of : {Q : ℕ → Type 0} (y x : Float) → Within 1024 y → Within 1024 x → NonZero x
+    → Outcome (Angle (Within 2048)) Q (arctangentIn y x)
+unfolding isFinite le neg ofBits round
+arctangent-near-of y x Y X z =
+    outcome-wider (λ v i. within 2048 (known i) tt) (arctangent-outcome-of y x (Y .finite) (X .finite) (second-not-zero y x z))

@@ -1,23 +1,29 @@
 -- Precession of orbital elements on arguments that are not refused: each angle that is worked out stays far below 400000.0, each
 -- answer is finite, and the work meets 6 and 7 only. Assumes nothing.
 use Prim.Native.Nat.{ℕ}
-use mathlib.Core.Path.{_≡_, refl}
+use mathlib.Core.Path.{_≡_, refl, sym, _∙_}
 use mathlib.Core.Logic.{inl, inr}
+use mathlib.Core.Bool.{not}
+use lib.Dec.{T, T-not, not-T}
 use lib.Ieee.{Float, neg, add, sub, mul, eq, le, ofBits, round}
+use lib.Ieee.Bits.{is-false}
+use lib.Ieee.Fits.{and-l, and-r}
 use Rattle.double.specs.rules.Operations.{zero, _⊕_, _⊖_, _⊗_, _⊘_}
 use Rattle.double.specs.rules.Sign.{size, isFinite}
-use Rattle.double.specs.rules.Order.{_≼_, Finite}
+use Rattle.double.specs.rules.Order.{_≼_, isZero, NonZero, Finite}
 use Rattle.double.specs.notions.Range.{known, con, _⊞_, _⊟_, _⊠_}
 use Rattle.double.specs.laws.Between.{between-neg}
 use Rattle.quantity.specs.declared.Rad.{Rad}
 use Rattle.quantity.specs.rules.Angle.{rad, PI}
 use Rattle.quantity.specs.rules.Answer.{answered, refused, Pair, first, second, Triple, triple, then, addedTo}
 use Rattle.quantity.specs.rules.Refusal.{lower, angleRefusal}
+use Rattle.quantity.specs.laws.Steps.{same-value}
 use Rattle.root.specs.rules.Root.{rootRule}
 use Rattle.elementary.specs.rules.Fold.{fold}
 use Rattle.elementary.specs.rules.Sine.{sineOf, cosineOf, farthestAlone}
-use Rattle.elementary_arc.specs.rules.Arctangent.{arctangentIn}
+use Rattle.elementary_arc.specs.rules.Arctangent.{bothZero, arctangentIn}
 use Rattle.elementary_arc.specs.rules.Arcsine.{arcsineIn}
+use Rattle.elementary_arc.specs.notions.Computed as arc
 use Rattle.elementary.specs.laws.Accepted.{lower-none}
 use Rattle.precess_ecl.specs.declared.EclTurns.{EclTurns}
 use Rattle.precess.specs.rules.Days.{daysRefusal}
@@ -27,10 +33,23 @@ use Rattle.domain_accepted.specs.laws.Accepted.{none-of-three, angle-between, a
 use Rattle.domain_accepted.specs.notions.Outcome.{Outcome, SixOrSeven}
 use Rattle.domain_accepted.specs.notions.Within.{Angle, Within, AllFinite}
 use Rattle.domain.specs.notions.Turns.{EclTurnsNear}
-use Rattle.domain_accepted.specs.laws.Outcome.{outcome-answered, outcome-refused, outcome-cond, outcome-wider, outcome-with, outcome-then, outcome-both, rule-answers, rule-refuses}
-use Rattle.domain_accepted.specs.laws.Elementary.{arctangent-outcome, arcsine-outcome, arcsine-number-outcome, quotient-not-nan, root-outcome}
+use Rattle.domain_accepted.specs.laws.Outcome.{outcome-answered, outcome-refused, outcome-cond, outcome-wider, outcome-kept, outcome-with, outcome-then, outcome-both, rule-answers, rule-refuses}
+use Rattle.domain_accepted.specs.laws.Elementary.{arctangent-outcome-of, square-of-zero, arcsine-outcome, arcsine-number-outcome, quotient-not-nan, root-outcome}
 use Rattle.domain_accepted.specs.laws.Near.{within, near-far, near-sine, near-cosine}
 use Rattle.domain.specs.laws.Ecliptic.{ecl-turns-near}
+
+-- ---- no inclination
+
+at-zeros : then (rootRule (zero ⊕ zero)) arcsineIn ≡ answered (rad zero)
+unfolding arc.computed
+at-zeros = refl
+
+zeros-lean : (a b : Float) → T (isZero a) → T (isZero b) → then (rootRule (a ⊗ a ⊕ b ⊗ b)) arcsineIn ≡ answered (rad zero)
+zeros-lean a b p q = rw (square-of-zero a p, square-of-zero b q) at-zeros
+
+sine-of-zero : T (isZero (sineOf (rad zero)))
+unfolding arc.computed
+sine-of-zero = tt
 
 module _ (inc perih node : Rad) (turns : EclTurns) (I : angleRefusal inc ≡ 0) (P : angleRefusal perih ≡ 0) (O : angleRefusal node ≡ 0) (N : EclTurnsNear turns) where
   -- ---- the node less Pi
@@ -81,9 +100,24 @@ module _ (inc perih node : Rad) (turns : EclTurns) (I : angleRefusal inc ≡ 0) 
   unfolding isFinite le neg round
   inclination-far i e = near-far (i .0) (within 2048 (known (inclination-outcome .answers i e)) tt)
 
-  node-outcome : Outcome (Angle Finite) SixOrSeven (newNode inc (leanedOf (fold inc) (fold fromPi) turns) turns)
+  -- where A and B are both zero, so is the new inclination, whose sine is tested first: 14 is never met
+  inclination-of-zeros : T (not (eq (inc .0) zero)) → T (bothZero A B)
+      → newInclination inc (leanedOf (fold inc) (fold fromPi) turns) turns ≡ answered (rad zero)
+  unfolding newInclination leanedOf
+  inclination-of-zeros t z =
+      rw (is-false (eq (inc .0) zero) t) (zeros-lean A B (and-l (isZero A) (isZero B) z) (and-r (isZero A) (isZero B) z))
+
+  not-both-zero : (i : Rad) → newInclination inc (leanedOf (fold inc) (fold fromPi) turns) turns ≡ answered i → NonZero (sineOf i)
+      → T (not (eq (inc .0) zero)) → T (not (bothZero A B))
+  not-both-zero i e some t = not-T (bothZero A B) (λ (z : T (bothZero A B)). T-not (isZero (sineOf i)) some (at-zero z))
+    where
+      at-zero : T (bothZero A B) → T (isZero (sineOf i))
+      at-zero z = rw (same-value (sym e ∙ inclination-of-zeros t z)) sine-of-zero
+
+  node-outcome : (T (not (eq (inc .0) zero)) → T (not (bothZero A B)))
+      → Outcome (Angle Finite) SixOrSeven (newNode inc (leanedOf (fold inc) (fold fromPi) turns) turns)
   unfolding newNode leanedOf addedTo isFinite le neg add ofBits round
-  node-outcome =
+  node-outcome some =
       let phi = turns .pi .0 ⊕ turns .rho .0 in
       let F = known (N .pi) ⊞ known (N .rho) in
       let v = arctangentIn A B in
@@ -91,14 +125,15 @@ module _ (inc perih node : Rad) (turns : EclTurns) (I : angleRefusal inc ≡ 0) 
       (outcome-answered (rad (phi ⊕ PI)) (within 2048 (F ⊞ con PI) tt .finite))
       (λ t.
       outcome-with (λ (x : Rad). rad (phi ⊕ x .0)) (λ x i. within 2048 (F ⊞ known i) tt .finite) v
-      (arctangent-outcome A B (a-within .finite) (b-within .finite)))
+      (arctangent-outcome-of A B (a-within .finite) (b-within .finite) (some t)))
 
   -- ---- the three elements, by the sine of the new inclination, where that is not zero
 
-  from-outcome : (i : Rad) → Within 1024 (i .0)
+  from-outcome : (i : Rad) → Within 1024 (i .0) × (newInclination inc (leanedOf (fold inc) (fold fromPi) turns) turns ≡ answered i)
       → Outcome AllFinite SixOrSeven (orbitFrom i (newNode inc (leanedOf (fold inc) (fold fromPi) turns) turns) perih (fold fromPi) turns)
   unfolding orbitFrom nodeAndPerihelion addedTo isFinite le neg add mul ofBits round
-  from-outcome i J =
+  from-outcome i known-i =
+      let J = known-i .0 in
       let s = sineOf i in
       let S = near-sine i (within 2048 (known J) tt) in
       let top = neg (turns .sine) ⊗ sineOf fromPi in
@@ -111,7 +146,7 @@ module _ (inc perih node : Rad) (turns : EclTurns) (I : angleRefusal inc ≡ 0) 
       outcome-then (λ (p : Pair). answered (triple (i .0) (second p) (first p)))
       (λ p q. outcome-answered (triple (i .0) (second p) (first p)) (J .finite, q .1, q .0))
       (nodeAndPerihelion s new perih (fold fromPi) turns)
-      (outcome-both Finite Finite new (addedTo perih (arcsineIn (top ⊘ s))) node-outcome
+      (outcome-both Finite Finite new (addedTo perih (arcsineIn (top ⊘ s))) (node-outcome (not-both-zero i (known-i .1) not-zero))
       (outcome-with (λ (x : Rad). rad (perih .0 ⊕ x .0)) (λ x j. within 2048 (known (angle-between perih P) ⊞ known j) tt .finite) (arcsineIn (top ⊘ s))
       (arcsine-number-outcome (inr refl) (top ⊘ s) (quotient-not-nan top s (T .finite) (S .finite) not-zero)))))
 
@@ -121,7 +156,7 @@ module _ (inc perih node : Rad) (turns : EclTurns) (I : angleRefusal inc ≡ 0) 
       outcome-then
       (λ (i : Rad). orbitFrom i (newNode inc (leanedOf (fold inc) (fold fromPi) turns) turns) perih (fold fromPi) turns)
       from-outcome
-      (newInclination inc (leanedOf (fold inc) (fold fromPi) turns) turns) inclination-outcome
+      (newInclination inc (leanedOf (fold inc) (fold fromPi) turns) turns) (outcome-kept inclination-outcome)
 
 -- ---- the function
 

@@ -1,4 +1,4 @@
--- What the batch stores of a star: its status is 0, 4, 7 or 9 where the days are not refused, and both angles are finite. Assumes nothing.
+-- What the batch stores of a star: its status is 0, 4, 7, 9 or 14 where the days are not refused, and both angles are finite. Assumes nothing.
 use Prim.Native.Nat.{ℕ}
 use mathlib.Core.Path.{_≡_, refl}
 use mathlib.Core.Logic.{inl, inr}
@@ -15,14 +15,18 @@ use Rattle.list.specs.declared.Star.{Star}
 use Rattle.list.specs.rules.Record.{inRange}
 use Rattle.batch.specs.rules.Star.{ascOf, decOf, starRule, firstOf, secondOf}
 use Rattle.batch.specs.laws.Star.{place-taken}
-use Rattle.domain_accepted.specs.notions.Outcome.{FourOrSeven}
+use Rattle.domain_accepted.specs.notions.Outcome.{FourSevenOrFourteen}
 use Rattle.domain_accepted.specs.notions.Within.{BothFinite}
 use Rattle.domain.specs.laws.Chain.{chain-refuses, chain-finite}
 use Rattle.domain.specs.notions.Star.{OfAStar}
 
-of-an-answer : (a : Answer Pair) → ((n : ℕ) → a ≡ refused n → FourOrSeven n) → OfAStar (statusOf a)
+of-an-answer : (a : Answer Pair) → ((n : ℕ) → a ≡ refused n → FourSevenOrFourteen n) → OfAStar (statusOf a)
 of-an-answer (answered v) h = inl refl
-of-an-answer (refused n) h = elim (h n refl) [ inl e ↦ inr (inl e) | inr e ↦ inr (inr (inl e)) ]
+of-an-answer (refused n) h =
+    elim (h n refl) [
+      | inl e ↦ inr (inl e)
+      | inr f ↦ elim f [ inl e ↦ inr (inr (inl e)) | inr e ↦ inr (inr (inr (inr e))) ]
+    ]
 
 finite-of-an-answer : (a : Answer Pair) → ((v : Pair) → a ≡ answered v → BothFinite v) → Finite (firstOf a) × Finite (secondOf a)
 finite-of-an-answer (answered v) h = h v refl
@@ -47,4 +51,4 @@ module _ (edition : Edition) (star : Star) (day1 day2 : Float) (days : daysRefus
       by-range true r =
           of-an-answer (chainRule edition (ascOf star) (decOf star) day1 day2)
           (chain-refuses edition (ascOf star) (decOf star) day1 day2 (place-taken star day1 day2 days (r refl)))
-      by-range false r = inr (inr (inr refl))
+      by-range false r = inr (inr (inr (inl refl)))

@@ -1,7 +1,7 @@
--- Topocentric equatorial coordinates of arguments that are not refused are answered, by finite numbers; each angle that is worked out
--- stays far below 400000.0. Assumes nothing.
+-- Topocentric equatorial coordinates of arguments that are not refused: each angle that is worked out stays far below 400000.0, each
+-- answer is finite, and 14 is the only refusal that the work meets. Assumes nothing.
 use Prim.Native.Nat.{ℕ}
-use mathlib.Core.Path.{_≡_}
+use mathlib.Core.Path.{_≡_, refl}
 use lib.Ieee.{Float, neg, add, sub, mul, le, ofBits, round}
 use Rattle.double.specs.rules.Operations.{_⊕_, _⊖_, _⊗_}
 use Rattle.double.specs.rules.Sign.{size, isFinite}
@@ -23,7 +23,7 @@ use Rattle.coords.specs.rules.HourAngle.{hrAnglFrmObserverLong}
 use Rattle.parallax.specs.rules.Observer.{centreOf, observerRefusal}
 use Rattle.parallax.specs.rules.Equatorial.{eastward, ahead, topocentDec, topocentFrom, topocentAt, topocentIn, topocentRefusal, topocentEqCoordsRule}
 use Rattle.domain_accepted.specs.laws.Accepted.{angle-between, angle-sine, latitude-sine, latitude-cosine}
-use Rattle.domain_accepted.specs.notions.Outcome.{Outcome, Never}
+use Rattle.domain_accepted.specs.notions.Outcome.{Outcome, Fourteen}
 use Rattle.domain_accepted.specs.notions.Within.{Within, PointFinite}
 use Rattle.domain_accepted.specs.laws.Outcome.{outcome-answered, outcome-then, rule-answers, rule-refuses}
 use Rattle.domain_accepted.specs.laws.Near.{within, near-far, near-sine, near-cosine}
@@ -45,14 +45,14 @@ module _ (rs rc : Float) (p h d : Rad) (asc : Rad) (RS : Within 2 rs) (RC : With
   y-within = within 1024 (known (between-neg RC) ⊠ known (angle-sine p P) ⊠ known (near-sine h H)) tt
 
   from-outcome : (change : Rad) → Within 2048 (change .0)
-      → Outcome PointFinite Never (topocentFrom (centreOf rs rc p) (fold d) asc change x)
+      → Outcome PointFinite Fourteen (topocentFrom (centreOf rs rc p) (fold d) asc change x)
   unfolding topocentFrom topocentDec centreOf isFinite le neg add sub mul ofBits round
   from-outcome change C =
       let y = (sineOf d ⊖ rs ⊗ sineOf p) ⊗ cosineOf change in
       outcome-then (λ (dec : Rad). answered (record { asc = asc .0 ⊕ change .0; dec = dec .0 }))
       (λ dec i. outcome-answered (record { asc = asc .0 ⊕ change .0; dec = dec .0 }) (within 4096 (known (angle-between asc A) ⊞ known C) tt .finite, i .finite))
       (arctangentIn y x)
-      (arctangent-near y x (within 1024 ((known (latitude-sine d D) ⊟ known RS ⊠ known (angle-sine p P)) ⊠ known (near-cosine change C)) tt) x-within)
+      (arctangent-near refl y x (within 1024 ((known (latitude-sine d D) ⊟ known RS ⊠ known (angle-sine p P)) ⊠ known (near-cosine change C)) tt) x-within)
 
   -- the change of right ascension goes into a cosine
   pub change-far : (change : Rad)
@@ -61,14 +61,14 @@ module _ (rs rc : Float) (p h d : Rad) (asc : Rad) (RS : Within 2 rs) (RC : With
   unfolding eastward ahead centreOf
   change-far change e =
       near-far (change .0)
-      (arctangent-near {Q = Never} (neg rc ⊗ sineOf p ⊗ sineOf h) x y-within x-within .answers change e)
+      (arctangent-near {Q = Fourteen} refl (neg rc ⊗ sineOf p ⊗ sineOf h) x y-within x-within .answers change e)
 
-  at-outcome : Outcome PointFinite Never (topocentAt (centreOf rs rc p) (fold h) (fold d) asc)
+  at-outcome : Outcome PointFinite Fourteen (topocentAt (centreOf rs rc p) (fold h) (fold d) asc)
   unfolding topocentAt eastward ahead centreOf
   at-outcome =
       let y = neg rc ⊗ sineOf p ⊗ sineOf h in
       outcome-then (λ (change : Rad). topocentFrom (centreOf rs rc p) (fold d) asc change x) from-outcome
-      (arctangentIn y x) (arctangent-near y x y-within x-within)
+      (arctangentIn y x) (arctangent-near refl y x y-within x-within)
 
 module _ (q : EqPoint) (parallax : Rad) (place : GeographPoint) (height : Float) (sidereal : Rad) where
   abbrev asc : Rad
@@ -95,7 +95,7 @@ module _ (q : EqPoint) (parallax : Rad) (place : GeographPoint) (height : Float)
     pub hour-angle-far : size (hour .0) ≼ farthestAlone
     hour-angle-far = near-far (hour .0) hour-within
 
-    eq-outcome : Outcome PointFinite Never (topocentIn q parallax place height sidereal)
+    eq-outcome : Outcome PointFinite Fourteen (topocentIn q parallax place height sidereal)
     unfolding topocentIn
     eq-outcome =
         let o = observer-accepted parallax place height sidereal (apart .1) in
@@ -110,7 +110,7 @@ module _ (q : EqPoint) (parallax : Rad) (place : GeographPoint) (height : Float)
       eq-outcome
 
   pub topocent-eq-coords-refuses : topocentRefusal q parallax place height sidereal ≡ 0 → (n : ℕ)
-      → topocentEqCoordsRule q parallax place height sidereal ≡ refused n → ⊥
+      → topocentEqCoordsRule q parallax place height sidereal ≡ refused n → n ≡ 14
   topocent-eq-coords-refuses =
       rule-refuses (topocentRefusal q parallax place height sidereal) (topocentIn q parallax place height sidereal)
       eq-outcome

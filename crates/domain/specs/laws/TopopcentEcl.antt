@@ -1,19 +1,24 @@
 -- Topocentric ecliptic coordinates on arguments that are not refused: each angle that is worked out stays far below 400000.0, each
--- answer is finite, and the work meets 6 and 7 only. Assumes nothing.
+-- answer is finite, and the work meets 6 and 7 only: N, the second argument of both arctangents, is tested first. Assumes nothing.
 use Prim.Native.Nat.{ℕ}
 use mathlib.Core.Path.{_≡_, refl}
 use mathlib.Core.Logic.{inl, inr}
-use lib.Ieee.{Float, neg, add, sub, mul, eq, le, ofBits, round}
+use lib.Dec.{T}
+use lib.Ieee.{Float, binary64, neg, add, sub, mul, fits, eq, le, ofBits, round}
+use lib.Ieee.Fits.{sub-fits}
 use Rattle.double.specs.rules.Operations.{zero, one, _⊕_, _⊖_, _⊗_, _⊘_}
 use Rattle.double.specs.rules.Sign.{size, isFinite}
 use Rattle.double.specs.rules.Order.{_≼_, NonZero, Between}
+use Rattle.double.specs.rules.Table.{over}
+use Rattle.double.specs.laws.Order.{le-trans}
+use Rattle.double.specs.laws.Between.{between→size}
 use Rattle.double.specs.notions.Range.{known, _⊞_, _⊟_, _⊠_}
 use Rattle.quantity.specs.declared.Rad.{Rad}
 use Rattle.quantity.specs.declared.EclPoint.{EclPoint}
 use Rattle.quantity.specs.declared.GeographPoint.{GeographPoint}
 use Rattle.quantity.specs.rules.Answer.{answered, refused, Pair, first, second, Triple, triple, then}
 use Rattle.quantity.specs.rules.Refusal.{lower, angleRefusal, latitudeRefusal}
-use Rattle.quantity.specs.rules.Angle.{rad}
+use Rattle.quantity.specs.rules.Angle.{rad, PI}
 use Rattle.edition.specs.declared.Edition.{Edition}
 use Rattle.edition.specs.declared.Edition.the-variants.{Crate, Published}
 use Rattle.elementary.specs.rules.Fold.{fold}
@@ -21,6 +26,7 @@ use Rattle.elementary.specs.rules.Sine.{sineOf, cosineOf, farthestAlone}
 use Rattle.elementary_arc.specs.rules.Arctangent.{arctangentIn}
 use Rattle.elementary_arc.specs.rules.Arcsine.{arcsineIn}
 use Rattle.elementary.specs.laws.Accepted.{lower-none}
+use Rattle.elementary_arc.specs.laws.Arctangent.{arctangent-in-at-most-pi}
 use Rattle.helpers.specs.rules.Angle.{withinTwoPI}
 use Rattle.helpers.specs.rules.Earth.{rhoIn}
 use Rattle.helpers.specs.laws.Limit.{limited-radians}
@@ -30,10 +36,11 @@ use Rattle.domain_accepted.specs.laws.Accepted.{angle-sine, angle-cosine, latit
 use Rattle.domain_accepted.specs.notions.Outcome.{Outcome, SixOrSeven}
 use Rattle.domain_accepted.specs.notions.Within.{Angle, Within, AllFinite}
 use Rattle.domain_accepted.specs.laws.Outcome.{outcome-answered, outcome-refused, outcome-cond, outcome-then, outcome-wider, rule-answers, rule-refuses}
-use Rattle.domain_accepted.specs.laws.Elementary.{arctangent-number-outcome, arcsine-number-outcome, quotient-not-nan}
+use Rattle.domain_accepted.specs.laws.Elementary.{arctangent-number-outcome, arcsine-number-outcome, quotient-not-nan, quotient-not-zero}
+use Rattle.domain_accepted.specs.laws.Cosine.{cosine-away, away-not-zero}
 use Rattle.domain_accepted.specs.laws.Near.{within, near-far, near-cosine}
 use Rattle.domain.specs.laws.Earth.{rho-outcome}
-use Rattle.domain.specs.laws.Observer.{observer-accepted, arctangent-near}
+use Rattle.domain.specs.laws.Observer.{observer-accepted, arctangent-near-of}
 
 -- ---- from ρ sin φ' and ρ cos φ', the parallax p, longitude l, latitude b, sidereal time s, obliquity e and semidiameter m
 
@@ -48,14 +55,25 @@ module _ (rs rc : Float) (p l b s e m : Rad) (RS : Within 2 rs) (RC : Within 2 r
       within 1024
       (known (angle-cosine l L) ⊠ known (latitude-cosine b B) ⊟ known RC ⊠ known (angle-sine p P) ⊠ known (angle-cosine s S)) tt
 
-  long-outcome : Outcome (Angle (Within 2048)) SixOrSeven (longTop (centreOf rs rc p) (fold l) (fold b) (fold s) (fold e) n)
-  unfolding longTop centreOf isFinite le neg add sub mul ofBits round
-  long-outcome =
-      arctangent-near (sineOf l ⊗ cosineOf b ⊖ sineOf p ⊗ (rs ⊗ sineOf e ⊕ rc ⊗ cosineOf e ⊗ sineOf s)) n
-      (within 1024
+  -- what the longitude's arctangent goes by
+  abbrev eastward : Float
+  eastward = sineOf l ⊗ cosineOf b ⊖ sineOf p ⊗ (rs ⊗ sineOf e ⊕ rc ⊗ cosineOf e ⊗ sineOf s)
+
+  eastward-within : Within 1024 eastward
+  unfolding isFinite le neg add sub mul ofBits round
+  eastward-within =
+      within 1024
       (known (angle-sine l L) ⊠ known (latitude-cosine b B)
-      ⊟ known (angle-sine p P) ⊠ (known RS ⊠ known (angle-sine e E) ⊞ known RC ⊠ known (angle-cosine e E) ⊠ known (angle-sine s S))) tt)
-      n-within
+      ⊟ known (angle-sine p P) ⊠ (known RS ⊠ known (angle-sine e E) ⊞ known RC ⊠ known (angle-cosine e E) ⊠ known (angle-sine s S))) tt
+
+  n-fits : T (fits binary64 n)
+  n-fits = sub-fits binary64 (cosineOf l ⊗ cosineOf b) (rc ⊗ sineOf p ⊗ cosineOf s)
+
+  long-outcome : NonZero n → Outcome (Angle (Within 2048)) SixOrSeven (longTop (centreOf rs rc p) (fold l) (fold b) (fold s) (fold e) n)
+  unfolding longTop centreOf isFinite le neg add sub mul ofBits round
+  long-outcome not-zero =
+      arctangent-near-of eastward n eastward-within
+      n-within not-zero
 
   -- what the latitude's arctangent goes by
   abbrev up : Float
@@ -69,9 +87,18 @@ module _ (rs rc : Float) (p l b s e m : Rad) (RS : Within 2 rs) (RC : Within 2 r
       ⊟ known (angle-sine p P) ⊠ (known RS ⊠ known (angle-cosine e E) ⊟ known RC ⊠ known (angle-sine e E) ⊠ known (angle-sine s S))) tt
 
   -- the longitude goes into a cosine
-  pub long-far : (long : Rad) → longTop (centreOf rs rc p) (fold l) (fold b) (fold s) (fold e) n ≡ answered long
+  pub long-far : NonZero n → (long : Rad) → longTop (centreOf rs rc p) (fold l) (fold b) (fold s) (fold e) n ≡ answered long
       → size (long .0) ≼ farthestAlone
-  long-far long answer = near-far (long .0) (long-outcome .answers long answer)
+  long-far not-zero long answer = near-far (long .0) (long-outcome not-zero .answers long answer)
+
+  -- where it is never zero, so that the published edition's second 6 never comes
+  pub long-cosine-not-zero : (long : Rad) → longTop (centreOf rs rc p) (fold l) (fold b) (fold s) (fold e) n ≡ answered long
+      → NonZero (cosineOf long)
+  unfolding longTop centreOf le ofBits round
+  long-cosine-not-zero long answer =
+      away-not-zero (cosineOf long)
+      (cosine-away long
+      (le-trans (size (long .0)) PI (over 80 1) (arctangent-in-at-most-pi eastward n long answer (eastward-within .finite) (n-within .finite)) tt))
 
   module _ (long : Rad) (G : Within 2048 (long .0)) where
     abbrev cosLong : Float
@@ -80,18 +107,20 @@ module _ (rs rc : Float) (p l b s e m : Rad) (RS : Within 2 rs) (RC : Within 2 r
     G-cosine : Between (neg one) one cosLong
     G-cosine = near-cosine long G
 
-    lat-outcome : (edition : Edition) → Outcome (Angle (Within 2048)) SixOrSeven (latTop edition up cosLong n)
-    unfolding latTop latOfCrate latPublished isFinite le neg mul ofBits round
-    lat-outcome Crate = arctangent-near (cosLong ⊗ up) n (within 1024 (known G-cosine ⊠ known up-within) tt) n-within
-    lat-outcome Published =
+    lat-outcome : NonZero n → (edition : Edition) → Outcome (Angle (Within 2048)) SixOrSeven (latTop edition up cosLong n)
+    unfolding latTop latOfCrate latPublished isFinite le neg sub mul ofBits round
+    lat-outcome not-zero Crate =
+        arctangent-near-of (cosLong ⊗ up) n (within 1024 (known G-cosine ⊠ known up-within) tt) n-within not-zero
+    lat-outcome not-zero Published =
         outcome-cond (eq cosLong zero) (refused 6) (arctangentIn up (n ⊘ cosLong)) (outcome-refused 6 (inl refl))
-        (λ not-zero.
+        (λ some.
         outcome-wider (λ v i. within 2048 (known i) tt)
-        (arctangent-number-outcome up (n ⊘ cosLong) (up-within .finite) (quotient-not-nan n cosLong (n-within .finite) (G-cosine .finite) not-zero)))
+        (arctangent-number-outcome up (n ⊘ cosLong) (up-within .finite) (quotient-not-nan n cosLong (n-within .finite) (G-cosine .finite) some)
+        (quotient-not-zero n cosLong n-fits (n-within .finite) not-zero some (between→size one cosLong G-cosine))))
 
     -- the latitude goes into a cosine
-    pub lat-far : (edition : Edition) (lat : Rad) → latTop edition up cosLong n ≡ answered lat → size (lat .0) ≼ farthestAlone
-    lat-far edition lat answer = near-far (lat .0) (lat-outcome edition .answers lat answer)
+    pub lat-far : NonZero n → (edition : Edition) (lat : Rad) → latTop edition up cosLong n ≡ answered lat → size (lat .0) ≼ farthestAlone
+    lat-far not-zero edition lat answer = near-far (lat .0) (lat-outcome not-zero edition .answers lat answer)
 
     module _ (not-zero : NonZero n) where
       from-outcome : (lat : Rad) → Within 2048 (lat .0) → Outcome AllFinite SixOrSeven (eclipticFrom long cosLong lat m n)
@@ -107,7 +136,7 @@ module _ (rs rc : Float) (p l b s e m : Rad) (RS : Within 2 rs) (RC : Within 2 r
       along-outcome : (edition : Edition) → Outcome AllFinite SixOrSeven (eclipticAlong edition up long m n)
       unfolding eclipticAlong
       along-outcome edition =
-          outcome-then (λ (lat : Rad). eclipticFrom long cosLong lat m n) from-outcome (latTop edition up cosLong n) (lat-outcome edition)
+          outcome-then (λ (lat : Rad). eclipticFrom long cosLong lat m n) from-outcome (latTop edition up cosLong n) (lat-outcome not-zero edition)
 
   at-outcome : (edition : Edition) → Outcome AllFinite SixOrSeven (eclipticAt edition (centreOf rs rc p) (fold l) (fold b) (fold s) (fold e) m)
   unfolding eclipticAt nearby upward centreOf
@@ -118,7 +147,7 @@ module _ (rs rc : Float) (p l b s e m : Rad) (RS : Within 2 rs) (RC : Within 2 r
       (outcome-refused 6 (inl refl))
       (λ not-zero.
       outcome-then (λ (long : Rad). eclipticAlong edition up long m n)
-      (λ long G. along-outcome long G not-zero edition) top long-outcome)
+      (λ long G. along-outcome long G not-zero edition) top (long-outcome not-zero))
 
 -- ---- the function
 

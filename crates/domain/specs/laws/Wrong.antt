@@ -85,4 +85,5 @@ unfolding computed reduceStar inRange
 status-five-for-four-excluded (inl e) = apart ofNumber refl e
 status-five-for-four-excluded (inr (inl e)) = apart ofNumber refl e
 status-five-for-four-excluded (inr (inr (inl e))) = apart ofNumber refl e
-status-five-for-four-excluded (inr (inr (inr e))) = apart ofNumber refl e
+status-five-for-four-excluded (inr (inr (inr (inl e)))) = apart ofNumber refl e
+status-five-for-four-excluded (inr (inr (inr (inr e)))) = apart ofNumber refl e

@@ -5,4 +5,4 @@ use mathlib.Core.Logic.{_⊎_}
 
 -- the statuses of a star
 abbrev pub OfAStar : ℕ → Type 0
-OfAStar n = (n ≡ 0) ⊎ (n ≡ 4) ⊎ (n ≡ 7) ⊎ (n ≡ 9)
+OfAStar n = (n ≡ 0) ⊎ (n ≡ 4) ⊎ (n ≡ 7) ⊎ (n ≡ 9) ⊎ (n ≡ 14)

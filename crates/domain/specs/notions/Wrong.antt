@@ -5,4 +5,4 @@ use mathlib.Core.Logic.{_⊎_}
 
 -- of the statuses of a star
 abbrev pub StatusFiveForFour : ℕ → Type 0
-StatusFiveForFour n = (n ≡ 0) ⊎ (n ≡ 5) ⊎ (n ≡ 7) ⊎ (n ≡ 9)
+StatusFiveForFour n = (n ≡ 0) ⊎ (n ≡ 5) ⊎ (n ≡ 7) ⊎ (n ≡ 9) ⊎ (n ≡ 14)

@@ -16,8 +16,14 @@ Never n = ⊥
 abbrev pub Seven : ℕ → Type 0
 Seven n = n ≡ 7
 
+abbrev pub Fourteen : ℕ → Type 0
+Fourteen n = n ≡ 14
+
 abbrev pub SixOrSeven : ℕ → Type 0
 SixOrSeven n = (n ≡ 6) ⊎ (n ≡ 7)
 
-abbrev pub FourOrSeven : ℕ → Type 0
-FourOrSeven n = (n ≡ 4) ⊎ (n ≡ 7)
+abbrev pub SevenOrFourteen : ℕ → Type 0
+SevenOrFourteen n = (n ≡ 7) ⊎ (n ≡ 14)
+
+abbrev pub FourSevenOrFourteen : ℕ → Type 0
+FourSevenOrFourteen n = (n ≡ 4) ⊎ (n ≡ 7) ⊎ (n ≡ 14)

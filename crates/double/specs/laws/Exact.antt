@@ -1,7 +1,7 @@
 -- A format writes a value in one way, so a double taken from zero is the double negated, and its size the larger of the two.
 -- Assumes nothing.
 use mathlib.Core.Path.{_≡_, refl, sym, ap, _∙_, subst}
-use Prim.Native.Nat.{ℕ, zero, suc, _+_, _*_, _%_, _^_, _<_}
+use Prim.Native.Nat.{ℕ, zero, suc, _+_, _*_, _%_, _^_, _≤_, _<_}
 use native.Mathlib.Nat.{zero-add, mul-one, one-mul, zero-mul, mul-assoc, mul-left-comm, mul-right-comm, mul-pos, zero-lt-suc, lt-irrefl, sub-zero, pow-succ', eq-of-mul-eq-mul-right}
 use native.Mathlib.Omega.{arith}
 use mathlib.Core.Bool.{Bool, true, false, cond, _&&_}
@@ -14,7 +14,9 @@ use lib.Ieee.Fits.{and-l, up-pos, down-pos, round-fits}
 use lib.Ieee.Exact.{HasValue}
 use Rattle.double.specs.rules.Operations as operations
 use Rattle.double.specs.rules.Operations.{_⊖_}
-use Rattle.double.specs.rules.Sign.{size}
+use Rattle.double.specs.rules.Sign.{size, isFinite}
+use Rattle.double.specs.rules.Order.{Plus, Between}
+use Rattle.double.specs.laws.Order.{le→below}
 use Rattle.double.specs.laws.NearZero.{own-value}
 
 -- ---- one odd factor and one power of two
@@ -120,6 +122,25 @@ pub round-own : (f : Format) (s : Bool) (m : ℕ) (e : ℤ) → T (fits f (fin s
 round-own f s m e F =
     value-unique f (round f s (m * up e) (down e)) (fin s m e) s (m * up e) (down e) (down-pos e)
     (round-fits f s (m * up e) (down e)) F (own-value f s m e F) (refl, refl)
+
+-- what lies from a double to itself is that double
+pub squeezed : (c x : Float) → T (fits binary64 c) → T (fits binary64 x) → Plus c → Plus x → Between c c x → x ≡ c
+unfolding isFinite
+squeezed nan x F G p q i = absurd p
+squeezed (inf s) x F G p q i = absurd (i .start)
+squeezed (fin true n d) x F G p q i = absurd p
+squeezed (fin false n d) nan F G p q i = absurd q
+squeezed (fin false n d) (inf t) F G p q i = absurd (i .finite)
+squeezed (fin false n d) (fin true m e) F G p q i = absurd q
+squeezed (fin false n d) (fin false m e) F G p q i =
+    let c = fin false n d in
+    let x = fin false m e in
+    value-unique binary64 x c false (n * up d) (down d) (down-pos d) G F
+    (refl, level (m * up e * down d) (n * up d * down e) (down d) (down e) (le→below x c tt tt (i .to)) (le→below c x tt tt (i .from)))
+    (refl, refl)
+  where
+    level : (a b u v : ℕ) → a + 0 * v ≤ b + 0 * u → b + 0 * u ≤ a + 0 * v → a ≡ b
+    level a b u v h k = omega arith
 
 -- ---- zero less a double
 

@@ -23,11 +23,11 @@ use Rattle.elementary.specs.laws.Fold.{rest-at-most-one, fold-steep}
 
 -- ---- the series
 
-abbrev sineExpr : Expr → Expr
+abbrev pub sineExpr : Expr → Expr
 sineExpr r = let z = r ⊠ r in r ⊞ (r ⊠ z) ⊠ hornerExpr z (con sineLast) sineEntries
 
 -- over z = r·r
-abbrev cosineExpr : Expr → Expr
+abbrev pub cosineExpr : Expr → Expr
 cosineExpr z = (con one ⊟ z ⧄ con two) ⊞ (z ⊠ z) ⊠ hornerExpr z (con cosineLast) cosineEntries
 
 sine-series-one : (r : Float) → Between (neg one) one r → Between (neg one) one (sineSeries r)
@@ -38,7 +38,7 @@ sine-series-one r i =
       | inr j ↦ bounded binary64 (neg one) one (sineExpr (known j)) tt
     ]
 
-square-one : (r : Float) → Between (neg one) one r → Between zero one (r ⊗ r)
+pub square-one : (r : Float) → Between (neg one) one r → Between zero one (r ⊗ r)
 unfolding isFinite le neg mul ofBits
 square-one r i =
     elim (between-cut zero tt i) [

@@ -4,16 +4,10 @@ use Rattle.elementary_arc.proofs.base.Statement.{statement}
 use Rattle.elementary_arc.proofs.base.Tie as tie
 
 returns : tie.Need-returns
-returns c = rw (← c .before .both-zero .ensures, c .if1 .taken)
+returns c = rw (c .before .if1 .taken) (c .atn .ensures)
 
 returns-2 : tie.Need-returns-2
-returns-2 c =
-    rw (← c .before .before .before .both-zero .ensures, c .before .before .if1 .left, c .before .if2 .taken)
-    (c .atn .ensures)
-
-returns-3 : tie.Need-returns-3
-returns-3 c =
-    rw (← c .before .before .before .both-zero .ensures, c .before .before .if1 .left, c .before .if2 .left, ← c .atn2 .ensures)
+returns-2 c = rw (c .before .if1 .left) (rw (c .atn2 .ensures))
 
 pub base-spec : {M : Type 1} → statement M
-base-spec = tie.close (tie.spec asks-nothing returns asks-nothing asks-nothing returns-2 returns-3)
+base-spec = tie.close (tie.spec asks-nothing asks-nothing returns returns-2)

@@ -1,33 +1,41 @@
--- The arcsine of a number of size 1 at most is answered: the root is not refused, and the answer bears the number's sign and is a
--- quarter turn at most. So 7 is the only refusal of a finite number. Assumes nothing.
+-- The arcsine of a number of size 1 at most is answered: neither the root nor the arctangent is refused, and the answer bears the
+-- number's sign and is a quarter turn at most. So 7 is the only refusal of a finite number, and 14 is never met. Assumes nothing.
 use mathlib.Core.Path.{_≡_, refl}
 use Prim.Native.Nat.{ℕ}
 use native.Mathlib.Omega.{arith}
-use mathlib.Core.Bool.{Bool, true, false}
+use mathlib.Core.Bool.{Bool, true, false, not, _&&_, cond}
+use std.Logic.{_≢_}
 use lib.Dec.{T}
-use lib.Ieee.{Float, binary64, neg, add, sub, mul, le, lt, ofBits, round}
+use lib.Ieee.{Float, nan, inf, fin, binary64, neg, add, sub, mul, le, lt, fits, ofBits, round}
 use lib.Ieee.Bits.{is-true, is-false}
 use lib.Ieee.Fits.{mul-fits}
 use Rattle.double.specs.rules.Operations.{zero, one, two, _⊕_, _⊖_, _⊗_}
 use Rattle.double.specs.rules.Sign.{bearsMinus, size, isFinite}
-use Rattle.double.specs.rules.Order.{_≼_, Finite, Plus, Between}
+use Rattle.double.specs.rules.Order.{_≼_, isZero, NonZero, Finite, Plus, Between}
 use Rattle.double.specs.rules.Table.{over}
 use Rattle.double.specs.notions.Range.{known, con, _⊞_, _⊟_, _⊠_}
 use Rattle.double.specs.laws.Tests.{holds, fails}
 use Rattle.double.specs.laws.Sign.{finite-size, no-minus-of-plus}
 use Rattle.double.specs.laws.Order.{le-of-not-lt, not-lt-of-le}
-use Rattle.double.specs.laws.Between.{finite-one, size→between}
+use Rattle.double.specs.laws.Between.{finite-zero, finite-one, size→between}
+use Rattle.double.specs.laws.Zero.{size-of-zero}
+use Rattle.double.specs.laws.Exact.{squeezed}
 use Rattle.double.specs.laws.Interval.{bounded}
 use Rattle.double.specs.laws.NearZero.{mul-plus, add-plus, sub-plus}
 use Rattle.quantity.specs.rules.Angle.{HALF}
 use Rattle.quantity.specs.declared.Rad.{Rad}
-use Rattle.quantity.specs.rules.Answer.{answered, refused, then}
+use Rattle.quantity.specs.rules.Answer.{answered, refused, unless, then}
+use Rattle.double.specs.laws.Apart.{apart}
+use Rattle.quantity.specs.notions.Code.{ofRad, ofAnswer}
+use Rattle.quantity.specs.laws.Steps.{same-number}
 use Rattle.root.specs.rules.Count.{IsFromZero}
 use Rattle.root.specs.rules.Root.{rootOf}
 use Rattle.root.specs.laws.Root.{root-from-zero, root-answered}
-use Rattle.elementary_arc.specs.rules.Arctangent.{arctangentOf, arctangentIn}
-use Rattle.elementary_arc.specs.rules.Arcsine.{arcsineIn}
-use Rattle.elementary_arc.specs.laws.Arctangent.{arctangent-sign, arctangent-finite, arctangent-at-most-half}
+use Rattle.root.specs.notions.Computed as root
+use Rattle.elementary_arc.specs.rules.Arctangent.{arctangentOf, bothZero}
+use Rattle.elementary_arc.specs.rules.Arcsine.{arcsineIn, arcsineRule}
+use Rattle.elementary_arc.specs.notions.Computed.{computed}
+use Rattle.elementary_arc.specs.laws.Arctangent.{arctangent-answered, arctangent-sign, arctangent-finite, arctangent-at-most-half}
 
 -- what the root is taken of
 abbrev square : Float → Float
@@ -35,6 +43,10 @@ square s = (one ⊖ s) ⊗ (one ⊕ s)
 
 abbrev arcsineOf : Float → Rad
 arcsineOf s = arctangentOf s (rootOf (square s))
+
+root-of-one : NonZero (rootOf one)
+unfolding root.computed
+root-of-one = tt
 
 module _ (s : Float) (h : size s ≼ one) where
   place : Between (neg one) one s
@@ -67,10 +79,27 @@ module _ (s : Float) (h : size s ≼ one) where
   root-finite : Finite (rootOf (square s))
   root-finite = holds (root-double .finite)
 
-  -- the root is not refused
+  -- of a zero the square is 1, so that the arctangent never meets two zeros
+  square-of-zero : T (isZero s) → square s ≡ one
+  unfolding isFinite le neg add sub mul ofBits fits
+  square-of-zero z =
+      let at-zero = size→between zero s finite-zero (size-of-zero s z) in
+      squeezed one (square s) tt (mul-fits binary64 (one ⊖ s) (one ⊕ s)) tt square-plus
+      (bounded binary64 one one ((con one ⊟ known at-zero) ⊠ (con one ⊞ known at-zero)) tt)
+
+  pub arcsine-of-no-zeros : T (not (bothZero s (rootOf (square s))))
+  arcsine-of-no-zeros = by-case (isZero s) (λ z. z)
+    where
+      by-case : (b : Bool) → (T b → T (isZero s)) → T (not (b && isZero (rootOf (square s))))
+      by-case true z = rw (square-of-zero (z tt)) root-of-one
+      by-case false z = tt
+
+  -- neither the root nor the arctangent is refused
   pub arcsine-answered : arcsineIn s ≡ answered (arcsineOf s)
-  unfolding arcsineIn then arctangentIn
-  arcsine-answered = rw (not-past, root-answered (square s) (square-from-zero .finite) (square-from-zero .plus))
+  unfolding arcsineIn then
+  arcsine-answered =
+      rw (not-past, root-answered (square s) (square-from-zero .finite) (square-from-zero .plus))
+      (arctangent-answered s (rootOf (square s)) arcsine-of-no-zeros)
     where
       not-past : lt one (size s) ≡ false
       not-past = is-false (lt one (size s)) (not-lt-of-le (size s) one (rw (finite-size s) (place .finite)) finite-one h)
@@ -112,14 +141,43 @@ module _ (s : Float) (p : Finite s) where
 
     -- the answer bears s's sign
     pub arcsine-sign : bearsMinus (v .0) ≡ bearsMinus s
-    arcsine-sign = rw is-arcsine (arctangent-sign s (rootOf (square s)) p (root-finite s within-one))
+    arcsine-sign = rw is-arcsine (arctangent-sign s (rootOf (square s)) p (root-finite s within-one) (arcsine-of-no-zeros s within-one))
 
     pub arcsine-finite : Finite (v .0)
-    arcsine-finite = rw is-arcsine (arctangent-finite s (rootOf (square s)) p (root-finite s within-one))
+    arcsine-finite = rw is-arcsine (arctangent-finite s (rootOf (square s)) p (root-finite s within-one) (arcsine-of-no-zeros s within-one))
 
     -- a quarter turn at most
     pub arcsine-at-most-half : size (v .0) ≼ HALF
     arcsine-at-most-half =
         rw is-arcsine
-        (arctangent-at-most-half s (rootOf (square s)) p (root-finite s within-one)
+        (arctangent-at-most-half s (rootOf (square s)) p (root-finite s within-one) (arcsine-of-no-zeros s within-one)
         (root-double s within-one .plus))
+
+-- ---- 14 is never met, of any number: inner, and called alone
+
+of-nan : arcsineIn nan ≢ refused 14
+unfolding computed
+of-nan = apart (ofAnswer ofRad) refl
+
+of-infinity : (t : Bool) → arcsineIn (inf t) ≢ refused 14
+unfolding computed
+of-infinity t = apart (ofAnswer ofRad) refl
+
+pub arcsine-never-meets-fourteen : (s : Float) → arcsineIn s ≢ refused 14
+arcsine-never-meets-fourteen nan = of-nan
+arcsine-never-meets-fourteen (inf t) = of-infinity t
+arcsine-never-meets-fourteen (fin t m d) = λ e. no (arcsine-refuses-seven (fin t m d) (unfold isFinite in tt) 14 e .0)
+  where
+    no : _≡_ {A = ℕ} 14 7 → ⊥
+    no h = omega arith
+
+pub arcsine-alone-never-meets-fourteen : (s : Float) → arcsineRule s ≢ refused 14
+unfolding arcsineRule
+arcsine-alone-never-meets-fourteen s e = by-case (isFinite s) e
+  where
+    no : _≡_ {A = ℕ} 1 14 → ⊥
+    no h = omega arith
+
+    by-case : (b : Bool) → unless (cond b 0 1) (arcsineIn s) ≡ refused 14 → ⊥
+    by-case true e = arcsine-never-meets-fourteen s e
+    by-case false e = no (same-number e)

@@ -1,15 +1,17 @@
--- The arctangent of two finite numbers: it bears the first one's sign, and its size is at most a quarter turn where the second
--- bears no minus sign, and at least one where it does. Assumes nothing.
+-- The arctangent of two finite numbers, not both zero: it bears the first one's sign, and its size is at most a quarter turn where
+-- the second bears no minus sign, and at least one where it does. Of two zeros it is refused by 14, and of nothing else.
+-- Assumes nothing.
 use mathlib.Core.Path.{_≡_, refl, sym, ap, _∙_}
 use mathlib.Core.Logic.{_⊎_, inl, inr}
 use Prim.Native.Nat.{ℕ, _+_, _*_, _≤_, _<_}
 use native.Mathlib.Nat.{mul-pos, eq-zero-or-pos, not-le-of-lt}
 use native.Mathlib.Omega.{arith}
-use mathlib.Core.Bool.{Bool, true, false, not, _&&_, cond, and-false}
+use mathlib.Core.Bool.{Bool, true, false, not, _&&_, cond}
 use lib.Dec.{T, eqb, ltb, nltb→le, T-not}
 use lib.IntN.{ℤ}
 use lib.Ieee.{Float, nan, inf, fin, binary64, up, down, round, neg, add, sub, mul, div, eq, le, fits, ofBits}
 use lib.Ieee.Fits.{and-i, eq→eqb, up-pos, down-pos, mul-fits, div-fits}
+use lib.Ieee.Bits.{is-true, is-false}
 use lib.Ieee.Positive.{positive}
 use Rattle.double.specs.rules.Operations.{zero, half, one, _⊕_, _⊖_, _⊗_, _⊘_}
 use Rattle.double.specs.rules.Sign.{bearsMinus, size, isFinite}
@@ -18,6 +20,7 @@ use Rattle.double.specs.rules.Table.{over}
 use Rattle.double.specs.notions.Range.{Expr, known, con, _⊞_, _⊟_, _⊠_, _⧄_, hornerExpr}
 use Rattle.double.specs.laws.Tests.{by-test}
 use Rattle.double.specs.laws.Sign.{finite-size, plus-size, size-plus, size-neg, size-negated, size-size, minus-negated}
+use Rattle.double.specs.laws.Zero.{zero-size}
 use Rattle.double.specs.laws.Mirror.{sub-nan}
 use Rattle.double.specs.laws.Order.{le→below, le-trans, le-of-not-le, neg-le}
 use Rattle.double.specs.laws.Between.{between, zero-le-plus, finite-of-plus, plus-of-positive}
@@ -25,10 +28,11 @@ use Rattle.double.specs.laws.Interval.{bounded}
 use Rattle.double.specs.laws.NearZero.{mul-shrinks, mul-plus, add-plus, sub-plus, div-plus, div-le-one}
 use Rattle.quantity.specs.rules.Angle.{PI, HALF, QUARTER}
 use Rattle.quantity.specs.declared.Rad.{Rad}
-use Rattle.quantity.specs.rules.Answer.{answered}
+use Rattle.quantity.specs.rules.Answer.{answered, refused}
+use Rattle.quantity.specs.laws.Steps.{refused-not-answered, same-value, same-number}
 use Rattle.elementary.specs.rules.Series.{horner}
 use Rattle.elementary_arc.specs.rules.Series.{arctangentLast, arctangentEntries, arctangentSeries}
-use Rattle.elementary_arc.specs.rules.Arctangent.{near, atn, bothZero, base, turned, arctangentOf, arctangentIn}
+use Rattle.elementary_arc.specs.rules.Arctangent.{near, atn, base, turned, arctangentOf, bothZero, arctangentIn}
 use Rattle.elementary_arc.specs.laws.Mirror.{base-nan}
 use Rattle.elementary_arc.specs.notions.UpToHalf.{UpToHalf}
 
@@ -139,31 +143,26 @@ swapped true false t = tt
 swapped false true t = tt
 swapped false false t = tt
 
-base-up-to-half : (y x : Float) → Finite y → Plus y → Finite x → Plus x → UpToHalf (base y x)
-base-up-to-half y x p q r s =
-    by-test UpToHalf (bothZero y x) zero (cond (le y x) (atn (y ⊘ x)) (HALF ⊖ atn (x ⊘ y)))
-    (λ h. none)
-    (λ n.
+base-up-to-half : (y x : Float) → Finite y → Plus y → Finite x → Plus x → T (not (bothZero y x)) → UpToHalf (base y x)
+base-up-to-half y x p q r s n =
     by-test UpToHalf (le y x) (atn (y ⊘ x)) (HALF ⊖ atn (x ⊘ y))
     (λ h. ratio-up-to-half y x p q (larger-positive y x p q r s h n) h)
     (λ h.
     let l = le-of-not-le y x p r h in
-    past-half (atn (x ⊘ y)) (ratio-up-to-half x y r s (larger-positive x y r s p q l (swapped (isZero y) (isZero x) n)) l)))
+    past-half (atn (x ⊘ y)) (ratio-up-to-half x y r s (larger-positive x y r s p q l (swapped (isZero y) (isZero x) n)) l))
   where
-    none : UpToHalf zero
-    none = unfold isFinite le ofBits in record { plus = tt; place = between tt tt tt tt }
-
     past-half : (a : Float) → UpToHalf a → UpToHalf (HALF ⊖ a)
     past-half a i =
         unfold isFinite le neg add sub ofBits in
         record { plus = sub-plus binary64 HALF a tt (i .place .finite) tt (i .place .to); place = bounded binary64 zero HALF (con HALF ⊟ known (i .place)) tt }
 
--- ---- the arctangent of two finite numbers
+-- ---- the arctangent of two finite numbers, not both zero
 
 -- base of their sizes
-base-of : (y x : Float) → Finite y → Finite x → UpToHalf (base (size y) (size x))
-base-of y x p q =
+base-of : (y x : Float) → Finite y → Finite x → T (not (bothZero y x)) → UpToHalf (base (size y) (size x))
+base-of y x p q n =
     base-up-to-half (size y) (size x) (rw (finite-size y) p) (plus-size y p) (rw (finite-size x) q) (plus-size x q)
+    (rw (zero-size y, zero-size x) n)
 
 behind : (b : Float) → UpToHalf b → Between HALF PI (PI ⊖ b)
 unfolding isFinite le neg add sub ofBits
@@ -173,11 +172,11 @@ turned-plus : (s : Bool) (b : Float) → UpToHalf b → Plus (turned s b)
 turned-plus true b i = plus-of-positive HALF (PI ⊖ b) (unfold ofBits in tt) (behind b i .from)
 turned-plus false b i = i .plus
 
-module _ (y x : Float) (p : Finite y) (q : Finite x) where
+module _ (y x : Float) (p : Finite y) (q : Finite x) (n : T (not (bothZero y x))) where
   turned-size : size (turned (bearsMinus x) (base (size y) (size x))) ≡ turned (bearsMinus x) (base (size y) (size x))
   turned-size =
       size-plus (turned (bearsMinus x) (base (size y) (size x)))
-      (turned-plus (bearsMinus x) (base (size y) (size x)) (base-of y x p q))
+      (turned-plus (bearsMinus x) (base (size y) (size x)) (base-of y x p q n))
 
   -- its size is base, turned where x bears a minus sign
   pub arctangent-size : size (arctangentOf y x .0) ≡ turned (bearsMinus x) (base (size y) (size x))
@@ -189,49 +188,49 @@ module _ (y x : Float) (p : Finite y) (q : Finite x) where
   unfolding arctangentOf
   arctangent-sign =
       rw (turned-size)
-      (minus-negated (bearsMinus y) (turned (bearsMinus x) (base (size y) (size x))) (turned-plus (bearsMinus x) (base (size y) (size x)) (base-of y x p q)))
+      (minus-negated (bearsMinus y) (turned (bearsMinus x) (base (size y) (size x))) (turned-plus (bearsMinus x) (base (size y) (size x)) (base-of y x p q n)))
 
   pub arctangent-finite : Finite (arctangentOf y x .0)
   arctangent-finite = rw (← finite-size (arctangentOf y x .0), arctangent-size) (by-sign (bearsMinus x))
     where
       by-sign : (s : Bool) → Finite (turned s (base (size y) (size x)))
-      by-sign true = behind (base (size y) (size x)) (base-of y x p q) .finite
-      by-sign false = base-of y x p q .place .finite
+      by-sign true = behind (base (size y) (size x)) (base-of y x p q n) .finite
+      by-sign false = base-of y x p q n .place .finite
 
   -- a quarter turn at most, where x bears no minus sign
   pub arctangent-at-most-half : bearsMinus x ≡ false → size (arctangentOf y x .0) ≼ HALF
-  arctangent-at-most-half h = rw (arctangent-size, h) (base-of y x p q .place .to)
+  arctangent-at-most-half h = rw (arctangent-size, h) (base-of y x p q n .place .to)
 
   -- a quarter turn at least, where x bears one
   pub arctangent-at-least-half : bearsMinus x ≡ true → HALF ≼ size (arctangentOf y x .0)
-  arctangent-at-least-half h = rw (arctangent-size, h) (behind (base (size y) (size x)) (base-of y x p q) .from)
+  arctangent-at-least-half h = rw (arctangent-size, h) (behind (base (size y) (size x)) (base-of y x p q n) .from)
 
   -- and half a turn at most in any case
   pub arctangent-at-most-pi : size (arctangentOf y x .0) ≼ PI
   arctangent-at-most-pi = rw arctangent-size (by-sign (bearsMinus x))
     where
       by-sign : (s : Bool) → turned s (base (size y) (size x)) ≼ PI
-      by-sign true = behind (base (size y) (size x)) (base-of y x p q) .to
-      by-sign false = le-trans (base (size y) (size x)) HALF PI (base-of y x p q .place .to) (unfold le ofBits in tt)
+      by-sign true = behind (base (size y) (size x)) (base-of y x p q n) .to
+      by-sign false = le-trans (base (size y) (size x)) HALF PI (base-of y x p q n .place .to) (unfold le ofBits in tt)
 
 -- ---- the second argument negated, on every double
 
 base-nan-r : (y : Float) → base (size y) nan ≡ nan
-unfolding size eq le neg add sub mul div ofBits
+unfolding size le neg add sub mul div ofBits
 base-nan-r nan = base-nan nan
 base-nan-r (inf s) = refl
-base-nan-r (fin s m e) = rw (and-false (isZero (fin false m e)))
+base-nan-r (fin s m e) = refl
 
 -- base is a NaN or lies from 0 to HALF
-base-cases : (y x : Float) → (base (size y) (size x) ≡ nan) ⊎ UpToHalf (base (size y) (size x))
-unfolding size isFinite eq le neg add sub mul div ofBits
-base-cases nan x = inl (base-nan (size x))
-base-cases (inf s) nan = inl refl
-base-cases (inf s) (inf t) = inl refl
-base-cases (inf s) (fin t n d) = inr (record { plus = tt; place = between tt tt tt tt })
-base-cases (fin s m e) nan = inl (base-nan-r (fin s m e))
-base-cases (fin s m e) (inf t) = inr (rw (and-false (isZero (fin false m e))) (record { plus = tt; place = between tt tt tt tt }))
-base-cases (fin s m e) (fin t n d) = inr (base-of (fin s m e) (fin t n d) tt tt)
+base-cases : (y x : Float) → T (not (bothZero y x)) → (base (size y) (size x) ≡ nan) ⊎ UpToHalf (base (size y) (size x))
+unfolding size isFinite le neg add sub mul div ofBits
+base-cases nan x k = inl (base-nan (size x))
+base-cases (inf s) nan k = inl refl
+base-cases (inf s) (inf t) k = inl refl
+base-cases (inf s) (fin t n d) k = inr (record { plus = tt; place = between tt tt tt tt })
+base-cases (fin s m e) nan k = inl (base-nan-r (fin s m e))
+base-cases (fin s m e) (inf t) k = inr (record { plus = tt; place = between tt tt tt tt })
+base-cases (fin s m e) (fin t n d) k = inr (base-of (fin s m e) (fin t n d) tt tt k)
 
 turned-less : (b : Float) → (b ≡ nan) ⊎ UpToHalf b → size (PI ⊖ b) ≡ PI ⊖ size b
 turned-less b (inl e) = rw (e, sub-nan binary64 PI) (unfold size in sym (sub-nan binary64 PI))
@@ -247,44 +246,66 @@ size-nan : (y : Float) → size (arctangentOf y nan .0) ≡ nan
 unfolding size bearsMinus
 size-nan y = size-turned y nan ∙ ap size (base-nan-r y)
 
-opposite-signs : (y x : Float) → bearsMinus x ≡ false → bearsMinus (neg x) ≡ true
+opposite-signs : (y x : Float) → T (not (bothZero y x)) → bearsMinus x ≡ false → bearsMinus (neg x) ≡ true
     → size (arctangentOf y (neg x) .0) ≡ PI ⊖ size (arctangentOf y x .0)
-opposite-signs y x h k =
-    rw (size-turned y (neg x), size-turned y x, size-neg x, h, k) (turned-less (base (size y) (size x)) (base-cases y x))
+opposite-signs y x n h k =
+    rw (size-turned y (neg x), size-turned y x, size-neg x, h, k) (turned-less (base (size y) (size x)) (base-cases y x n))
 
 -- where x bears no minus sign, the size at −x is PI less the size at x, rounded once
-pub arctangent-behind : (y x : Float) → bearsMinus x ≡ false → size (arctangentOf y (neg x) .0) ≡ PI ⊖ size (arctangentOf y x .0)
+pub arctangent-behind : (y x : Float) → T (not (bothZero y x)) → bearsMinus x ≡ false
+    → size (arctangentOf y (neg x) .0) ≡ PI ⊖ size (arctangentOf y x .0)
 unfolding neg bearsMinus
-arctangent-behind y nan h = rw (size-nan y) (sym (sub-nan binary64 PI))
-arctangent-behind y (inf s) h = opposite-signs y (inf s) h (rw h)
-arctangent-behind y (fin s m e) h = opposite-signs y (fin s m e) h (rw h)
+arctangent-behind y nan n h = rw (size-nan y) (sym (sub-nan binary64 PI))
+arctangent-behind y (inf s) n h = opposite-signs y (inf s) n h (rw h)
+arctangent-behind y (fin s m e) n h = opposite-signs y (fin s m e) n h (rw h)
 
 -- ---- the same of what callers bind
 
+-- 14 is the only refusal, and is given only of two zeros
+pub arctangent-refuses-fourteen : (y x : Float) (n : ℕ) → arctangentIn y x ≡ refused n → (n ≡ 14) × T (bothZero y x)
+unfolding arctangentIn
+arctangent-refuses-fourteen y x n e = by-case (bothZero y x) e
+  where
+    by-case : (b : Bool) → cond b (refused 14) (answered (arctangentOf y x)) ≡ refused n → (n ≡ 14) × T b
+    by-case true e = (sym (same-number e), tt)
+    by-case false e = absurd (refused-not-answered (sym e))
+
+pub arctangent-of-zeros : (y x : Float) → T (bothZero y x) → arctangentIn y x ≡ refused 14
+unfolding arctangentIn
+arctangent-of-zeros y x z = rw (is-true (bothZero y x) z)
+
+pub arctangent-answered : (y x : Float) → T (not (bothZero y x)) → arctangentIn y x ≡ answered (arctangentOf y x)
+unfolding arctangentIn
+arctangent-answered y x n = rw (is-false (bothZero y x) n)
+
 module _ (y x : Float) (v : Rad) (e : arctangentIn y x ≡ answered v) where
-  is-arctangent : v ≡ arctangentOf y x
+  is-arctangent : T (not (bothZero y x)) × (v ≡ arctangentOf y x)
   unfolding arctangentIn
-  is-arctangent = cc
+  is-arctangent = by-case (bothZero y x) e
+    where
+      by-case : (b : Bool) → cond b (refused 14) (answered (arctangentOf y x)) ≡ answered v → T (not b) × (v ≡ arctangentOf y x)
+      by-case true e = absurd (refused-not-answered e)
+      by-case false e = (tt, sym (same-value e))
 
   module _ (p : Finite y) (q : Finite x) where
     pub arctangent-in-sign : bearsMinus (v .0) ≡ bearsMinus y
-    arctangent-in-sign = rw is-arctangent (arctangent-sign y x p q)
+    arctangent-in-sign = rw (is-arctangent .1) (arctangent-sign y x p q (is-arctangent .0))
 
     pub arctangent-in-finite : Finite (v .0)
-    arctangent-in-finite = rw is-arctangent (arctangent-finite y x p q)
+    arctangent-in-finite = rw (is-arctangent .1) (arctangent-finite y x p q (is-arctangent .0))
 
     pub arctangent-in-at-most-half : bearsMinus x ≡ false → size (v .0) ≼ HALF
-    arctangent-in-at-most-half h = rw is-arctangent (arctangent-at-most-half y x p q h)
+    arctangent-in-at-most-half h = rw (is-arctangent .1) (arctangent-at-most-half y x p q (is-arctangent .0) h)
 
     pub arctangent-in-at-least-half : bearsMinus x ≡ true → HALF ≼ size (v .0)
-    arctangent-in-at-least-half h = rw is-arctangent (arctangent-at-least-half y x p q h)
+    arctangent-in-at-least-half h = rw (is-arctangent .1) (arctangent-at-least-half y x p q (is-arctangent .0) h)
 
     pub arctangent-in-at-most-pi : size (v .0) ≼ PI
-    arctangent-in-at-most-pi = rw is-arctangent (arctangent-at-most-pi y x p q)
+    arctangent-in-at-most-pi = rw (is-arctangent .1) (arctangent-at-most-pi y x p q (is-arctangent .0))
 
-  pub arctangent-in-behind : (w : Rad) → arctangentIn y (neg x) ≡ answered w → bearsMinus x ≡ false → size (w .0) ≡ PI ⊖ size (v .0)
-  unfolding arctangentIn
-  arctangent-in-behind w e' h = rw is-arctangent (ap (λ (z : Rad). size (z .0)) (same w e') ∙ arctangent-behind y x h)
-    where
-      same : (w : Rad) → answered (arctangentOf y (neg x)) ≡ answered w → w ≡ arctangentOf y (neg x)
-      same w e = cc
+pub arctangent-in-behind : (y x : Float) (v : Rad) → arctangentIn y x ≡ answered v → (w : Rad) → arctangentIn y (neg x) ≡ answered w
+    → bearsMinus x ≡ false → size (w .0) ≡ PI ⊖ size (v .0)
+arctangent-in-behind y x v e w e' h =
+    let here = is-arctangent y x v e in
+    let there = is-arctangent y (neg x) w e' in
+    rw (here .1, there .1) (arctangent-behind y x (here .0) h)

@@ -1,15 +1,16 @@
 -- The arctangent is odd in its first argument, and the arcsine odd, on every double. Assumes nothing.
 use mathlib.Core.Path.{_≡_, refl, ap}
 use mathlib.Core.Bool.{Bool, true, false, cond}
-use lib.Ieee.{Float, nan, binary64, neg, add, sub, mul, div, eq, le, lt, ofBits}
+use lib.Ieee.{Float, nan, binary64, neg, add, sub, mul, div, le, lt, ofBits}
 use Rattle.double.specs.rules.Operations.{one, _⊕_, _⊖_, _⊗_}
 use Rattle.double.specs.rules.Sign.{bearsMinus, size}
 use Rattle.double.specs.laws.Sign.{size-neg, sign-neg}
+use Rattle.double.specs.laws.Zero.{zero-neg}
 use Rattle.double.specs.laws.Mirror.{mul-comm, sub-neg-r, add-neg-r, sub-nan, div-nan}
 use Rattle.quantity.specs.rules.Angle.{rad, PI, HALF, opposite}
 use Rattle.quantity.specs.rules.Answer.{Answer, answered, refused, with, then}
 use Rattle.root.specs.rules.Root.{rootRule}
-use Rattle.elementary_arc.specs.rules.Arctangent.{atn, base, turned, arctangentOf, arctangentIn}
+use Rattle.elementary_arc.specs.rules.Arctangent.{atn, base, turned, arctangentOf, bothZero, arctangentIn}
 use Rattle.elementary_arc.specs.rules.Arcsine.{arcsineIn}
 
 -- ---- a NaN has no sign, and each function answers one with one
@@ -19,7 +20,7 @@ unfolding le add sub mul div ofBits
 atn-nan = refl
 
 pub base-nan : (x : Float) → base nan x ≡ nan
-unfolding eq le
+unfolding le
 base-nan x = rw (div-nan binary64 x, atn-nan, sub-nan binary64 HALF)
 
 pub turned-nan : (s : Bool) → turned s nan ≡ nan
@@ -37,7 +38,12 @@ arctangent-odd y x =
 
 pub arctangent-in-odd : (y x : Float) → arctangentIn (neg y) x ≡ with opposite (arctangentIn y x)
 unfolding arctangentIn
-arctangent-in-odd y x = ap answered (arctangent-odd y x)
+arctangent-in-odd y x = rw (zero-neg y, arctangent-odd y x) (by-case (bothZero y x))
+  where
+    by-case : (b : Bool)
+        → cond b (refused 14) (answered (opposite (arctangentOf y x))) ≡ with opposite (cond b (refused 14) (answered (arctangentOf y x)))
+    by-case true = refl
+    by-case false = refl
 
 pub arcsine-in-odd : (s : Float) → arcsineIn (neg s) ≡ with opposite (arcsineIn s)
 unfolding arcsineIn then

@@ -12,7 +12,7 @@ use Rattle.quantity.specs.notions.Varies.{Varies}
 use Rattle.elementary_arc.specs.rules.Arctangent.{arctangentRule}
 use Rattle.elementary_arc.specs.rules.Arcsine.{arcsineRule}
 use Rattle.elementary_arc.specs.notions.Computed.{computed}
-use Rattle.elementary_arc.specs.notions.Wrong.{oneArgument, minusZeroIsPlus, behindIsAhead, arctangentLetsInfinityIn, arcsineClamped, arcsineLimitOff, arcsineRootRegrouped, arcsineLetsInfinityIn}
+use Rattle.elementary_arc.specs.notions.Wrong.{oneArgument, minusZeroIsPlus, behindIsAhead, onlyPlusZerosRefused, minusZeroNotSeen, zerosAnswered, arctangentLetsInfinityIn, arcsineClamped, arcsineLimitOff, arcsineRootRegrouped, arcsineLetsInfinityIn}
 
 -- ---- arctangent
 
@@ -24,13 +24,25 @@ pub one-argument-excluded : oneArgument one (neg one) ≢ arctangentRule one (ne
 unfolding computed
 one-argument-excluded = apart (ofAnswer ofRad) refl
 
-pub minus-zero-is-plus-excluded : minusZeroIsPlus zero minusZero ≢ arctangentRule zero minusZero
+pub minus-zero-is-plus-excluded : minusZeroIsPlus minusZero (neg one) ≢ arctangentRule minusZero (neg one)
 unfolding computed
 minus-zero-is-plus-excluded = apart (ofAnswer ofRad) refl
 
 pub behind-is-ahead-excluded : behindIsAhead one (neg one) ≢ arctangentRule one (neg one)
 unfolding computed
 behind-is-ahead-excluded = apart (ofAnswer ofRad) refl
+
+pub only-plus-zeros-refused-excluded : onlyPlusZerosRefused minusZero zero ≢ arctangentRule minusZero zero
+unfolding computed
+only-plus-zeros-refused-excluded = apart (ofAnswer ofRad) refl
+
+pub minus-zero-not-seen-excluded : minusZeroNotSeen zero minusZero ≢ arctangentRule zero minusZero
+unfolding computed
+minus-zero-not-seen-excluded = apart (ofAnswer ofRad) refl
+
+pub zeros-answered-excluded : zerosAnswered zero minusZero ≢ arctangentRule zero minusZero
+unfolding computed
+zeros-answered-excluded = apart (ofAnswer ofRad) refl
 
 pub arctangent-lets-infinity-in-excluded : arctangentLetsInfinityIn one (inf false) ≢ arctangentRule one (inf false)
 unfolding computed

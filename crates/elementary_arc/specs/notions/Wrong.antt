@@ -1,6 +1,6 @@
 -- Wrong variants of arctangent and arcsine.
-use lib.Ieee.{Float, lt}
-use mathlib.Core.Bool.{cond}
+use lib.Ieee.{Float, eq, lt}
+use mathlib.Core.Bool.{Bool, not, _&&_, cond}
 use Rattle.double.specs.rules.Operations.{bits, zero, one, _⊕_, _⊖_, _⊗_, _⊘_}
 use Rattle.double.specs.rules.Sign.{bearsMinus, negatedIf, size}
 use Rattle.quantity.specs.declared.Rad.{Rad}
@@ -8,7 +8,7 @@ use Rattle.quantity.specs.rules.Angle.{rad, HALF}
 use Rattle.quantity.specs.rules.Answer.{Answer, answered, refused, unless, then}
 use Rattle.quantity.specs.rules.Refusal.{numberRefusal}
 use Rattle.root.specs.rules.Root.{rootRule}
-use Rattle.elementary_arc.specs.rules.Arctangent.{base, turned, arctangentIn, arctangentRefusal}
+use Rattle.elementary_arc.specs.rules.Arctangent.{base, turned, arctangentOf, bothZero, arctangentIn, arctangentRefusal}
 use Rattle.elementary_arc.specs.rules.Arcsine.{arcsineIn}
 
 -- called alone, with another angle
@@ -21,11 +21,32 @@ oneArgument = alone (λ (y x : Float). negatedIf (bearsMinus (y ⊘ x)) (base (s
 
 -- −0 taken as +0
 abbrev pub minusZeroIsPlus : Float → Float → Answer Rad
-minusZeroIsPlus = alone (λ (y x : Float). negatedIf (bearsMinus y) (size (turned (lt x zero) (base (size y) (size x)))))
+minusZeroIsPlus = alone (λ (y x : Float). negatedIf (lt y zero) (size (turned (bearsMinus x) (base (size y) (size x)))))
 
 -- not turned where x bears a minus sign
 abbrev pub behindIsAhead : Float → Float → Answer Rad
 behindIsAhead = alone (λ (y x : Float). negatedIf (bearsMinus y) (base (size y) (size x)))
+
+-- called alone, with another test for 14
+abbrev refusedWhere : (Float → Float → Bool) → Float → Float → Answer Rad
+refusedWhere zeros y x = unless (arctangentRefusal y x) (cond (zeros y x) (refused 14) (answered (arctangentOf y x)))
+
+abbrev isPlusZero : Float → Bool
+isPlusZero x = eq x zero && not (bearsMinus x)
+
+-- only (+0, +0) refused
+abbrev pub onlyPlusZerosRefused : Float → Float → Answer Rad
+onlyPlusZerosRefused = refusedWhere (λ (y x : Float). isPlusZero y && isPlusZero x)
+
+-- −0 not seen as zero in the second argument
+abbrev pub minusZeroNotSeen : Float → Float → Answer Rad
+minusZeroNotSeen = refusedWhere (λ (y x : Float). eq y zero && isPlusZero x)
+
+-- both zero answered by 0 or half a turn
+abbrev pub zerosAnswered : Float → Float → Answer Rad
+zerosAnswered y x =
+    unless (arctangentRefusal y x)
+    (cond (bothZero y x) (answered (rad (negatedIf (bearsMinus y) (turned (bearsMinus x) zero)))) (arctangentIn y x))
 
 -- the second argument not tested
 abbrev pub arctangentLetsInfinityIn : Float → Float → Answer Rad

@@ -6,7 +6,7 @@ use Rattle.double.specs.rules.Operations.{bits, zero, one, _⊕_, _⊖_, _⊘_}
 use Rattle.double.specs.rules.Sign.{bearsMinus, negatedIf, size}
 use Rattle.quantity.specs.declared.Rad.{Rad}
 use Rattle.quantity.specs.rules.Angle.{rad, PI, HALF, QUARTER}
-use Rattle.quantity.specs.rules.Answer.{Answer, answered, unless}
+use Rattle.quantity.specs.rules.Answer.{Answer, answered, refused, unless}
 use Rattle.quantity.specs.rules.Refusal.{lower, numberRefusal}
 use Rattle.elementary_arc.specs.rules.Series.{arctangentSeries}
 
@@ -18,12 +18,9 @@ near = bits 0x3fda8240b780346e
 abbrev pub atn : Float → Float
 atn v = cond (le v near) (arctangentSeries v) (QUARTER ⊕ arctangentSeries ((v ⊖ one) ⊘ (v ⊕ one)))
 
-abbrev pub bothZero : Float → Float → Bool
-bothZero y x = eq y zero && eq x zero
-
 -- of two sizes
 abbrev pub base : Float → Float → Float
-base y x = cond (bothZero y x) zero (cond (le y x) (atn (y ⊘ x)) (HALF ⊖ atn (x ⊘ y)))
+base y x = cond (le y x) (atn (y ⊘ x)) (HALF ⊖ atn (x ⊘ y))
 
 -- where x bears a minus sign, base becomes PI − base
 abbrev pub turned : Bool → Float → Float
@@ -33,13 +30,18 @@ turned minus b = cond minus (PI ⊖ b) b
 unfoldable pub arctangentOf : Float → Float → Rad
 arctangentOf y x = rad (negatedIf (bearsMinus y) (size (turned (bearsMinus x) (base (size y) (size x)))))
 
--- as other rules use it: what it refuses they refuse
+-- of either sign
+abbrev pub bothZero : Float → Float → Bool
+bothZero y x = eq y zero && eq x zero
+
+-- as other rules use it: 14 where both are zero. What it refuses they refuse
 unfoldable pub arctangentIn : Float → Float → Answer Rad
-arctangentIn y x = answered (arctangentOf y x)
+arctangentIn y x = cond (bothZero y x) (refused 14) (answered (arctangentOf y x))
 
 -- called alone: 1
 abbrev pub arctangentRefusal : Float → Float → ℕ
 arctangentRefusal y x = lower (numberRefusal y) (numberRefusal x)
 
+-- then 14
 unfoldable pub arctangentRule : Float → Float → Answer Rad
 arctangentRule y x = unless (arctangentRefusal y x) (arctangentIn y x)

@@ -7,7 +7,7 @@ use Rattle.double.specs.laws.Apart.{apart}
 use Rattle.list_tally.specs.declared.Tally.{Tally}
 use Rattle.list_tally.specs.declared.Raised.{Raised}
 use Rattle.list_tally.specs.rules.Tally.{fullest, raiseRefusal, raiseRule, tallyOf, empty}
-use Rattle.list_tally.specs.notions.Wrong.{each, countsStartAtOne, eightBeforeNine, thirteenUnknown, fourteenKnown, raisedByTwo}
+use Rattle.list_tally.specs.notions.Wrong.{each, countsStartAtOne, eightBeforeNine, fourteenUnknown, fifteenKnown, raisedByTwo}
 
 -- the count of the status 0
 abbrev first : Tally → ℕ
@@ -20,17 +20,17 @@ pub counts-start-at-one-excluded : countsStartAtOne ≢ empty
 unfolding tallyOf
 counts-start-at-one-excluded = apart first refl
 
-pub eight-before-nine-excluded : eightBeforeNine (each fullest) 14 ≢ raiseRule (each fullest) 14
+pub eight-before-nine-excluded : eightBeforeNine (each fullest) 15 ≢ raiseRule (each fullest) 15
 unfolding raiseRule raiseRefusal
 eight-before-nine-excluded = apart refusal refl
 
-pub thirteen-unknown-excluded : thirteenUnknown empty 13 ≢ raiseRule empty 13
+pub fourteen-unknown-excluded : fourteenUnknown empty 14 ≢ raiseRule empty 14
 unfolding raiseRule raiseRefusal tallyOf
-thirteen-unknown-excluded = apart refusal refl
+fourteen-unknown-excluded = apart refusal refl
 
-pub fourteen-known-excluded : fourteenKnown empty 14 ≢ raiseRule empty 14
+pub fifteen-known-excluded : fifteenKnown empty 15 ≢ raiseRule empty 15
 unfolding raiseRule raiseRefusal tallyOf
-fourteen-known-excluded = apart refusal refl
+fifteen-known-excluded = apart refusal refl
 
 pub raised-by-two-excluded : raisedByTwo empty 0 ≢ raiseRule empty 0
 unfolding raiseRule raiseRefusal tallyOf

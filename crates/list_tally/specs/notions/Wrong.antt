@@ -28,12 +28,12 @@ eightBeforeNine =
     refusing (λ (t : Tally) (status : ℕ). cond (ltb (getD (t .counts) status 0) fullest) (cond (leb status highestStatus) 0 9) 8)
 
 -- one known status fewer
-abbrev pub thirteenUnknown : Tally → ℕ → Raised
-thirteenUnknown = refusing (λ (t : Tally) (status : ℕ). cond (leb status 12) (raiseRefusal t status) 9)
+abbrev pub fourteenUnknown : Tally → ℕ → Raised
+fourteenUnknown = refusing (λ (t : Tally) (status : ℕ). cond (leb status 13) (raiseRefusal t status) 9)
 
 -- one more
-abbrev pub fourteenKnown : Tally → ℕ → Raised
-fourteenKnown = refusing (λ (t : Tally) (status : ℕ). cond (leb status 14) (cond (ltb (getD (t .counts) status 0) fullest) 0 8) 9)
+abbrev pub fifteenKnown : Tally → ℕ → Raised
+fifteenKnown = refusing (λ (t : Tally) (status : ℕ). cond (leb status 15) (cond (ltb (getD (t .counts) status 0) fullest) 0 8) 9)
 
 abbrev pub raisedByTwo : Tally → ℕ → Raised
 raisedByTwo t status =

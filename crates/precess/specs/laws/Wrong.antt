@@ -2,8 +2,11 @@
 -- answers a constant, does not meet it. What the editions share is worked out in the crate's. Assumes nothing.
 use mathlib.Core.Path.{refl}
 use std.Logic.{_≢_}
-use Rattle.double.specs.rules.Operations.{zero}
+use lib.Ieee.{Float}
+use Rattle.double.specs.rules.Operations.{bits, zero}
 use Rattle.double.specs.laws.Apart.{apart}
+use Rattle.quantity.specs.declared.Rad.{Rad}
+use Rattle.quantity.specs.rules.Angle.{rad}
 use Rattle.quantity.specs.rules.Refusal.{epoch}
 use Rattle.quantity.specs.notions.Code.{ofAnswer, ofFirst, ofSecond}
 use Rattle.quantity.specs.notions.Varies.{Varies}
@@ -14,7 +17,7 @@ use Rattle.precess.specs.rules.Annual.{annualPrecessRule}
 use Rattle.precess.specs.rules.Equatorial.{precessEqCoordsRule}
 use Rattle.precess.specs.rules.Fk4.{precessEqCoordsFK5Rule}
 use Rattle.precess.specs.notions.Computed.{computed}
-use Rattle.precess.specs.notions.Wrong.{annualTangentIsSine, oneSignOfEach, spanBackward, xiTakenAway, daysInAnyOrder, fk4AnglesOfEach}
+use Rattle.precess.specs.notions.Wrong.{annualTangentIsSine, oneSignOfEach, spanBackward, xiTakenAway, daysInAnyOrder, arcsineFirst, fk4AnglesOfEach}
 
 -- ---- annual precession
 
@@ -60,6 +63,21 @@ xi-taken-away-excluded = apart (ofAnswer ofFirst) refl
 pub days-in-any-order-excluded : daysInAnyOrder Crate r0 r0 epoch zero ≢ precessEqCoordsRule Crate r0 r0 epoch zero
 unfolding computed
 days-in-any-order-excluded = apart (ofAnswer ofFirst) refl
+
+-- from the epoch to 2558198.0, at the point that comes to the pole: both arguments of the arctangent are zero, and the arcsine's is the
+-- next double above 1.0
+abbrev asc : Rad
+asc = rad (bits 0xbfa0b92c872917e9)
+
+abbrev dec : Rad
+dec = rad (bits 0x3ff8addaab05aec1)
+
+abbrev day : Float
+day = bits 0x4143847b00000000
+
+pub arcsine-first-excluded : arcsineFirst Crate asc dec epoch day ≢ precessEqCoordsRule Crate asc dec epoch day
+unfolding computed
+arcsine-first-excluded = apart (ofAnswer ofFirst) refl
 
 -- ---- equatorial coordinates of the FK4 system
 

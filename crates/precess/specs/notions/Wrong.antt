@@ -2,10 +2,11 @@
 use lib.Ieee.{Float}
 use Rattle.double.specs.rules.Operations.{_⊕_, _⊖_, _⊗_}
 use Rattle.quantity.specs.declared.Rad.{Rad}
-use Rattle.quantity.specs.rules.Answer.{Answer, answered, Pair, pair, unless}
+use Rattle.quantity.specs.rules.Answer.{Answer, answered, Pair, pair, unless, then}
 use Rattle.edition.specs.declared.Edition.{Edition}
 use Rattle.elementary.specs.rules.Direction.{directionOf}
 use Rattle.elementary.specs.rules.Sine.{sineOf, cosineOf}
+use Rattle.elementary_arc.specs.rules.Arcsine.{arcsineIn}
 use Rattle.helpers.specs.rules.Angle.{radiansOf}
 use Rattle.helpers.specs.rules.Time.{centuryOf}
 use Rattle.precess.specs.declared.EqTurns.{EqTurns}
@@ -51,6 +52,15 @@ xiTakenAway e asc dec day1 day2 =
 abbrev pub daysInAnyOrder : Edition → Rad → Rad → Float → Float → Answer Pair
 daysInAnyOrder e asc dec day1 day2 =
     unless (placeRefusal asc dec day1 day1) (turnedIn asc dec (eqTurnsOf e day1 day2))
+
+-- 7 before 14
+abbrev pub arcsineFirst : Edition → Rad → Rad → Float → Float → Answer Pair
+arcsineFirst e asc dec day1 day2 =
+    let turns = eqTurnsOf e day1 day2 in
+    let d = directionOf (record { asc = asc .0 ⊕ turns .xi .0; dec = dec .0 }) in
+    unless (placeRefusal asc dec day1 day2)
+    (then (arcsineIn (turns .sine ⊗ d .«cos_dec» ⊗ d .«cos_asc» ⊕ turns .cosine ⊗ d .«sin_dec»))
+    (λ (s : Rad). placed d turns))
 
 -- ---- equatorial coordinates of the FK4 system
 

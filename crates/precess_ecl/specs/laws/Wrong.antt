@@ -7,10 +7,11 @@ use Rattle.quantity.specs.rules.Refusal.{epoch}
 use Rattle.quantity.specs.notions.Code.{ofPair, ofTriple, ofAnswer}
 use Rattle.quantity.specs.notions.Varies.{Varies}
 use Rattle.quantity.specs.notions.Stated.{r0, r½, r1, earlier}
-use Rattle.precess_ecl.specs.rules.Ecliptic.{precessEclCoordsRule}
+use Rattle.precess_ecl.specs.declared.EclTurns.{EclTurns}
+use Rattle.precess_ecl.specs.rules.Ecliptic.{eclTurnsOf, precessEclCoordsRule}
 use Rattle.precess_ecl.specs.rules.Orbit.{precessOrbElementsRule}
 use Rattle.precess_ecl.specs.notions.Computed.{computed}
-use Rattle.precess_ecl.specs.notions.Wrong.{eclipticLongitudeWithoutRho, nodeWithoutHalfATurn, perihelionAndNodeTraded}
+use Rattle.precess_ecl.specs.notions.Wrong.{eclipticLongitudeWithoutRho, nodeWithoutHalfATurn, nodeBeforeTheTest, perihelionAndNodeTraded}
 
 -- ---- ecliptic coordinates
 
@@ -31,6 +32,15 @@ precess-orb-elements-varies = record { here = refl; there = refl; apart = apart 
 pub node-without-half-a-turn-excluded : nodeWithoutHalfATurn r0 r0 r0 earlier epoch ≢ precessOrbElementsRule r0 r0 r0 earlier epoch
 unfolding computed
 node-without-half-a-turn-excluded = apart (ofAnswer ofTriple) refl
+
+-- an orbit in the second day's ecliptic: A and B are zero
+abbrev turns : EclTurns
+turns = eclTurnsOf earlier epoch
+
+pub node-before-the-test-excluded : nodeBeforeTheTest (turns .nu) r0 (turns .pi) earlier epoch
+    ≢ precessOrbElementsRule (turns .nu) r0 (turns .pi) earlier epoch
+unfolding computed
+node-before-the-test-excluded = apart (ofAnswer ofTriple) refl
 
 pub perihelion-and-node-traded-excluded : perihelionAndNodeTraded r0 r0 r0 earlier epoch ≢ precessOrbElementsRule r0 r0 r0 earlier epoch
 unfolding computed

@@ -31,6 +31,16 @@ nodeWithoutHalfATurn inc perih node day1 day2 =
     unless (orbitRefusal inc perih node day1 day2)
     (then (newInclination inc l turns) (λ (i : Rad). orbitFrom i new perih n turns))
 
+-- the node's arctangent taken before the test of the sine: 14 before 6
+abbrev pub nodeBeforeTheTest : Rad → Rad → Rad → Float → Float → Answer Triple
+nodeBeforeTheTest inc perih node day1 day2 =
+    let turns = eclTurnsOf day1 day2 in
+    let n = fold (rad (node .0 ⊖ turns .pi .0)) in
+    let l = leanedOf (fold inc) n turns in
+    unless (orbitRefusal inc perih node day1 day2)
+    (then (newInclination inc l turns)
+    (λ (i : Rad). then (newNode inc l turns) (λ (x : Rad). orbitFrom i (answered x) perih n turns)))
+
 abbrev traded : Triple → Triple
 traded (triple i w x) = triple i x w
 

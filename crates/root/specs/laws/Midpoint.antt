@@ -11,11 +11,11 @@ use lib.Ieee.Digits.{back}
 use Rattle.root.specs.laws.Numbers.{less-or-not, square-lt}
 
 -- with more zeros at its end the other is a multiple of 2^e
-multiple : (a j e : ℕ) → e ≤ j → a * 2 ^ j ≡ a * 2 ^ (j - e) * 2 ^ e
+pub multiple : (a j e : ℕ) → e ≤ j → a * 2 ^ j ≡ a * 2 ^ (j - e) * 2 ^ e
 multiple a j e h = rw (mul-assoc a (2 ^ (j - e)) (2 ^ e), ← pow-add 2 (j - e) e, back j e h)
 
 -- with fewer it is below every number of 53 digits times 2^e
-short : (a j e : ℕ) → a < 2 ^ 53 → j < e → a * 2 ^ j < 2 ^ 52 * 2 ^ e
+pub short : (a j e : ℕ) → a < 2 ^ 53 → j < e → a * 2 ^ j < 2 ^ 52 * 2 ^ e
 short a j e h l =
     lt-of-lt-of-le (mul-lt-mul-of-pos-right h (pow-pos j))
     (le-trans (le-of-eq (mul-assoc (2 ^ 52) 2 (2 ^ j) ∙ ap (λ (x : ℕ). 2 ^ 52 * x) (sym (pow-succ' 2 j)))) (mul-le-mul-left (2 ^ 52) (pow-mono l)))
