@@ -26,6 +26,8 @@
  *   12   a number of a radio list is not in its shortest length or above 32 bits
  *   13   a radio list is cut short, an empty one too, or has bytes over
  *   14   both arguments of an arctangent are zero, of either sign: there is no direction
+ *   15   the star never rises: it stays below the standard altitude
+ *   16   the star never sets: it stays above the standard altitude
  * 1 to 5 are tested first, lowest number first, over all arguments; the others as the work meets them.
  * Limits themselves are accepted.
  *
@@ -368,6 +370,22 @@ uint8_t brundelak_topopcent_ecl_coords_published(double ecl_long, double ecl_lat
                                                  double height, double sidereal, double oblq, double semidiameter,
                                                  double *first, double *second, double *third);
 
+/* ---- rise, culmination and set (Meeus, chapter 15) --------------------------------------------------------------- */
+
+/* Rise, culmination and set of a star, before interpolation.
+ * Given:     asc, dec      right ascension, declination (size at most 1.57) on the day in question
+ *            sidereal      sidereal time at Greenwich at 0h universal time of that day
+ *            long_, lat    observer's longitude, latitude (size at most 1.57)
+ *            alt           standard altitude, at which the star rises and sets (size at most a quarter turn)
+ * Returned:  rise, culmination, set
+ *                          fractions of that day in universal time, 0 to 1; 1.0 itself just before 0h
+ * Refusals:  1, 3, 4, then 15, 16
+ * Note:      a fraction is a part of the sidereal day: divided by 1.0027379 it is that of the clock, up to 4 minutes
+ *            earlier. A star that only touches the standard altitude is answered: all three fall together, or rise and
+ *            set half a day from the culmination. */
+uint8_t brundelak_rise_culm_set(double asc, double dec, double sidereal, double long_, double lat, double alt,
+                                double *rise, double *culmination, double *set);
+
 /* ---- the chain --------------------------------------------------------------------------------------------------- */
 
 /* A star's place from one day to another: precession, then nutation and aberration at the precessed point.
@@ -424,7 +442,7 @@ uint8_t brundelak_batch_published(const uint8_t *bytes, size_t len, double day1,
                                   uint32_t *tally);
 
 /* One status counted in a tally.
- * Given:     status   0, or a refusal number up to 14
+ * Given:     status   0, or a refusal number up to 16
  *            tally    20 counts
  * Returned:  tally    the count of that status raised by one
  * Refusals:  9 for a status that is not known, then 8 for a count that is full, 60000; the counts stay unchanged */

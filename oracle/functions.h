@@ -8,7 +8,8 @@ typedef uint8_t call(const double *a, double *const *o);
 #define A3 A2, a[2]
 #define A4 A3, a[3]
 #define A5 A4, a[4]
-#define A7 A5, a[5], a[6]
+#define A6 A5, a[5]
+#define A7 A6, a[6]
 #define A9 A7, a[7], a[8]
 #define O1 o[0]
 #define O2 O1, o[1]
@@ -27,7 +28,7 @@ typedef uint8_t call(const double *a, double *const *o);
     F(stell_aberr_in_eq_coords, A3, O2) F(eq_hz_parallax, A1, O1) F(topocent_eq_coords, A7, O2) \
     F(topopcent_ecl_coords, A9, O3) F(chain, A4, O2) F(dec_frm_hz_published, A3, O1) \
     F(precess_eq_coords_published, A4, O2) F(precess_eq_coords_fk5_published, A4, O2) \
-    F(topopcent_ecl_coords_published, A9, O3) F(chain_published, A4, O2)
+    F(topopcent_ecl_coords_published, A9, O3) F(chain_published, A4, O2) F(rise_culm_set, A6, O3)
 
 #define DEFINE(name, given, answered) \
     static uint8_t name(const double *a, double *const *o) { return brundelak_##name(given, answered); }
@@ -38,6 +39,7 @@ FUNCTIONS(DEFINE)
 #define COUNT_A3 3
 #define COUNT_A4 4
 #define COUNT_A5 5
+#define COUNT_A6 6
 #define COUNT_A7 7
 #define COUNT_A9 9
 #define COUNT_O1 1

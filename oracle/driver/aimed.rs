@@ -1,4 +1,5 @@
-//! Inputs aimed at refusals 6, 7 and 14, which random ones miss: arguments of an arcsine beside 1, divisors that are zero, no direction.
+//! Inputs aimed at refusals 6, 7 and 14 and at the limits of 15 and 16, which random ones miss: arguments of an arcsine beside 1,
+//! divisors that are zero, no direction.
 use inputs::Random;
 use port::{self, Lent};
 use std::f64::consts::{FRAC_PI_2, PI};
@@ -42,7 +43,7 @@ fn pole(asc: u64, dec: u64, day1: f64, day2: u64) -> Vec<f64> {
     vec![f64::from_bits(asc), f64::from_bits(dec), day1, f64::from_bits(day2)]
 }
 
-/// An input aimed at 6, 7 or 14, for the functions that can meet them.
+/// An input aimed at 6, 7 or 14, or at a limit of 15 and 16, for the functions that can meet them.
 pub fn input(r: &mut Random, name: &str) -> Option<Vec<f64>> {
     let angle = r.between(0.0, FRAC_PI_2);
     let day1 = r.between(1721045.0, 3182045.0);
@@ -98,6 +99,16 @@ pub fn input(r: &mut Random, name: &str) -> Option<Vec<f64>> {
         }
         // N is zero: parallax a quarter turn, observer on the equator at sea level.
         "brundelak_topopcent_ecl_coords" | "brundelak_topopcent_ecl_coords_published" => vec![angle, 0.0, FRAC_PI_2, 0.3, 0.0, 0.0, angle, 0.4, 0.005],
+        // The star culminates at 0h and touches the altitude: at the zenith or opposite to it, at its upper or lower culmination.
+        "brundelak_rise_culm_set" => {
+            let (dec, lat, alt) = match r.below(4) {
+                0 => (angle, angle, FRAC_PI_2),
+                1 => (angle, -angle, -FRAC_PI_2),
+                2 => (0.3, angle, FRAC_PI_2 - (angle - 0.3).abs()),
+                _ => (0.3, angle, (angle + 0.3) - FRAC_PI_2),
+            };
+            vec![0.5, dec, 1.25, 0.75, lat, alt]
+        }
         _ => return None,
     })
 }

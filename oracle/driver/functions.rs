@@ -7,6 +7,7 @@ use routed::library::{first_refusal, forget, last_sine};
 use routed::{aberr, coords, nutation, parallax, precess};
 use table::Sort::{self, *};
 use table::first_of;
+use transit;
 use written;
 
 /// What a function must answer to arguments that 1 to 5 do not refuse.
@@ -296,5 +297,7 @@ pub fn all() -> Vec<Function> {
             expected: published_chain_in,
             own: own_published_chain,
         },
+        function!(rule brundelak_rise_culm_set [Angle, Steep, Angle, Angle, Steep, Latitude] (1, 3, 4, 15, 16)
+            |a| transit::by_rules(a), transit::by_library(a)),
     ]
 }

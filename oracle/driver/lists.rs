@@ -295,12 +295,12 @@ fn compare_batch(
 
 /// A status counted in counts of which some are full or nearly so.
 fn compare_raise(r: &mut Random, count: &mut Count) {
-    let status = if r.below(4) == 0 { r.bits() as u8 } else { r.below(16) as u8 };
+    let status = if r.below(4) == 0 { r.bits() as u8 } else { r.below(20) as u8 };
     let mut want = [0xA5A5A5A5u32; 22];
     want[1..21].iter_mut().for_each(|c| *c = [0, 59999, 60000, r.below(60000) as u32][r.below(4)]);
     let mut got = want;
     let place = 1 + status as usize;
-    let expected = if status > 14 { 9 } else if want[place] >= 60000 { 8 } else { 0 };
+    let expected = if status > 16 { 9 } else if want[place] >= 60000 { 8 } else { 0 };
     if expected == 0 {
         want[place] += 1;
     }

@@ -14,6 +14,7 @@ mod port;
 mod published;
 mod radio;
 mod table;
+mod transit;
 mod written;
 
 use functions::{Function, Outcome};
@@ -145,7 +146,9 @@ fn compare(n: u64) -> bool {
             }
         }
         println!("{}", count.line(f.name));
-        if count.by[0] * 3 < count.calls || f.meets.iter().any(|&n| count.by[n as usize] == 0) {
+        // 15 and 16 say of a sight as much as an answer.
+        let told = count.by[0] + count.by[15] + count.by[16];
+        if told * 3 < count.calls || f.meets.iter().any(|&n| count.by[n as usize] == 0) {
             println!("{}: too few answers, or a refusal that was never met", f.name);
             return false;
         }

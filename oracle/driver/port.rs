@@ -65,4 +65,5 @@ exported! {
     brundelak_precess_eq_coords_fk5_published(x, y, z, u)(a, b);
     brundelak_topopcent_ecl_coords_published(x, y, z, u, v, w, t, s, r)(a, b, c);
     brundelak_chain_published(x, y, z, u)(a, b);
+    brundelak_rise_culm_set(x, y, z, u, v, w)(a, b, c);
 }

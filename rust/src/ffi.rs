@@ -60,6 +60,7 @@ boundary! {
     brundelak_topocent_eq_coords topocent_eq_coords(asc, dec, parallax, long, lat, height, sidereal) -> (a, b);
     brundelak_topopcent_ecl_coords topopcent_ecl_coords(long, lat, parallax, place_long, place_lat, height, sidereal, oblq, semidiameter)
         -> (a, b, c);
+    brundelak_rise_culm_set rise_culm_set(asc, dec, sidereal, long, lat, alt) -> (a, b, c);
     brundelak_chain chain(asc, dec, day1, day2) -> (a, b);
     brundelak_dec_frm_hz_published dec_frm_hz_published(az, alt, lat) -> (a);
     brundelak_precess_eq_coords_published precess_eq_coords_published(asc, dec, day1, day2) -> (a, b);

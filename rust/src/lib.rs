@@ -36,6 +36,7 @@ pub mod parallax;
 pub mod precess;
 pub mod radio;
 pub mod time;
+pub mod transit;
 
 pub use edition::Edition;
 pub use refusal::Refusal;

@@ -35,6 +35,10 @@ pub enum Refusal {
     End,
     /// 14: both arguments of an arctangent are zero: there is no direction.
     NoDirection,
+    /// 15: the star never rises: it stays below the standard altitude.
+    NeverRises,
+    /// 16: the star never sets: it stays above the standard altitude.
+    NeverSets,
     /// A number that this version has no name for.
     Other(u8),
 }
@@ -58,6 +62,8 @@ impl Refusal {
             12 => Refusal::Spelling,
             13 => Refusal::End,
             14 => Refusal::NoDirection,
+            15 => Refusal::NeverRises,
+            16 => Refusal::NeverSets,
             n => Refusal::Other(n),
         })
     }
@@ -79,6 +85,8 @@ impl Refusal {
             Refusal::Spelling => 12,
             Refusal::End => 13,
             Refusal::NoDirection => 14,
+            Refusal::NeverRises => 15,
+            Refusal::NeverSets => 16,
             Refusal::Other(n) => n,
         }
     }
@@ -101,6 +109,8 @@ impl fmt::Display for Refusal {
             Refusal::Spelling => "a number of a radio list is not in its shortest length or above 32 bits",
             Refusal::End => "a radio list is cut short, an empty one too, or has bytes over",
             Refusal::NoDirection => "there is no direction: both arguments of an arctangent are zero",
+            Refusal::NeverRises => "the star never rises: it stays below the standard altitude",
+            Refusal::NeverSets => "the star never sets: it stays above the standard altitude",
             Refusal::Other(_) => "the call was refused",
         };
         write!(f, "refused by {}: {}", self.number(), why)

@@ -210,7 +210,7 @@ fn a_batch_is_the_chain_at_each_star() {
 fn a_tally_counts_known_statuses() {
     let once = batch::tally_raise([0; 20], 9).unwrap();
     assert_eq!((once[9], once.iter().sum::<u32>()), (1, 1));
-    assert_eq!(batch::tally_raise(once, 14).map(|t| (t[9], t[14])), Ok((1, 1)));
-    assert_eq!(batch::tally_raise(once, 15), Err(Refusal::Record));
+    assert_eq!(batch::tally_raise(once, 16).map(|t| (t[9], t[16])), Ok((1, 1)));
+    assert_eq!(batch::tally_raise(once, 17), Err(Refusal::Record));
     assert_eq!(batch::tally_raise([60000; 20], 0), Err(Refusal::List));
 }

@@ -1,9 +1,10 @@
-// What depends on the observer: parallax.
+// What depends on the observer: parallax; rise, culmination and set.
 ghost use Rattle.brundelak_handed.specs.rules.Boundary.{Told, ToldTwo, ToldThree, numberOfRadians, numbersOfPoint};
 ghost use Rattle.edition.specs.declared.Edition.the-variants.{Crate};
 ghost use Rattle.parallax.specs.rules.Horizontal.{eqHzParallaxRule};
 ghost use Rattle.parallax.specs.rules.Equatorial.{topocentEqCoordsRule};
 ghost use Rattle.parallax_ecl.specs.rules.Ecliptic.{topopcentEclCoordsRule};
+ghost use Rattle.transit.specs.rules.RiseCulmSet.{riseCulmSetRule};
 use brundelak_handed::give_point;
 use brundelak_handed::give_radians;
 use brundelak_handed::give_three;
@@ -90,5 +91,36 @@ pub extern "C" fn brundelak_topopcent_ecl_coords(
         first,
         second,
         third,
+    )
+}
+
+// Rise, culmination and set as fractions of a day. Refusals: 1; 3; 4; 15; 16.
+#[no_mangle]
+pub extern "C" fn brundelak_rise_culm_set(
+    asc: f64,
+    dec: f64,
+    sidereal: f64,
+    long: f64,
+    lat: f64,
+    alt: f64,
+    rise: &mut f64,
+    culmination: &mut f64,
+    set: &mut f64,
+) -> u8
+    ensures { λ n. ⌜ ToldThree (riseCulmSetRule (record { asc = asc; dec = dec }) (record { 0 = sidereal }) (record { long = long; lat = lat }) (record { 0 = alt })) n (now (rise .entry)) (now (culmination .entry)) (now (set .entry)) (now (rise .exit)) (now (culmination .exit)) (now (set .exit)) ⌝ }
+{
+    give_three(
+        transit::rise_culm_set(
+            EqPoint { asc: asc, dec: dec },
+            Rad(sidereal),
+            GeographPoint {
+                long: long,
+                lat: lat,
+            },
+            Rad(alt),
+        ),
+        rise,
+        culmination,
+        set,
     )
 }

@@ -19,10 +19,12 @@ pub mod Rows1To12
 pub mod Rows13To24
 pub mod Rows25To36
 pub mod StarAberration
+pub mod Arcsine
 pub mod Horizontal
 pub mod Observer
 pub mod TopocentEq
 pub mod TopopcentEcl
+pub mod Transit
 pub mod Chain
 pub mod Star
 pub mod Fourteen

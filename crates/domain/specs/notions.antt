@@ -4,4 +4,5 @@ pub mod Answers
 pub mod Turns
 pub mod Nutation
 pub mod Aberration
+pub mod Transit
 pub mod Wrong

@@ -24,8 +24,8 @@ fn remainder(x: f64, full: f64) -> f64
     x % full
 }
 
-// The remainder, plus a full turn where it is below zero.
-fn limited(x: f64, full: f64) -> f64
+// The remainder, plus a full turn where it is below zero. Every fold into a turn is this one, and so is that of days into one.
+pub fn limited(x: f64, full: f64) -> f64
     ensures { λ r. ⌜ r ≡ limited x full ⌝ }
 {
     let r = remainder(x, full);

@@ -4,7 +4,7 @@ ghost use mathlib.Core.Path.{_≡_};
 ghost use Rattle.list_tally.specs.rules.Tally.{empty, raiseRule};
 
 // The highest known status: 0, or a number of the table of refusals.
-pub const HIGHEST_STATUS: u8 = 14;
+pub const HIGHEST_STATUS: u8 = 16;
 
 // A count, at most.
 pub const FULLEST: u32 = 60000;

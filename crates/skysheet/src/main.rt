@@ -133,6 +133,30 @@ fn horizon_and_galaxy() {
     radians(coords_gal::gal_lat_frm_eq(deg(267.2489166666667), deg(-14.718944444444444)));
 }
 
+// Venus at Boston: rise, culmination and set before interpolation, a line each.
+fn venus_at_boston() {
+    let times = transit::rise_culm_set(
+        EqPoint {
+            asc: deg(41.73129).0,
+            dec: deg(18.44092).0,
+        },
+        deg(177.74208),
+        GeographPoint {
+            long: deg(71.0833).0,
+            lat: deg(42.3333).0,
+        },
+        deg(-0.5667),
+    );
+    match times {
+        Three::Are(rise, culmination, set) => {
+            one(One::Is(rise));
+            one(One::Is(culmination));
+            one(One::Is(set));
+        }
+        Three::Refused(n) => refusal(n),
+    }
+}
+
 // Polaris on a day: its place of J2000, 2h31m48.704s and 89d15'50.72", is moved by its yearly rates first.
 fn polaris(day: f64) {
     let years = (day - J2000) / 365.25;
@@ -261,6 +285,7 @@ fn main() {
     limits();
     earth_and_ecliptic();
     horizon_and_galaxy();
+    venus_at_boston();
     precessions();
     reductions();
     parallaxes();

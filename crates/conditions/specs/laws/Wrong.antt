@@ -2,7 +2,8 @@
 use mathlib.Core.Path.{_≡_, refl}
 use mathlib.Core.Bool.{false}
 use std.Logic.{_≢_}
-use Rattle.double.specs.rules.Operations.{bits, zero, _⊖_}
+use lib.Ieee.{Float, neg}
+use Rattle.double.specs.rules.Operations.{bits, zero, half, _⊖_}
 use Rattle.double.specs.rules.Sign.{bearsMinus, size}
 use Rattle.double.specs.rules.Order.{_≼_, NonZero}
 use Rattle.double.specs.notions.Stated.{minusZero}
@@ -10,11 +11,14 @@ use Rattle.double.specs.laws.Apart.{apart}
 use Rattle.quantity.specs.declared.Rad.{Rad}
 use Rattle.quantity.specs.rules.Angle.{rad, PI, HALF, QUARTER, opposite}
 use Rattle.quantity.specs.rules.Answer.{answered, with}
-use Rattle.quantity.specs.notions.Code.{ofFloat, ofRad, ofAnswer}
+use Rattle.quantity.specs.notions.Code.{ofFloat, ofRad, ofTriple, ofAnswer}
 use Rattle.quantity.specs.notions.Stated.{r0, r½, r1}
 use Rattle.elementary_arc.specs.notions.Computed.{computed}
 use Rattle.coords.specs.rules.Horizon.{southward, azimuthIn, azFrmEqRule, altitudeIn, altFrmEqRule}
 use Rattle.coords_ecl.specs.rules.Ecliptic.{eclLongSum, eclLatIn, eclLatFrmEqRule}
+use Rattle.transit.specs.rules.RiseCulmSet.{riseCulmSetRule}
+use Rattle.transit.specs.notions.Stated.{northOfIt}
+use Rattle.transit.specs.notions.Computed as transit
 
 abbrev m0 : Rad
 m0 = rad minusZero
@@ -59,3 +63,11 @@ altitude-within-less-than-a-quarter-turn-excluded wrong = wrong r0 r0 r0 (rad HA
 pub latitude-mirror-of-a-zero-sum-excluded : ¬ ((a d e : Rad) → NonZero (eclLongSum a d e) → eclLatFrmEqRule (opposite a) (opposite d) e ≡ with opposite (eclLatFrmEqRule a d e))
 unfolding computed eclLatIn
 latitude-mirror-of-a-zero-sum-excluded wrong = apart (ofAnswer ofRad) refl (wrong r½ r0 r0 tt)
+
+-- ---- rise, culmination and set
+
+-- a star at right ascension 0, seen from latitude 1.0
+pub rise-with-declination-alone-negated-excluded : ¬ ((dec : Float) → riseCulmSetRule (record { asc = zero; dec = neg dec }) r0 northOfIt r0
+    ≡ riseCulmSetRule (record { asc = zero; dec = dec }) r0 northOfIt r0)
+unfolding transit.computed
+rise-with-declination-alone-negated-excluded wrong = apart (ofAnswer ofTriple) refl (wrong half)

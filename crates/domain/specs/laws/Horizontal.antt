@@ -1,15 +1,11 @@
 -- The equatorial horizontal parallax of a distance that is not refused is answered: the arcsine never meets 7. Assumes nothing.
 use Prim.Native.Nat.{ℕ}
 use mathlib.Core.Path.{_≡_}
-use lib.Dec.{T-not}
 use lib.Ieee.{Float, binary64, neg, add, sub, mul, div, le, lt, ofBits, ofInt, toUnsigned}
 use Rattle.double.specs.rules.Operations.{one, _⊘_}
 use Rattle.double.specs.rules.Sign.{bearsMinus, size, isFinite}
 use Rattle.double.specs.rules.Order.{_≼_, Finite, Between}
 use Rattle.double.specs.notions.Range.{known, con, _⧄_}
-use Rattle.double.specs.laws.Sign.{finite-size}
-use Rattle.double.specs.laws.Order.{not-lt-of-le}
-use Rattle.double.specs.laws.Between.{between→size}
 use Rattle.double.specs.laws.Interval.{bounded}
 use Rattle.quantity.specs.rules.Angle.{deg, HALF}
 use Rattle.quantity.specs.rules.Answer.{answered, refused}
@@ -18,14 +14,13 @@ use Rattle.quantity.specs.declared.Rad.{Rad}
 use Rattle.elementary.specs.rules.Fold.{fold}
 use Rattle.elementary.specs.rules.Sine.{foldedSine, farthestAlone}
 use Rattle.elementary.specs.laws.Accepted.{distance-accepted}
-use Rattle.elementary_arc.specs.laws.Arcsine.{arcsine-refuses-seven}
 use Rattle.helpers.specs.rules.Angle.{arc, radiansOf}
 use Rattle.parallax.specs.rules.Numbers.{n8·794}
 use Rattle.parallax.specs.rules.Horizontal.{sunParallax, eqHzParallaxIn, eqHzParallaxRule}
 use Rattle.domain_accepted.specs.notions.Outcome.{Outcome, Never}
 use Rattle.domain_accepted.specs.laws.Outcome.{rule-answers, rule-refuses}
-use Rattle.domain_accepted.specs.laws.Elementary.{arcsine-outcome}
 use Rattle.domain_accepted.specs.notions.Within.{Angle}
+use Rattle.domain.specs.laws.Arcsine.{arcsine-within-one}
 
 -- 8.794 seconds go into a sine
 pub sun-parallax-far : size (radiansOf (deg (arc n8·794)) .0) ≼ farthestAlone
@@ -40,14 +35,7 @@ module _ (dist : Float) where
 
   outcome : distanceRefusal dist ≡ 0 → Outcome (Angle (Between (neg HALF) HALF)) Never (eqHzParallaxIn dist)
   unfolding eqHzParallaxIn
-  outcome none =
-      let s = sunParallax ⊘ dist in
-      let i = ratio-between none in
-      let small : size s ≼ one = between→size one s i in
-      record {
-        answers = arcsine-outcome {Q = λ (n : ℕ). Unit {0}} tt s (i .finite) .answers;
-        refuses = λ n e. T-not (lt one (size s)) (not-lt-of-le (size s) one (rw (finite-size s) (i .finite)) (unfold isFinite ofBits in tt) small) (arcsine-refuses-seven s (i .finite) n e .1);
-      }
+  outcome none = arcsine-within-one (sunParallax ⊘ dist) (ratio-between none)
 
   pub eq-hz-parallax-answers : (v : Rad) → eqHzParallaxRule dist ≡ answered v → Between (neg HALF) HALF (v .0)
   eq-hz-parallax-answers = rule-answers (distanceRefusal dist) (eqHzParallaxIn dist) outcome

@@ -1,8 +1,8 @@
--- Folded into one turn, an angle lies from 0 to a full turn. Assumes nothing.
+-- Folded into one turn, an angle lies from 0 to a full turn, and days folded into one from 0 to 1. Assumes nothing.
 use lib.Dec.{T}
 use lib.Ieee.{Float, binary64, neg, add, le, lt, fits, ofBits}
 use lib.Ieee.Positive.{positive}
-use Rattle.double.specs.rules.Operations.{zero, _⊕_}
+use Rattle.double.specs.rules.Operations.{zero, one, _⊕_}
 use Rattle.double.specs.rules.Sign.{isFinite}
 use Rattle.double.specs.rules.Order.{Finite, Between}
 use Rattle.double.specs.notions.Range.{known, con, _⊞_}
@@ -31,3 +31,7 @@ limited-degrees x q = limited-from x turnInDegrees tt tt tt q (λ i. bounded bin
 pub limited-radians : (x : Float) → Finite x → Between zero turnInRadians (limited x turnInRadians)
 unfolding isFinite fits le neg add ofBits
 limited-radians x q = limited-from x turnInRadians tt tt tt q (λ i. bounded binary64 zero turnInRadians (known i ⊞ con turnInRadians) tt)
+
+pub limited-days : (x : Float) → Finite x → Between zero one (limited x one)
+unfolding isFinite fits le neg add ofBits
+limited-days x q = limited-from x one tt tt tt q (λ i. bounded binary64 zero one (known i ⊞ con one) tt)

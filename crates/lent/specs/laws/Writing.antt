@@ -71,6 +71,10 @@ module _ {A : Type 0} where
   pub kept : {old t new : List A} {at n : ℕ} → Wrote old at t new n → length new ≡ length old
   kept {old} {t} {new} {at} w = ap length (w .text) ∙ length-written old at t
 
+  -- the place after a text lies in the slice
+  pub inside : {old t new : List A} {at n : ℕ} → Wrote old at t new n → n ≤ length new
+  inside w = omega (arith, w .place, kept w)
+
   -- a text that has room
   pub whole : (old : List A) (at : ℕ) (t : List A) → at + length t ≤ length old
       → written old at t ≡ take at old ++ t ++ drop (at + length t) old

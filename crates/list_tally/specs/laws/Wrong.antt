@@ -1,13 +1,14 @@
 -- Wrong variants are excluded: each differs from the rule at the input stated. Assumes nothing.
-use Prim.Native.Nat.{ℕ}
+use Prim.Native.Nat.{ℕ, _+_}
 use mathlib.Core.Path.{refl}
 use std.Logic.{_≢_}
 use lib.ListN.{getD}
 use Rattle.double.specs.laws.Apart.{apart}
 use Rattle.list_tally.specs.declared.Tally.{Tally}
 use Rattle.list_tally.specs.declared.Raised.{Raised}
+use Rattle.list_tally.specs.rules.Status.{highestStatus}
 use Rattle.list_tally.specs.rules.Tally.{fullest, raiseRefusal, raiseRule, tallyOf, empty}
-use Rattle.list_tally.specs.notions.Wrong.{each, countsStartAtOne, eightBeforeNine, fourteenUnknown, fifteenKnown, raisedByTwo}
+use Rattle.list_tally.specs.notions.Wrong.{each, countsStartAtOne, eightBeforeNine, highestUnknown, nextKnown, raisedByTwo}
 
 -- the count of the status 0
 abbrev first : Tally → ℕ
@@ -20,17 +21,17 @@ pub counts-start-at-one-excluded : countsStartAtOne ≢ empty
 unfolding tallyOf
 counts-start-at-one-excluded = apart first refl
 
-pub eight-before-nine-excluded : eightBeforeNine (each fullest) 15 ≢ raiseRule (each fullest) 15
+pub eight-before-nine-excluded : eightBeforeNine (each fullest) (highestStatus + 1) ≢ raiseRule (each fullest) (highestStatus + 1)
 unfolding raiseRule raiseRefusal
 eight-before-nine-excluded = apart refusal refl
 
-pub fourteen-unknown-excluded : fourteenUnknown empty 14 ≢ raiseRule empty 14
+pub highest-unknown-excluded : highestUnknown empty highestStatus ≢ raiseRule empty highestStatus
 unfolding raiseRule raiseRefusal tallyOf
-fourteen-unknown-excluded = apart refusal refl
+highest-unknown-excluded = apart refusal refl
 
-pub fifteen-known-excluded : fifteenKnown empty 15 ≢ raiseRule empty 15
+pub next-known-excluded : nextKnown empty (highestStatus + 1) ≢ raiseRule empty (highestStatus + 1)
 unfolding raiseRule raiseRefusal tallyOf
-fifteen-known-excluded = apart refusal refl
+next-known-excluded = apart refusal refl
 
 pub raised-by-two-excluded : raisedByTwo empty 0 ≢ raiseRule empty 0
 unfolding raiseRule raiseRefusal tallyOf

@@ -28,12 +28,12 @@ eightBeforeNine =
     refusing (λ (t : Tally) (status : ℕ). cond (ltb (getD (t .counts) status 0) fullest) (cond (leb status highestStatus) 0 9) 8)
 
 -- one known status fewer
-abbrev pub fourteenUnknown : Tally → ℕ → Raised
-fourteenUnknown = refusing (λ (t : Tally) (status : ℕ). cond (leb status 13) (raiseRefusal t status) 9)
+abbrev pub highestUnknown : Tally → ℕ → Raised
+highestUnknown = refusing (λ (t : Tally) (status : ℕ). cond (ltb status highestStatus) (raiseRefusal t status) 9)
 
 -- one more
-abbrev pub fifteenKnown : Tally → ℕ → Raised
-fifteenKnown = refusing (λ (t : Tally) (status : ℕ). cond (leb status 15) (cond (ltb (getD (t .counts) status 0) fullest) 0 8) 9)
+abbrev pub nextKnown : Tally → ℕ → Raised
+nextKnown = refusing (λ (t : Tally) (status : ℕ). cond (leb status (highestStatus + 1)) (cond (ltb (getD (t .counts) status 0) fullest) 0 8) 9)
 
 abbrev pub raisedByTwo : Tally → ℕ → Raised
 raisedByTwo t status =

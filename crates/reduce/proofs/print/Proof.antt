@@ -1,20 +1,11 @@
 -- `reduce::print` meets its contract: what is printed are bytes of the report's slice. Assumes nothing.
 use borrow.Author.Needs.{needs}
 use mathlib.Core.Path.{sym}
-use mathlib.Core.List.{List}
-use Prim.Native.Nat.{ℕ, _≤_}
-use native.Mathlib.Omega.{arith}
-use lib.ListN.{length}
 use lib.Seq.{length-take-le}
 use Rattle.double.specs.laws.Calls.{asks-nothing}
-use Rattle.lent.specs.rules.Writing.{Wrote}
-use Rattle.lent.specs.laws.Writing.{kept}
+use Rattle.lent.specs.laws.Writing.{inside}
 use Rattle.reduce.proofs.print.Statement.{statement}
 use Rattle.reduce.proofs.print.Tie as tie
-
--- the place after a text lies in the slice
-inside : {old t new : List ℕ} {at n : ℕ} → Wrote old at t new n → n ≤ length new
-inside w = omega (arith, w .place, kept w)
 
 slice-aggregate-read-full : tie.Need-slice-aggregate-read-full
 slice-aggregate-read-full c = search needs

@@ -18,8 +18,14 @@ space = code " "
 abbrev pub minusSign : ℕ
 minusSign = code "-"
 
+abbrev pub plusSign : ℕ
+plusSign = code "+"
+
 abbrev pub point : ℕ
 point = code "."
+
+abbrev pub colon : ℕ
+colon = code ":"
 
 -- the digits stand one after the other, and so do the letters
 abbrev pub digit0 : ℕ

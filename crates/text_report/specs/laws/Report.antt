@@ -18,7 +18,7 @@ use Rattle.text_number.specs.rules.Refused.{refusedText}
 use Rattle.text_report.specs.rules.Report.{texts, lentLine, tallyText, editionText, doneText, starText, starsText, reportOf}
 
 -- texts that agree below their number
-texts-same : (n : ℕ) (f g : ℕ → List ℕ) → ((i : ℕ) → i < n → f i ≡ g i) → texts n f ≡ texts n g
+pub texts-same : (n : ℕ) (f g : ℕ → List ℕ) → ((i : ℕ) → i < n → f i ≡ g i) → texts n f ≡ texts n g
 texts-same zero f g h = refl
 texts-same (suc n) f g h =
     ap (λ (t : List ℕ). t ++ f n) (texts-same n f g (λ (i : ℕ) (k : i < n). h i (omega arith)))

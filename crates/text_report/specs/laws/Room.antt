@@ -24,7 +24,7 @@ use Rattle.text_report.specs.rules.Report.{tallyWord, texts, countText, 
 
 -- ---- texts
 
-texts-short : (k n : ℕ) (f : ℕ → List ℕ) → ((i : ℕ) → length (f i) ≤ k) → length (texts n f) ≤ k * n
+pub texts-short : (k n : ℕ) (f : ℕ → List ℕ) → ((i : ℕ) → length (f i) ≤ k) → length (texts n f) ≤ k * n
 texts-short k zero f h = omega arith
 texts-short k (suc n) f h = omega (arith, length-append (texts n f) (f n), texts-short k n f h, h n)
 

@@ -1,0 +1,85 @@
+// Prints the plan of the star list that stands on standard input. Arguments: the day of its places and the night's at 0h; then, in degrees,
+// the sidereal time at Greenwich there, the observer's longitude, west positive, and latitude, and the standard altitude.
+use quantity::Deg;
+use text_day::Day;
+use text_degrees::Written;
+
+// The day that argument i says. A missing one, and one of more than 64 bytes, is none.
+fn day_of(i: usize) -> Day {
+    let mut text = [0u8; 64];
+    let n = os::arg(i, &mut text);
+    if os::errno() != 0 {
+        return Day::Unclear;
+    }
+    text_day::read(&text[..n])
+}
+
+// The angle that argument i says, likewise.
+fn degrees_of(i: usize) -> Written {
+    let mut text = [0u8; 64];
+    let n = os::arg(i, &mut text);
+    if os::errno() != 0 {
+        return Written::Unclear;
+    }
+    text_degrees::read(&text[..n])
+}
+
+// Says which argument is not a day.
+fn no_day(name: &[u8]) {
+    io::write_all(2, name);
+    io::write_all(
+        2,
+        b": a day is digits with at most one point, no more than 2^53 without it\n",
+    );
+}
+
+// Says which argument is not an angle.
+fn no_angle(name: &[u8]) {
+    io::write_all(2, name);
+    io::write_all(
+        2,
+        b": degrees are digits with at most one point, no more than 2^53 without it, and a sign where wanted\n",
+    );
+}
+
+// The plan of the list.
+fn print(day1: f64, day2: f64, sidereal: Deg, long: Deg, lat: Deg, alt: Deg) {
+    let mut input = [0u8; list::READ];
+    let n = io::read_full(0, &mut input);
+    let mut out = [0u8; text_plan::ROOM];
+    let k = text_plan::put_plan(&mut out, &input[..n], day1, day2, sidereal, long, lat, alt);
+    io::write_all(1, &out[..k]);
+}
+
+// With both days read.
+fn on_days(day1: f64, day2: f64) {
+    let Written::Are(sidereal) = degrees_of(3) else {
+        no_angle(b"SIDEREAL");
+        return;
+    };
+    let Written::Are(long) = degrees_of(4) else {
+        no_angle(b"LONGITUDE");
+        return;
+    };
+    let Written::Are(lat) = degrees_of(5) else {
+        no_angle(b"LATITUDE");
+        return;
+    };
+    let Written::Are(alt) = degrees_of(6) else {
+        no_angle(b"ALTITUDE");
+        return;
+    };
+    print(day1, day2, sidereal, long, lat, alt);
+}
+
+fn main() {
+    let Day::Is(day1) = day_of(1) else {
+        no_day(b"JD1");
+        return;
+    };
+    let Day::Is(day2) = day_of(2) else {
+        no_day(b"JD2");
+        return;
+    };
+    on_days(day1, day2);
+}

@@ -1,0 +1,18 @@
+-- Wrong variants of the reading of an angle.
+use Prim.Native.Nat.{ℕ}
+use mathlib.Core.Bool.{false, cond}
+use mathlib.Core.List.{List, [], _∷_}
+use lib.Dec.{eqb}
+use Rattle.text_number.specs.rules.Bytes.{minusSign}
+use Rattle.text_day.specs.rules.Day.{dayRule}
+use Rattle.text_degrees.specs.rules.Degrees.{Angle, unclear, signed, degreesRule}
+
+-- passed over
+abbrev pub minusLost : List ℕ → Angle
+minusLost [] = unclear
+minusLost (b ∷ text) = cond (eqb b minusSign) (signed false (dayRule text)) (degreesRule (b ∷ text))
+
+-- one sign after the other
+abbrev pub twoSigns : List ℕ → Angle
+twoSigns [] = unclear
+twoSigns (b ∷ text) = cond (eqb b minusSign) (degreesRule text) (degreesRule (b ∷ text))

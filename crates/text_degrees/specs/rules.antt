@@ -1,0 +1,2 @@
+-- What a reader must believe of an angle in decimal degrees. Definitions only.
+pub mod Degrees

@@ -1,0 +1,6 @@
+-- What is proved of a star's line, for callers to cite. Theorems only.
+pub mod Constants
+pub mod Seconds
+pub mod Clock
+pub mod Room
+pub mod Wrong

@@ -1,0 +1,59 @@
+-- A time up to the end of a day has eight bytes, two digits to each part; and what the parts say is the seconds. Assumes nothing.
+use Prim.Native.Nat.{ℕ, suc, _+_, _*_, _/_, _%_, _≤_, _<_}
+use mathlib.Core.Path.{_≡_, refl}
+use mathlib.Core.Bool.{Bool, true, false, cond}
+use mathlib.Core.List.{[], _∷_, _++_}
+use native.Mathlib.Omega.{arith}
+use lib.Dec.{ltb}
+use lib.ListN.{length, length-append}
+use lib.Ieee.{Float}
+use borrow.Author.Tests.{lt-ltb, ltb-false}
+use Rattle.double.specs.rules.Operations.{zero, one}
+use Rattle.double.specs.rules.Order.{Between}
+use Rattle.text_number.specs.rules.Bytes.{ascii, colon, digit0}
+use Rattle.text_number.specs.rules.Number.{decimalIn}
+use Rattle.text_time.specs.rules.Time.{twoDigits, clockText, timeText, secondsOf}
+use Rattle.text_time.specs.notions.Computed.{computed}
+use Rattle.text_time.specs.laws.Seconds.{seconds-at-most}
+
+-- a number below 10 has one digit
+one-digit : (f n : ℕ) → n < 10 → length (decimalIn (suc f) n) ≡ 1
+unfolding decimalIn
+one-digit f n h = rw (lt-ltb n 10 h)
+
+pub two-digits : (n : ℕ) → n < 100 → length (twoDigits n) ≡ 2
+unfolding twoDigits decimalIn
+two-digits n h = by-case (ltb n 10) refl
+  where
+    by-case : (b : Bool) → ltb n 10 ≡ b
+        → length (cond b (digit0 ∷ cond b ((digit0 + n) ∷ []) (decimalIn 19 (n / 10) ++ ((digit0 + n % 10) ∷ [])))
+        (cond b ((digit0 + n) ∷ []) (decimalIn 19 (n / 10) ++ ((digit0 + n % 10) ∷ [])))) ≡ 2
+    by-case true e = refl
+    by-case false e =
+        omega (arith, length-append (decimalIn 19 (n / 10)) ((digit0 + n % 10) ∷ []), one-digit 18 (n / 10) (omega arith), ltb-false n 10 e)
+
+pub clock-eight-bytes : (n : ℕ) → n ≤ 86400 → length (clockText n) ≡ 8
+unfolding clockText
+clock-eight-bytes n h =
+    let s = twoDigits (n % 60) in
+    let m = twoDigits (n / 60 % 60) in
+    omega (
+      arith,
+      length-append (twoDigits (n / 3600)) (colon ∷ (m ++ (colon ∷ s))),
+      length-append m (colon ∷ s),
+      two-digits (n / 3600) (omega arith),
+      two-digits (n / 60 % 60) (omega arith),
+      two-digits (n % 60) (omega arith),
+    )
+
+pub time-eight-bytes : (x : Float) → Between zero one x → length (timeText x) ≡ 8
+time-eight-bytes x day = clock-eight-bytes (secondsOf x) (seconds-at-most x day)
+
+-- hours, minutes and seconds
+pub clock-says-seconds : (n : ℕ) → n / 3600 * 3600 + n / 60 % 60 * 60 + n % 60 ≡ n
+clock-says-seconds n = omega arith
+
+-- the end of the day
+pub end-of-day : timeText one ≡ ascii "24:00:00"
+unfolding computed
+end-of-day = refl

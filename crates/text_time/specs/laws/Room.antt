@@ -1,0 +1,64 @@
+-- How long a star's line is, at most. Assumes nothing.
+use Prim.Native.Nat.{ℕ, _/_, _%_, _≤_}
+use mathlib.Core.Bool.{Bool, true, false, cond}
+use mathlib.Core.List.{[], _∷_, _++_}
+use native.Mathlib.Omega.{arith}
+use lib.Dec.{eqb, ltb}
+use lib.Ieee.{Float}
+use lib.ListN.{length, length-append}
+use Rattle.quantity.specs.rules.Answer.{Answer, answered, refused, Triple, triple}
+use Rattle.text_number.specs.rules.Bytes.{ascii, space, lineEnd, colon, digit0}
+use Rattle.text_number.specs.rules.Number.{decimalText}
+use Rattle.text_number.specs.rules.Refused.{refusedText}
+use Rattle.text_number.specs.laws.Number.{any-decimal-short, refused-short}
+use Rattle.text_time.specs.rules.Time.{secondsOf, twoDigits, clockText}
+use Rattle.text_time.specs.rules.Line.{timeThen, timesText, whyText, outcomeText, planLine}
+use Rattle.text_time.specs.laws.Clock.{two-digits}
+
+any-two-short : (n : ℕ) → length (twoDigits n) ≤ 21
+unfolding twoDigits
+any-two-short n = by-case (ltb n 10)
+  where
+    by-case : (b : Bool) → length (cond b (digit0 ∷ decimalText n) (decimalText n)) ≤ 21
+    by-case true = omega (arith, any-decimal-short n)
+    by-case false = omega (arith, any-decimal-short n)
+
+time-short : (x : Float) (end : ℕ) → length (timeThen x end) ≤ 28
+unfolding timeThen clockText
+time-short x end =
+    let n = secondsOf x in
+    let s = twoDigits (n % 60) in
+    let m = twoDigits (n / 60 % 60) in
+    let h = twoDigits (n / 3600) in
+    omega (
+      arith,
+      length-append (h ++ (colon ∷ (m ++ (colon ∷ s)))) (end ∷ []),
+      length-append h (colon ∷ (m ++ (colon ∷ s))),
+      length-append m (colon ∷ s),
+      any-two-short (n / 3600),
+      two-digits (n / 60 % 60) (omega arith),
+      two-digits (n % 60) (omega arith),
+    )
+
+why-short : (n : ℕ) → length (whyText n) ≤ 29
+unfolding whyText
+why-short n = by-case (eqb n 15) (eqb n 16)
+  where
+    by-case : (a b : Bool) → length (cond a (ascii "never rises\n") (cond b (ascii "never sets\n") (refusedText n))) ≤ 29
+    by-case true b = omega arith
+    by-case false true = omega arith
+    by-case false false = refused-short n
+
+outcome-short : (a : Answer Triple) → length (outcomeText a) ≤ 84
+unfolding timesText
+outcome-short (answered (triple x y z)) =
+    let a = time-short x space in
+    let b = time-short y space in
+    let c = time-short z lineEnd in
+    simp length-append (omega arith)
+outcome-short (refused n) = omega (arith, why-short n)
+
+pub line-short : (number : ℕ) (a : Answer Triple) → length (planLine number a) ≤ 105
+unfolding planLine
+line-short number a =
+    omega (arith, length-append (decimalText number) (space ∷ outcomeText a), any-decimal-short number, outcome-short a)

@@ -1,0 +1,92 @@
+// A star's line of the text that `plan` prints: its number, then its rise, culmination and set in hours, minutes and seconds, or why
+// there are none.
+// Rules: specs/rules, in reading order in specs/rules.antt.
+ghost use mathlib.Core.Path.{_≡_};
+ghost use Rattle.lent.specs.rules.Writing.{Wrote};
+ghost use Rattle.quantity.specs.rules.Answer.{shownThree};
+ghost use Rattle.text_time.specs.rules.Time.{secondsOf, twoDigits, timeText};
+ghost use Rattle.text_time.specs.rules.Line.{timeThen, timesText, whyText, outcomeText, planLine};
+use quantity::Three;
+
+// ---- a time
+
+// The seconds of a fraction of a day, to the nearest one.
+fn seconds_of(x: f64) -> u64
+    ensures { λ r. ⌜ r ≡ secondsOf x ⌝ }
+{
+    double::whole_part(x * 86400.0 + 0.5)
+}
+
+// Each `put_` writes its text from the place on, and answers the place after it. This one: a number of two digits.
+fn put_two(out: &mut [u8], at: usize, n: u64) -> usize
+    ensures { λ r. ⌜ Wrote (now (out .entry)) at (twoDigits n) (now (out .exit)) r ⌝ }
+{
+    if n < 10 {
+        let a = lent::put_byte(out, at, b'0');
+        return text_number::put_decimal(out, a, n);
+    }
+    text_number::put_decimal(out, at, n)
+}
+
+// A fraction of a day in hours, minutes and seconds.
+fn put_time(out: &mut [u8], at: usize, x: f64) -> usize
+    ensures { λ r. ⌜ Wrote (now (out .entry)) at (timeText x) (now (out .exit)) r ⌝ }
+{
+    let n = seconds_of(x);
+    let a = put_two(out, at, n / 3600);
+    let b = lent::put_byte(out, a, b':');
+    let c = put_two(out, b, n / 60 % 60);
+    let d = lent::put_byte(out, c, b':');
+    put_two(out, d, n % 60)
+}
+
+// ---- a star
+
+// A time, and a byte after it.
+fn put_time_then(out: &mut [u8], at: usize, x: f64, end: u8) -> usize
+    ensures { λ r. ⌜ Wrote (now (out .entry)) at (timeThen x end) (now (out .exit)) r ⌝ }
+{
+    let a = put_time(out, at, x);
+    lent::put_byte(out, a, end)
+}
+
+// The three times.
+fn put_times(out: &mut [u8], at: usize, rise: f64, culmination: f64, set: f64) -> usize
+    ensures { λ r. ⌜ Wrote (now (out .entry)) at (timesText rise culmination set) (now (out .exit)) r ⌝ }
+{
+    let a = put_time_then(out, at, rise, b' ');
+    let b = put_time_then(out, a, culmination, b' ');
+    put_time_then(out, b, set, b'\n')
+}
+
+// Why there are none.
+fn put_why(out: &mut [u8], at: usize, n: u8) -> usize
+    ensures { λ r. ⌜ Wrote (now (out .entry)) at (whyText n) (now (out .exit)) r ⌝ }
+{
+    if n == 15 {
+        return lent::put(out, at, b"never rises\n");
+    }
+    if n == 16 {
+        return lent::put(out, at, b"never sets\n");
+    }
+    text_number::put_refused(out, at, n)
+}
+
+// What a star's line says of it.
+fn put_outcome(out: &mut [u8], at: usize, a: Three) -> usize
+    ensures { λ r. ⌜ Wrote (now (out .entry)) at (outcomeText (shownThree a)) (now (out .exit)) r ⌝ }
+{
+    match a {
+        Three::Are(rise, culmination, set) => put_times(out, at, rise, culmination, set),
+        Three::Refused(n) => put_why(out, at, n),
+    }
+}
+
+// A star's line.
+pub fn put_line(out: &mut [u8], at: usize, number: u32, a: Three) -> usize
+    ensures { λ r. ⌜ Wrote (now (out .entry)) at (planLine number (shownThree a)) (now (out .exit)) r ⌝ }
+{
+    let b = text_number::put_decimal(out, at, number as u64);
+    let c = lent::put_byte(out, b, b' ');
+    put_outcome(out, c, a)
+}

@@ -1,0 +1,3 @@
+-- What is proved of rise, culmination and set, for callers to cite. Theorems only.
+pub mod Limits
+pub mod Wrong

@@ -1,0 +1,87 @@
+-- Wrong variants are excluded: each differs from the rule at the input stated. The rule varies: a library that refuses everything, or
+-- answers a constant, does not meet it. Assumes nothing.
+use mathlib.Core.Path.{refl}
+use std.Logic.{_≢_}
+use Rattle.double.specs.rules.Operations.{bits, zero}
+use Rattle.double.specs.laws.Apart.{apart}
+use Rattle.quantity.specs.declared.EqPoint.{EqPoint}
+use Rattle.quantity.specs.declared.GeographPoint.{GeographPoint}
+use Rattle.quantity.specs.rules.Angle.{rad}
+use Rattle.quantity.specs.notions.Code.{ofTriple, ofAnswer, unread}
+use Rattle.quantity.specs.notions.Varies.{Varies}
+use Rattle.quantity.specs.notions.Stated.{r0, r1, origin, northPole}
+use Rattle.transit.specs.rules.RiseCulmSet.{riseCulmSetRule}
+use Rattle.transit.specs.notions.Stated.{equator, westOfIt, northOfIt, zenith, nadir}
+use Rattle.transit.specs.notions.Computed.{computed}
+use Rattle.transit.specs.notions.Wrong.{riseAndSetTraded, foldLeftOut, arcHalved, longitudeTakenAsEast, culminationRegrouped}
+use Rattle.transit.specs.notions.Wrong.{fifteenAndSixteenTraded, limitTakenIn, quotientNotTested}
+use Rattle.transit.specs.notions.Wrong.{arcsineForArccosine, altitudePassedOver, declinationNotSteep}
+
+pub rise-culm-set-varies : Varies (riseCulmSetRule origin r0 westOfIt r0) (riseCulmSetRule origin r0 equator r0)
+unfolding computed
+rise-culm-set-varies = record { here = refl; there = refl; apart = apart (ofAnswer ofTriple) refl }
+
+-- ---- the fractions
+
+pub rise-and-set-traded-excluded : riseAndSetTraded origin r0 equator r0 ≢ riseCulmSetRule origin r0 equator r0
+unfolding computed
+rise-and-set-traded-excluded = apart (ofAnswer ofTriple) refl
+
+pub fold-left-out-excluded : foldLeftOut origin r0 equator r0 ≢ riseCulmSetRule origin r0 equator r0
+unfolding computed
+fold-left-out-excluded = apart (ofAnswer ofTriple) refl
+
+pub arc-halved-excluded : arcHalved origin r0 equator r0 ≢ riseCulmSetRule origin r0 equator r0
+unfolding computed
+arc-halved-excluded = apart (ofAnswer ofTriple) refl
+
+-- ---- the culmination
+
+pub longitude-taken-as-east-excluded : longitudeTakenAsEast origin r0 westOfIt r0 ≢ riseCulmSetRule origin r0 westOfIt r0
+unfolding computed
+longitude-taken-as-east-excluded = apart (ofAnswer ofTriple) refl
+
+-- 0.1, 0.2 and 0.3
+abbrev tenth : EqPoint
+tenth = record { asc = bits 0x3fb999999999999a; dec = zero }
+
+abbrev fifth : GeographPoint
+fifth = record { long = bits 0x3fc999999999999a; lat = zero }
+
+pub culmination-regrouped-excluded : culminationRegrouped tenth (rad (bits 0x3fd3333333333333)) fifth r0
+    ≢ riseCulmSetRule tenth (rad (bits 0x3fd3333333333333)) fifth r0
+unfolding computed
+culmination-regrouped-excluded = apart (ofAnswer ofTriple) refl
+
+-- ---- the arc
+
+pub fifteen-and-sixteen-traded-excluded : fifteenAndSixteenTraded origin r0 northOfIt r1 ≢ riseCulmSetRule origin r0 northOfIt r1
+unfolding computed
+fifteen-and-sixteen-traded-excluded = apart (ofAnswer unread) refl
+
+pub quotient-not-tested-excluded : quotientNotTested origin r0 northOfIt r1 ≢ riseCulmSetRule origin r0 northOfIt r1
+unfolding computed
+quotient-not-tested-excluded = apart (ofAnswer unread) refl
+
+-- a quotient of exactly 1, and of exactly −1
+pub limit-of-fifteen-taken-in-excluded : limitTakenIn origin r0 equator zenith ≢ riseCulmSetRule origin r0 equator zenith
+unfolding computed
+limit-of-fifteen-taken-in-excluded = apart (ofAnswer unread) refl
+
+pub limit-of-sixteen-taken-in-excluded : limitTakenIn origin r0 equator nadir ≢ riseCulmSetRule origin r0 equator nadir
+unfolding computed
+limit-of-sixteen-taken-in-excluded = apart (ofAnswer unread) refl
+
+pub arcsine-for-arccosine-excluded : arcsineForArccosine origin r0 equator r0 ≢ riseCulmSetRule origin r0 equator r0
+unfolding computed
+arcsine-for-arccosine-excluded = apart (ofAnswer ofTriple) refl
+
+pub altitude-passed-over-excluded : altitudePassedOver origin r0 equator r1 ≢ riseCulmSetRule origin r0 equator r1
+unfolding computed
+altitude-passed-over-excluded = apart (ofAnswer ofTriple) refl
+
+-- ---- the refusals
+
+pub declination-not-steep-excluded : declinationNotSteep northPole r0 equator r0 ≢ riseCulmSetRule northPole r0 equator r0
+unfolding computed
+declination-not-steep-excluded = apart (ofAnswer unread) refl

@@ -1,0 +1,128 @@
+// Rise, culmination and set (document 02, request (v); Meeus, chapter 15, before interpolation). Angles are in radians, a longitude is
+// positive west of Greenwich, and a time is a fraction of a day.
+// Rules: specs/rules, in reading order in specs/rules.antt.
+ghost use mathlib.Core.Path.{_≡_};
+ghost use Rattle.quantity.specs.rules.Answer.{shownRadians, shownThree};
+ghost use Rattle.transit.specs.rules.Arc.{arcCosine, arcIn};
+ghost use Rattle.transit.specs.rules.RiseCulmSet.{withinADay, culminationOf, fractions, riseCulmSetIn};
+ghost use Rattle.transit.specs.rules.RiseCulmSet.{observerRefusal, riseCulmSetRefusal, riseCulmSetRule};
+use helpers::angle;
+use quantity::EqPoint;
+use quantity::GeographPoint;
+use quantity::HALF;
+use quantity::Rad;
+use quantity::Radians;
+use quantity::Three;
+
+// A full turn, 2·PI.
+const TURN: f64 = 6.283185307179586;
+
+// ---- the arc from rise to culmination, and from there to set
+
+// The arc's cosine, from the declination, the observer's latitude and the standard altitude.
+fn arc_cosine(dec: Rad, lat: Rad, alt: Rad) -> f64
+    ensures { λ r. ⌜ r ≡ arcCosine dec lat alt ⌝ }
+{
+    let h = elementary::fold(alt);
+    let d = elementary::turn_of(dec);
+    let p = elementary::turn_of(lat);
+    (h.sine() - p.sine * d.sine) / (p.cosine * d.cosine)
+}
+
+// The arc from its cosine. Refusals: 15 above 1, where the star never rises; 16 below −1, where it never sets.
+fn arc_in(cosine: f64) -> Radians
+    ensures { λ r. ⌜ shownRadians r ≡ arcIn cosine ⌝ }
+{
+    if 1.0 < cosine {
+        return Radians::Refused(15);
+    }
+    if cosine < -1.0 {
+        return Radians::Refused(16);
+    }
+    quantity::taken_from(Rad(HALF), elementary_arc::arcsine_in(cosine))
+}
+
+// ---- the three fractions
+
+// Days folded into one.
+fn within_a_day(x: f64) -> f64
+    ensures { λ r. ⌜ r ≡ withinADay x ⌝ }
+{
+    angle::limited(x, 1.0)
+}
+
+// The culmination before folding.
+fn culmination_of(asc: Rad, sidereal: Rad, long: Rad) -> f64
+    ensures { λ r. ⌜ r ≡ culminationOf asc sidereal long ⌝ }
+{
+    (asc.0 + long.0 - sidereal.0) / TURN
+}
+
+// Rise, culmination and set, from the culmination before folding and the arc.
+fn fractions(culmination: f64, arc: Rad) -> Three
+    ensures { λ r. ⌜ shownThree r ≡ fractions culmination arc ⌝ }
+{
+    let part = arc.0 / TURN;
+    Three::Are(
+        within_a_day(culmination - part),
+        within_a_day(culmination),
+        within_a_day(culmination + part),
+    )
+}
+
+// Rise, culmination and set of arguments that are not refused.
+fn rise_culm_set_in(p: EqPoint, sidereal: Rad, place: GeographPoint, alt: Rad) -> Three
+    ensures { λ r. ⌜ shownThree r ≡ riseCulmSetIn p sidereal place alt ⌝ }
+{
+    match arc_in(arc_cosine(Rad(p.dec), Rad(place.lat), alt)) {
+        Radians::Are(arc) => fractions(culmination_of(Rad(p.asc), sidereal, Rad(place.long)), arc),
+        Radians::Refused(n) => Three::Refused(n),
+    }
+}
+
+// Refusals of what belongs to the observer and his night: 1; 3; 4.
+pub fn observer_refusal(sidereal: Rad, place: GeographPoint, alt: Rad) -> u8
+    ensures { λ r. ⌜ r ≡ observerRefusal sidereal place alt ⌝ }
+{
+    quantity::lower(
+        quantity::lower(
+            quantity::angle_refusal(Rad(place.long)),
+            quantity::steep_refusal(Rad(place.lat)),
+        ),
+        quantity::lower(
+            quantity::angle_refusal(sidereal),
+            quantity::latitude_refusal(alt),
+        ),
+    )
+}
+
+// Refusals of all arguments: 1; 3; 4.
+fn rise_culm_set_refusal(p: EqPoint, sidereal: Rad, place: GeographPoint, alt: Rad) -> u8
+    ensures { λ r. ⌜ r ≡ riseCulmSetRefusal p sidereal place alt ⌝ }
+{
+    quantity::lower(
+        quantity::lower(
+            quantity::angle_refusal(Rad(p.asc)),
+            quantity::steep_refusal(Rad(p.dec)),
+        ),
+        observer_refusal(sidereal, place, alt),
+    )
+}
+
+// Rise, culmination and set of a star as fractions of a day, in this order. Given: its point, the sidereal time at Greenwich at 0h, the
+// observer's place and the standard altitude. Refusals: 1; 3; 4 past 1.57 for declination and the observer's latitude; then 15 where
+// the star never rises and 16 where it never sets.
+pub fn rise_culm_set(
+    eq_point: EqPoint,
+    greenw_sidr: Rad,
+    geograph_point: GeographPoint,
+    alt: Rad,
+) -> Three
+    ensures { λ r. ⌜ shownThree r ≡ riseCulmSetRule «eq_point» «greenw_sidr» «geograph_point» alt ⌝ }
+{
+    let no = rise_culm_set_refusal(eq_point, greenw_sidr, geograph_point, alt);
+    if no != 0 {
+        return Three::Refused(no);
+    }
+    rise_culm_set_in(eq_point, greenw_sidr, geograph_point, alt)
+}
