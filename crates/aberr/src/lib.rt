@@ -1,10 +1,10 @@
-// Aberration (section 4), of the Sun and of a star. Angles are in radians. The Earth's velocity stands in aberr_velocity.
+// Aberration (section 4), of the Sun and of a star. Angles are in radians. The Earth's velocity stands in aberr_table.
 // Rules: specs/rules, in reading order in specs/rules.antt.
 ghost use mathlib.Core.Path.{_≡_};
 ghost use Rattle.quantity.specs.rules.Answer.{shownTwo, shownRadians};
 ghost use Rattle.aberr.specs.rules.Sun.{solAberrOf, solAberrRule};
 ghost use Rattle.aberr.specs.rules.Star.{aberrAt, stellAberrRefusal, stellAberrInEqCoordsIn, stellAberrInEqCoordsRule};
-use aberr_rows::Velocity;
+use aberr_args::Velocity;
 use elementary::Direction;
 use helpers::angle;
 use quantity::Deg;
@@ -66,7 +66,7 @@ fn stell_aberr_refusal(p: EqPoint, day: f64) -> u8
 fn stell_aberr_in(p: EqPoint, day: f64) -> Shift
     ensures { λ r. ⌜ r ≡ stellAberrInEqCoordsIn p day ⌝ }
 {
-    aberr_at(elementary::toward(p), aberr_velocity::velocity_on(day))
+    aberr_at(elementary::toward(p), aberr_table::velocity_on(day))
 }
 
 // Stellar aberration in right ascension and declination, of a point on a day. Refusals: 1; 2; 3; 4 past 1.57 for declination.

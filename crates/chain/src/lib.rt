@@ -6,7 +6,7 @@ ghost use Rattle.precess.specs.rules.Days.{placeRefusal};
 ghost use Rattle.chain.specs.rules.Obliquity.{meanObliquity, meanObliquityOf, trueObliquity};
 ghost use Rattle.chain.specs.rules.Chain.{pointRefusal, anglesRefusal, chainRule};
 ghost use Rattle.chain.specs.rules.Night.{nightFrom, nightOf, moved, reducedAt, reducedIn};
-use aberr_rows::Velocity;
+use aberr_args::Velocity;
 use edition::Edition;
 use helpers::angle;
 use helpers::time;
@@ -97,7 +97,7 @@ pub fn night_of(edition: Edition, day1: f64, day2: f64) -> Night
         precess::eq_turns(edition, day1, day2),
         n,
         true_obliquity(mean_obliquity_on(day2), in_oblq),
-        aberr_velocity::velocity_on(day2),
+        aberr_table::velocity_on(day2),
     )
 }
 

@@ -12,7 +12,7 @@ use Rattle.quantity.specs.notions.Code.{ofRad, ofAnswer, unread}
 use Rattle.quantity.specs.notions.Stated.{northPole}
 use Rattle.quantity.specs.notions.Varies.{Varies}
 use Rattle.elementary.specs.declared.Direction.{Direction}
-use Rattle.aberr_rows.specs.declared.Velocity.{Velocity}
+use Rattle.aberr_args.specs.declared.Velocity.{Velocity}
 use Rattle.aberr.specs.rules.Sun.{solAberrRule}
 use Rattle.aberr.specs.rules.Star.{aberrAt, stellAberrInEqCoordsRule}
 use Rattle.aberr.specs.notions.Computed.{computed}

@@ -7,7 +7,7 @@ use Rattle.quantity.specs.rules.Angle.{rad}
 use Rattle.quantity.specs.rules.Answer.{Answer, answered, Pair, pair, unless}
 use Rattle.quantity.specs.rules.Refusal.{lower, dayRefusal, angleRefusal, latitudeRefusal}
 use Rattle.elementary.specs.declared.Direction.{Direction}
-use Rattle.aberr_rows.specs.declared.Velocity.{Velocity}
+use Rattle.aberr_args.specs.declared.Velocity.{Velocity}
 use Rattle.aberr.specs.rules.Star.{light, aberrAt, stellAberrInEqCoordsIn}
 
 -- 17314463360.0

@@ -9,9 +9,9 @@ use Rattle.quantity.specs.rules.Answer.{Answer, answered, Pair, pair, unless}
 use Rattle.quantity.specs.rules.Refusal.{lower, dayRefusal, angleRefusal, steepRefusal}
 use Rattle.elementary.specs.declared.Direction.{Direction}
 use Rattle.elementary.specs.rules.Direction.{directionOf}
-use Rattle.aberr_rows.specs.declared.Velocity.{Velocity}
+use Rattle.aberr_args.specs.declared.Velocity.{Velocity}
 use Rattle.aberr.specs.rules.Numbers.{n17314463350}
-use Rattle.aberr_velocity.specs.rules.Velocity.{velocityOf}
+use Rattle.aberr_table.specs.rules.Velocity.{velocityOf}
 
 -- the speed of light, in the unit of the velocity
 abbrev pub light : Float

@@ -16,7 +16,7 @@ use Rattle.precess.specs.rules.Days.{placeRefusal}
 use Rattle.precess.specs.rules.Equatorial.{eqTurnsOf}
 use Rattle.nutation_table.specs.rules.Day.{nutationOf}
 use Rattle.nutation.specs.rules.Point.{nutationAt}
-use Rattle.aberr_velocity.specs.rules.Velocity.{velocityOf}
+use Rattle.aberr_table.specs.rules.Velocity.{velocityOf}
 use Rattle.aberr.specs.rules.Star.{aberrAt}
 use Rattle.chain.specs.declared.Night.{Night}
 use Rattle.chain.specs.rules.Numbers.{n84381·448, n46·8150, n0·00059, n0·001813}

@@ -14,8 +14,8 @@ use Rattle.precess.specs.rules.Equatorial.{eqTurnsOf, turnedIn}
 use Rattle.nutation_args.specs.declared.Nutations.{Nutations}
 use Rattle.nutation_table.specs.rules.Day.{nutationOf}
 use Rattle.nutation.specs.rules.Point.{nutationAt}
-use Rattle.aberr_rows.specs.declared.Velocity.{Velocity}
-use Rattle.aberr_velocity.specs.rules.Velocity.{velocityOf}
+use Rattle.aberr_args.specs.declared.Velocity.{Velocity}
+use Rattle.aberr_table.specs.rules.Velocity.{velocityOf}
 use Rattle.aberr.specs.rules.Star.{aberrAt}
 use Rattle.chain.specs.declared.Night.{Night}
 use Rattle.chain.specs.rules.Obliquity.{meanObliquityOf, trueObliquity}

@@ -8,10 +8,10 @@ use Rattle.double.specs.notions.Range.{known, con, _⊞_, _⊟_, _⊠_}
 use Rattle.quantity.specs.rules.Angle.{rad}
 use Rattle.elementary.specs.rules.Sine.{turnOf, farthestAlone}
 use Rattle.elementary.specs.laws.Sine.{sine-between, cosine-between}
-use Rattle.aberr_rows.specs.declared.Velocity.{Velocity}
-use Rattle.aberr_rows.specs.rules.Numbers.{n1, n2, n3, n4, n5, n6, n7, n8, n9, n10, n11, n15, n16, n17, n19, n21}
-use Rattle.aberr_rows.specs.rules.Arguments.{argumentsOf}
-use Rattle.aberr_rows.specs.rules.Rows.{row13, row14, row15, row16, row17, row18, row19, row20, row21, row22, row23, row24}
+use Rattle.aberr_args.specs.declared.Velocity.{Velocity}
+use Rattle.aberr_table.specs.rules.Numbers.{n1, n2, n3, n4, n5, n6, n7, n8, n9, n10, n11, n15, n16, n17, n19, n21}
+use Rattle.aberr_args.specs.rules.Arguments.{argumentsOf}
+use Rattle.aberr_table.specs.rules.Rows.{row13, row14, row15, row16, row17, row18, row19, row20, row21, row22, row23, row24}
 use Rattle.domain_accepted.specs.notions.Within.{Within}
 use Rattle.domain.specs.notions.Aberration.{Held, l2, l3, l5, l7, l8}
 use Rattle.domain_accepted.specs.laws.Near.{within, up-to-farthest}

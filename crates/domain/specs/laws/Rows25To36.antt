@@ -11,10 +11,10 @@ use Rattle.double.specs.laws.Between.{between-cut}
 use Rattle.quantity.specs.rules.Angle.{rad}
 use Rattle.elementary.specs.rules.Sine.{turnOf, farthestAlone}
 use Rattle.elementary.specs.laws.Sine.{sine-between, cosine-between}
-use Rattle.aberr_rows.specs.declared.Velocity.{Velocity}
-use Rattle.aberr_rows.specs.rules.Numbers.{n1, n2, n3, n4, n5, n6, n7, n8, n9, n12, n14}
-use Rattle.aberr_rows.specs.rules.Arguments.{argumentsOf}
-use Rattle.aberr_rows.specs.rules.Rows.{row25, row26, row27, row28, row29, row30, row31, row32, row33, row34, row35, row36}
+use Rattle.aberr_args.specs.declared.Velocity.{Velocity}
+use Rattle.aberr_table.specs.rules.Numbers.{n1, n2, n3, n4, n5, n6, n7, n8, n9, n12, n14}
+use Rattle.aberr_args.specs.rules.Arguments.{argumentsOf}
+use Rattle.aberr_table.specs.rules.Rows.{row25, row26, row27, row28, row29, row30, row31, row32, row33, row34, row35, row36}
 use Rattle.domain_accepted.specs.notions.Within.{Within}
 use Rattle.domain.specs.notions.Aberration.{Held, l2, l3, l4, l5, l6, l1, d, m1}
 use Rattle.domain_accepted.specs.laws.Near.{within, up-to-farthest}

@@ -15,8 +15,8 @@ use Rattle.elementary.specs.rules.Direction.{directionOf}
 use Rattle.elementary.specs.laws.Accepted.{lower-none, steep-accepted}
 use Rattle.elementary.specs.laws.Sine.{sine-between, cosine-steep}
 use Rattle.helpers.specs.rules.Time.{centuryOf}
-use Rattle.aberr_rows.specs.rules.Arguments.{argumentsOf}
-use Rattle.aberr_velocity.specs.rules.Velocity.{rows, summed, none, velocityOf}
+use Rattle.aberr_args.specs.rules.Arguments.{argumentsOf}
+use Rattle.aberr_table.specs.rules.Velocity.{rows, summed, none, velocityOf}
 use Rattle.aberr.specs.rules.Star.{light, aberrAt, stellAberrRefusal, stellAberrInEqCoordsIn, stellAberrInEqCoordsRule}
 use Rattle.domain_accepted.specs.laws.Accepted.{angle-sine, angle-cosine, steep-far}
 use Rattle.domain_accepted.specs.notions.Outcome.{Outcome, Never}

@@ -1,2 +1,0 @@
--- What theorems on the rows of aberration speak of, and no promise mentions. Definitions only.
-pub mod Wrong

@@ -1,0 +1,79 @@
+-- `aberr_table::sum_over` meets its contract. The invariant: the sums over the rows that are left, from the sums so far, are those over
+-- all rows. Assumes nothing.
+use borrow.Author.Needs.{needs}
+use mathlib.Core.Path.{_≡_, refl, _∙_}
+use mathlib.Core.List.{List}
+use Prim.Native.Nat.{ℕ, _+_, _-_, _≤_, _<_}
+use native.Mathlib.Omega.{arith}
+use native.Mathlib.Numerals.{add-one}
+use lib.ListN.{length, getD, drop}
+use lib.Seq.{drop-cons, drop-length}
+use Rattle.aberr_args.specs.declared.Row.{Row}
+use Rattle.aberr_args.specs.declared.Parts.{Parts}
+use Rattle.aberr_args.specs.declared.Arguments.{Arguments}
+use Rattle.aberr_args.specs.declared.Velocity.{Velocity}
+use Rattle.aberr_args.specs.rules.Row.{withRow}
+use Rattle.aberr_table.specs.rules.Table.{walked}
+use Rattle.aberr_table.proofs.sum_over.Statement.{statement}
+use Rattle.aberr_table.proofs.sum_over.Tie as tie
+
+-- one row more
+next : (ps : List Parts) (xs : List Row) (i : ℕ) (d : Row) (g : Arguments) (v : Velocity) → i < length xs
+    → walked ps (drop (i + 1) xs) g (withRow (getD xs i d) ps g v) ≡ walked ps (drop i xs) g v
+unfolding walked
+next ps xs i d g v h = rw (drop-cons xs i d, add-one)
+
+abbrev Inv-loop : tie.InvT-loop
+Inv-loop parts g table v₀ i₀ v i =
+    (i ≤ length table) × (walked parts (drop i table) g v ≡ walked parts table g v₀) × (length table ≡ 36)
+
+abbrev μ-loop : tie.MeasureT-loop
+μ-loop parts g table v₀ i₀ v i = 36 - i
+
+loop-holds : tie.Need-loop-holds Inv-loop μ-loop
+loop-holds c = (omega arith, refl, c .good .0 .1 .0 .1)
+
+mul-with-row : tie.Need-mul-with-row Inv-loop μ-loop
+mul-with-row c = search needs
+
+array-copy-out-with-row : tie.Need-array-copy-out-with-row Inv-loop μ-loop
+array-copy-out-with-row c = search needs
+
+with-row-requires : tie.Need-with-row-requires Inv-loop μ-loop
+with-row-requires c κs = search needs
+
+add-i : tie.Need-add-i Inv-loop μ-loop
+add-i c = omega arith
+
+loop-less : tie.Need-loop-less Inv-loop μ-loop
+loop-less c = omega arith
+
+loop-again : tie.Need-loop-again Inv-loop μ-loop
+loop-again c =
+    let inv = c .before .before .before .loop .inv in
+    let table = c .before .before .before .before .args .t1 in
+    let inside : c .before .before .before .loop .i < length table = omega (arith, inv .2) in
+    (omega (arith, inv .2), rw (c .with-row .ensures) (next _ _ _ _ _ _ inside ∙ inv .1), inv .2)
+
+returns : tie.Need-returns Inv-loop μ-loop
+unfolding walked
+returns c =
+    let loop = c .before .loop in
+    let table = c .before .before .args .t1 in
+    let e : loop .i ≡ length table = omega (arith, loop .inv .0, loop .inv .2) in
+    rw (e, drop-length) at (loop .inv .1)
+
+pub sum-over-spec : {M : Type 1} → statement M
+sum-over-spec =
+    tie.close
+    (tie.spec
+    Inv-loop
+    μ-loop
+    loop-holds
+    mul-with-row
+    array-copy-out-with-row
+    with-row-requires
+    add-i
+    loop-less
+    loop-again
+    returns)

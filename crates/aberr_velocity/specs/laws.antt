@@ -1,2 +1,0 @@
--- What is proved of the Earth's velocity, for callers to cite. Theorems only.
-pub mod Wrong

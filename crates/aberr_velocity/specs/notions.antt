@@ -1,2 +1,0 @@
--- What theorems on the Earth's velocity speak of, and no promise mentions. Definitions only.
-pub mod Wrong
