@@ -11,7 +11,8 @@
  *    2   a day is more than 730500.0 from 2451545.0
  *    3   an angle exceeds 64.0 in size (deg_frm_dms, deg_frm_hms, to_radians and both limit_to_.. excepted, which take
  *        every finite number); a declination, altitude, observer or frame latitude exceeds a quarter turn
- *        (1.5707963267948966) in size; for sine, cosine and tangent called alone: exceeds 400000.0
+ *        (1.5707963267948966) in size; for sine, cosine and tangent called alone: exceeds 400000.0; of refraction: an
+ *        altitude outside 0.0 to 89.8 degrees
  *    4   an angle that goes into a tangent, or whose cosine divides, exceeds 1.57 in size
  *    5   a distance outside 0.0001 to 1000000.0 AU, a height outside -1000.0 to 100000.0 m, the root of a number below 0
  *    6   the sine of the new inclination, or N in topopcent_ecl_coords, is zero; in topopcent_ecl_coords_published also the
@@ -385,6 +386,32 @@ uint8_t brundelak_topopcent_ecl_coords_published(double ecl_long, double ecl_lat
  *            set half a day from the culmination. */
 uint8_t brundelak_rise_culm_set(double asc, double dec, double sidereal, double long_, double lat, double alt,
                                 double *rise, double *culmination, double *set);
+
+/* ---- refraction at the sight (Meeus, chapter 16) ----------------------------------------------------------------- */
+
+/* Refraction from the apparent altitude: by how much a star that is seen there stands too high.
+ * Given:     apprnt_alt  apparent altitude in degrees, 0.0 to 89.8
+ * Returned:  *out        refraction in minutes of arc, above 0 and at most 35
+ * Refusals:  1, 3 */
+uint8_t brundelak_refrac_frm_apprnt_alt(double apprnt_alt, double *out);
+
+/* Refraction from the true altitude: by how much a star that stands there will be seen too high.
+ * Given:     true_alt    true altitude in degrees, 0.0 to 89.8
+ * Returned:  *out        refraction in minutes of arc, above 0 and at most 30
+ * Refusals:  1, 3 */
+uint8_t brundelak_refrac_frm_true_alt(double true_alt, double *out);
+
+/* The true altitude of a star, from the one at which it was measured.
+ * Given:     apprnt_alt  measured altitude in degrees, 0.0 to 89.8
+ * Returned:  *out        true altitude in degrees: never above the measured one; at the horizon it is below 0.0
+ * Refusals:  1, 3 */
+uint8_t brundelak_sight_alt(double apprnt_alt, double *out);
+
+/* The altitude at which to look for a star, from the computed one.
+ * Given:     true_alt    computed altitude in degrees, 0.0 to 89.8; brundelak_alt_frm_eq answers radians
+ * Returned:  *out        altitude in degrees: never below the computed one
+ * Refusals:  1, 3 */
+uint8_t brundelak_plan_alt(double true_alt, double *out);
 
 /* ---- the chain --------------------------------------------------------------------------------------------------- */
 

@@ -42,7 +42,7 @@ static double as_double(uint64_t b)
 static double any_double(void)
 {
     static const double at[] = {0.0, 64.0, 1.57, 1.5707963267948966, 400000.0, 1.0, 0.0001, 1000000.0, -1000.0, 100000.0,
-                                1721045.0, 3182045.0, 2451545.0, 360.0, 6.283185307179586, 1e-310, INFINITY, NAN};
+                                1721045.0, 3182045.0, 2451545.0, 360.0, 6.283185307179586, 89.8, 1e-310, INFINITY, NAN};
     double x;
     uint64_t b;
     switch (below(8)) {

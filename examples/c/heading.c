@@ -1,4 +1,5 @@
-/* A pad's true heading from a star sight: star, time and place to the heading and the altitude at which the star stands. */
+/* A pad's true heading from a star sight: star, time and place to the heading, the altitude at which the star stands, and the
+   one at which to look for it. */
 #include <stdio.h>
 #include "brundelak.h"
 
@@ -13,21 +14,23 @@ static int answered(const char *call, uint8_t status)
     return status == 0;
 }
 
-/* True heading from north, clockwise, and altitude, in degrees, of a star of J2000 at a sidereal time of Greenwich, longitude
-   (west positive) and latitude. Azimuth is counted from south, west positive: half a turn more is the heading. */
+/* True heading from north, clockwise, altitude, and the altitude at which refraction shows it, in degrees, of a star of J2000 at
+   a sidereal time of Greenwich, longitude (west positive) and latitude. Azimuth is counted from south, west positive: half a turn
+   more is the heading. */
 static int sight(double asc, double dec, double day, double sidereal, double longitude, double latitude)
 {
-    double asc_now, dec_now, hour_angle, az, alt, heading;
+    double asc_now, dec_now, hour_angle, az, alt, heading, look;
     if (!answered("chain", brundelak_chain(asc, dec, 2451545.0, day, &asc_now, &dec_now)) ||
         !answered("hour angle",
                   brundelak_hr_angl_frm_observer_long(sidereal, longitude, asc_now, &hour_angle)) ||
         !answered("azimuth", brundelak_az_frm_eq(hour_angle, dec_now, latitude, &az)) ||
         !answered("altitude", brundelak_alt_frm_eq(hour_angle, dec_now, latitude, &alt)) ||
-        !answered("heading", brundelak_limit_to_360(az * DEGREES + 180.0, &heading)))
+        !answered("heading", brundelak_limit_to_360(az * DEGREES + 180.0, &heading)) ||
+        !answered("refraction", brundelak_plan_alt(alt * DEGREES, &look)))
         return 0;
     printf("azimuth %.6f degrees from south, west positive\n", az * DEGREES);
     printf("true heading %.6f degrees from north, clockwise\n", heading);
-    printf("altitude %.6f degrees\n", alt * DEGREES);
+    printf("altitude %.6f degrees, seen at %.6f\n", alt * DEGREES, look);
     return 1;
 }
 

@@ -1,5 +1,6 @@
 //! Every function compared: the sorts of its arguments, the port's call, and what it must answer.
 //! The Rust's modules go by the routed text; what no Rust is supplied for goes by `written`.
+use atmos::{self, by_library, by_rules};
 use own;
 use port::{self, Lent};
 use published::{self, OWN, WRITTEN};
@@ -299,5 +300,13 @@ pub fn all() -> Vec<Function> {
         },
         function!(rule brundelak_rise_culm_set [Angle, Steep, Angle, Angle, Steep, Latitude] (1, 3, 4, 15, 16)
             |a| transit::by_rules(a), transit::by_library(a)),
+        function!(rule brundelak_refrac_frm_apprnt_alt [Sight] (1, 3)
+            |a| Answer(vec![atmos::apparent(a[0], by_rules)]), vec![atmos::apparent(a[0], by_library)]),
+        function!(rule brundelak_refrac_frm_true_alt [Sight] (1, 3)
+            |a| Answer(vec![atmos::real(a[0], by_rules)]), vec![atmos::real(a[0], by_library)]),
+        function!(rule brundelak_sight_alt [Sight] (1, 3)
+            |a| Answer(vec![atmos::sight(a[0], by_rules)]), vec![atmos::sight(a[0], by_library)]),
+        function!(rule brundelak_plan_alt [Sight] (1, 3)
+            |a| Answer(vec![atmos::plan(a[0], by_rules)]), vec![atmos::plan(a[0], by_library)]),
     ]
 }

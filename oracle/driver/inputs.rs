@@ -106,6 +106,7 @@ fn at_corner(r: &mut Random, sort: Sort) -> f64 {
         },
         Sort::Distance => r.pick(&[1.0, 0.0001, 0.00256955529, 30.0, 1000000.0]),
         Sort::Height => r.pick(&[0.0, -0.0, -1000.0, 100000.0, 1706.0]),
+        Sort::Sight => r.pick(&[0.0, -0.0, 15.0, 45.0, 89.8]),
         _ => {
             let quarters = match sort {
                 Sort::Latitude | Sort::Steep => 2,
@@ -172,6 +173,11 @@ fn within(r: &mut Random, sort: Sort) -> f64 {
         Sort::NotNegative => match r.below(2) {
             0 => f64::from_bits(r.bits() >> 2),
             _ => r.between(0.0, 100.0),
+        },
+        // Low: where refraction is most.
+        Sort::Sight => match r.below(3) {
+            0 => r.between(0.0, 5.0),
+            _ => r.between(0.0, 89.8),
         },
     }
 }

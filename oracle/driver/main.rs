@@ -7,6 +7,7 @@ extern crate astro_own as own;
 extern crate astro_routed as routed;
 
 mod aimed;
+mod atmos;
 mod functions;
 mod inputs;
 mod lists;

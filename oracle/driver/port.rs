@@ -66,4 +66,8 @@ exported! {
     brundelak_topopcent_ecl_coords_published(x, y, z, u, v, w, t, s, r)(a, b, c);
     brundelak_chain_published(x, y, z, u)(a, b);
     brundelak_rise_culm_set(x, y, z, u, v, w)(a, b, c);
+    brundelak_refrac_frm_apprnt_alt(h)(a);
+    brundelak_refrac_frm_true_alt(h)(a);
+    brundelak_sight_alt(h)(a);
+    brundelak_plan_alt(h)(a);
 }

@@ -1,4 +1,4 @@
-//! Document 01's section 5, written a second time: which number refuses an argument of each sort.
+//! Document 01's section 5, and what request (vii) adds to it, written a second time: which number refuses an argument of each sort.
 use std::f64::consts::FRAC_PI_2;
 
 /// What an argument is.
@@ -23,6 +23,8 @@ pub enum Sort {
     AloneSteep,
     /// The argument of the root.
     NotNegative,
+    /// An altitude in degrees, of which refraction is asked.
+    Sight,
 }
 
 use self::Sort::*;
@@ -35,6 +37,7 @@ pub fn refuses(number: u8, sort: Sort, x: f64) -> bool {
         (3, Angle) => x.abs() > 64.0,
         (3, Latitude) | (3, Steep) => x.abs() > FRAC_PI_2,
         (3, Alone) | (3, AloneSteep) => x.abs() > 400000.0,
+        (3, Sight) => x < 0.0 || x > 89.8,
         (4, Steep) | (4, AloneSteep) => x.abs() > 1.57,
         (5, Distance) => x < 0.0001 || x > 1000000.0,
         (5, Height) => x < -1000.0 || x > 100000.0,
@@ -64,5 +67,6 @@ pub fn limits(sort: Sort) -> &'static [f64] {
         Alone => &[400000.0],
         AloneSteep => &[400000.0, 1.57],
         NotNegative => &[0.0, 1.0, 4.0],
+        Sight => &[0.0, 89.8],
     }
 }

@@ -61,6 +61,10 @@ boundary! {
     brundelak_topopcent_ecl_coords topopcent_ecl_coords(long, lat, parallax, place_long, place_lat, height, sidereal, oblq, semidiameter)
         -> (a, b, c);
     brundelak_rise_culm_set rise_culm_set(asc, dec, sidereal, long, lat, alt) -> (a, b, c);
+    brundelak_refrac_frm_apprnt_alt refrac_frm_apprnt_alt(alt) -> (a);
+    brundelak_refrac_frm_true_alt refrac_frm_true_alt(alt) -> (a);
+    brundelak_sight_alt sight_alt(alt) -> (a);
+    brundelak_plan_alt plan_alt(alt) -> (a);
     brundelak_chain chain(asc, dec, day1, day2) -> (a, b);
     brundelak_dec_frm_hz_published dec_frm_hz_published(az, alt, lat) -> (a);
     brundelak_precess_eq_coords_published precess_eq_coords_published(asc, dec, day1, day2) -> (a, b);

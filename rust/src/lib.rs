@@ -25,6 +25,7 @@ mod refusal;
 
 pub mod aberr;
 pub mod angle;
+pub mod atmos;
 pub mod batch;
 pub mod chain;
 pub mod coords;

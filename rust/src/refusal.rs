@@ -11,7 +11,8 @@ pub enum Refusal {
     NotFinite,
     /// 2: a day is more than 730500.0 from 2451545.0.
     Day,
-    /// 3: an angle exceeds 64.0 in size, or a declination, altitude or latitude a quarter turn.
+    /// 3: an angle exceeds 64.0 in size, or a declination, altitude or latitude a quarter turn; of refraction an altitude is outside
+    /// 0.0 to 89.8 degrees.
     Angle,
     /// 4: an angle that goes into a tangent, or whose cosine divides, exceeds 1.57 in size.
     Steep,

@@ -6,6 +6,7 @@ pub mod angles; // section 3
 pub mod frames; // changes of frame
 pub mod reduction; // precession, nutation, aberration, the chain
 pub mod observer; // parallax; rise, culmination and set
+pub mod refraction; // refraction at the sight
 pub mod stored; // the stored list and the batch
 pub mod published; // the published edition of what has two
 pub mod radio; // lists over the radio link

@@ -2,7 +2,9 @@
 // Rules: specs/rules, in reading order in specs/rules.antt.
 ghost use mathlib.Core.Path.{_≡_};
 ghost use Rattle.quantity.specs.rules.Answer.{shown, shownTwo, shownThree, shownDegrees, shownRadians, shownPoint};
-ghost use Rattle.brundelak_handed.specs.rules.Boundary.{Told, ToldTwo, ToldThree, numberOfDegrees, numberOfRadians, numbersOfPoint};
+ghost use Rattle.atmos.specs.rules.Arcminutes.{shownArcminutes};
+ghost use Rattle.brundelak_handed.specs.rules.Boundary.{Told, ToldTwo, ToldThree, numberOfDegrees, numberOfRadians, numberOfArcminutes, numbersOfPoint};
+use atmos::Arcminutes;
 use quantity::Degrees;
 use quantity::One;
 use quantity::Point;
@@ -72,6 +74,16 @@ fn radians_number(a: Radians) -> One
     }
 }
 
+// An answer in minutes of arc as a number.
+fn arcminutes_number(a: Arcminutes) -> One
+    ensures { λ r. ⌜ shown r ≡ numberOfArcminutes (shownArcminutes a) ⌝ }
+{
+    match a {
+        Arcminutes::Are(x) => One::Is(x.0),
+        Arcminutes::Refused(n) => One::Refused(n),
+    }
+}
+
 // A point as its two numbers.
 fn point_numbers(a: Point) -> Two
     ensures { λ r. ⌜ shownTwo r ≡ numbersOfPoint (shownPoint a) ⌝ }
@@ -94,6 +106,13 @@ pub fn give_radians(a: Radians, out: &mut f64) -> u8
     ensures { λ n. ⌜ Told (numberOfRadians (shownRadians a)) n (now (out .entry)) (now (out .exit)) ⌝ }
 {
     give(radians_number(a), out)
+}
+
+// An answer in minutes of arc, as its number.
+pub fn give_arcminutes(a: Arcminutes, out: &mut f64) -> u8
+    ensures { λ n. ⌜ Told (numberOfArcminutes (shownArcminutes a)) n (now (out .entry)) (now (out .exit)) ⌝ }
+{
+    give(arcminutes_number(a), out)
 }
 
 // A point, as its two numbers.

@@ -25,6 +25,9 @@ pub mod Observer
 pub mod TopocentEq
 pub mod TopopcentEcl
 pub mod Transit
+pub mod Moved
+pub mod AtmosAngle
+pub mod Atmos
 pub mod Chain
 pub mod Star
 pub mod Fourteen

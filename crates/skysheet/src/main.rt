@@ -1,11 +1,13 @@
 // The sky sheet by program: section 10's cases that are not theorems, and the worked examples of Meeus. A line for each case, in the
 // order of the file `figures`: the 16 hexadecimal digits of each number of the answer, or `refused` and the number. `tools/skysheet` reads
 // the lines, prints them with their names beside the published figures, and holds them to those.
+use atmos::Arcminutes;
 use edition::Edition;
 use helpers::angle;
 use helpers::earth::Earth;
 use helpers::time;
 use quantity::Deg;
+use quantity::Degrees;
 use quantity::EclPoint;
 use quantity::EqPoint;
 use quantity::GeographPoint;
@@ -50,6 +52,22 @@ fn radians(a: Radians) {
     match a {
         Radians::Are(x) => number(x.0),
         Radians::Refused(n) => refusal(n),
+    }
+    end();
+}
+
+fn degrees(a: Degrees) {
+    match a {
+        Degrees::Are(x) => number(x.0),
+        Degrees::Refused(n) => refusal(n),
+    }
+    end();
+}
+
+fn arcminutes(a: Arcminutes) {
+    match a {
+        Arcminutes::Are(x) => number(x.0),
+        Arcminutes::Refused(n) => refusal(n),
     }
     end();
 }
@@ -155,6 +173,14 @@ fn venus_at_boston() {
         }
         Three::Refused(n) => refusal(n),
     }
+}
+
+// The Sun at the horizon: its lower limb is seen at 0.5 degrees, its upper limb stands at 33.246 minutes of arc.
+fn sun_at_the_horizon() {
+    arcminutes(atmos::refrac_frm_apprnt_alt(Deg(0.5)));
+    degrees(atmos::sight_alt(Deg(0.5)));
+    arcminutes(atmos::refrac_frm_true_alt(Deg(0.5541)));
+    degrees(atmos::plan_alt(Deg(0.5541)));
 }
 
 // Polaris on a day: its place of J2000, 2h31m48.704s and 89d15'50.72", is moved by its yearly rates first.
@@ -286,6 +312,7 @@ fn main() {
     earth_and_ecliptic();
     horizon_and_galaxy();
     venus_at_boston();
+    sun_at_the_horizon();
     precessions();
     reductions();
     parallaxes();

@@ -12,7 +12,8 @@ use Rattle.quantity.specs.declared.Two.the-variants as two
 use Rattle.quantity.specs.declared.Three.{Three}
 use Rattle.quantity.specs.declared.Three.the-variants as three
 use Rattle.quantity.specs.rules.Answer.{Answer, Pair, Triple, shown, shownTwo, shownThree}
-use Rattle.brundelak_handed.specs.rules.Boundary.{Told, ToldTwo, ToldThree, numberOfDegrees, numberOfRadians, numbersOfPoint}
+use Rattle.atmos.specs.declared.Arcmin.{Arcmin}
+use Rattle.brundelak_handed.specs.rules.Boundary.{Told, ToldTwo, ToldThree, numberOfDegrees, numberOfRadians, numberOfArcminutes, numbersOfPoint}
 
 -- ---- one float
 
@@ -29,6 +30,10 @@ told-degrees p t = told (ap numberOfDegrees p) t
 pub told-radians : {n : ℕ} {old new : Float} {a b : Answer Rad} → a ≡ b → Told (numberOfRadians a) n old new
     → Told (numberOfRadians b) n old new
 told-radians p t = told (ap numberOfRadians p) t
+
+pub told-arcminutes : {n : ℕ} {old new : Float} {a b : Answer Arcmin} → a ≡ b → Told (numberOfArcminutes a) n old new
+    → Told (numberOfArcminutes b) n old new
+told-arcminutes p t = told (ap numberOfArcminutes p) t
 
 -- ---- two
 

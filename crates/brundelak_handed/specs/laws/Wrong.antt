@@ -12,14 +12,18 @@ use Rattle.quantity.specs.rules.Answer.{Answer, answered, refused}
 use Rattle.quantity.specs.notions.Computed.{computed}
 use Rattle.quantity.specs.notions.Code.{ofFloat, ofPair, ofAnswer}
 use Rattle.quantity.specs.notions.Varies.{Varies}
-use Rattle.brundelak_handed.specs.rules.Boundary.{numberOfDegrees, numberOfRadians, numbersOfPoint}
-use Rattle.brundelak_handed.specs.notions.Wrong.{degreesLost, radiansRefusedAsOne, pointTraded}
+use Rattle.atmos.specs.declared.Arcmin.{Arcmin}
+use Rattle.brundelak_handed.specs.rules.Boundary.{numberOfDegrees, numberOfRadians, numberOfArcminutes, numbersOfPoint}
+use Rattle.brundelak_handed.specs.notions.Wrong.{degreesLost, radiansRefusedAsOne, arcminutesInDegrees, pointTraded}
 
 abbrev degrees : Float → Answer Deg
 degrees x = answered (record { 0 = x })
 
 abbrev radians : Float → Answer Rad
 radians x = answered (record { 0 = x })
+
+abbrev arcminutes : Float → Answer Arcmin
+arcminutes x = answered (record { 0 = x })
 
 abbrev point : Float → Float → Answer EqPoint
 point x y = answered (record { asc = x; dec = y })
@@ -39,6 +43,14 @@ radians-number-varies = record { here = refl; there = refl; apart = apart (ofAns
 pub radians-refused-as-one-excluded : radiansRefusedAsOne (refused 3) ≢ numberOfRadians (refused 3)
 unfolding computed numberOfRadians
 radians-refused-as-one-excluded = apart (ofAnswer ofFloat) refl
+
+pub arcminutes-number-varies : Varies (numberOfArcminutes (arcminutes one)) (numberOfArcminutes (arcminutes zero))
+unfolding computed numberOfArcminutes
+arcminutes-number-varies = record { here = refl; there = refl; apart = apart (ofAnswer ofFloat) refl }
+
+pub arcminutes-in-degrees-excluded : arcminutesInDegrees (arcminutes one) ≢ numberOfArcminutes (arcminutes one)
+unfolding computed numberOfArcminutes
+arcminutes-in-degrees-excluded = apart (ofAnswer ofFloat) refl
 
 pub point-numbers-varies : Varies (numbersOfPoint (point one zero)) (numbersOfPoint (point zero one))
 unfolding computed numbersOfPoint

@@ -6,6 +6,7 @@ use Rattle.quantity.specs.declared.Deg.{Deg}
 use Rattle.quantity.specs.declared.Rad.{Rad}
 use Rattle.quantity.specs.declared.EqPoint.{EqPoint}
 use Rattle.quantity.specs.rules.Answer.{Answer, answered, refused, Pair, pair, first, second, Triple, triple, with, statusOf}
+use Rattle.atmos.specs.declared.Arcmin.{Arcmin}
 
 -- a part of what is answered, or what stood there
 abbrev pub kept : {A B : Type 0} → (A → B) → Answer A → B → B
@@ -45,6 +46,9 @@ numberOfDegrees a = with (λ (x : Deg). x .0) a
 
 unfoldable pub numberOfRadians : Answer Rad → Answer Float
 numberOfRadians a = with (λ (x : Rad). x .0) a
+
+unfoldable pub numberOfArcminutes : Answer Arcmin → Answer Float
+numberOfArcminutes a = with (λ (x : Arcmin). x .0) a
 
 unfoldable pub numbersOfPoint : Answer EqPoint → Answer Pair
 numbersOfPoint a = with (λ (p : EqPoint). pair (p .asc) (p .dec)) a

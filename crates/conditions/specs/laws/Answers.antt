@@ -14,6 +14,10 @@ use Rattle.quantity.specs.declared.Rad.{Rad}
 use Rattle.quantity.specs.declared.EqPoint.{EqPoint}
 use Rattle.quantity.specs.rules.Answer.{Answer, answered, refused, Pair, Triple, shown, shownTwo, shownThree, shownDegrees, shownRadians, shownPoint, with}
 use Rattle.quantity.specs.laws.Answer.{carried, unique, shown-loses-nothing, shown-two-loses-nothing, shown-three-loses-nothing, shown-degrees-loses-nothing, shown-radians-loses-nothing, shown-point-loses-nothing}
+use Rattle.atmos.specs.declared.Arcmin.{Arcmin}
+use Rattle.atmos.specs.declared.Arcminutes.{Arcminutes}
+use Rattle.atmos.specs.rules.Arcminutes.{shownArcminutes}
+use Rattle.atmos.specs.laws.Arcminutes.{shown-arcminutes-loses-nothing}
 
 -- ---- a contract holds of one answer only, whatever the function and its rule's answer a
 
@@ -34,6 +38,9 @@ one-radians = unique shownRadians shown-radians-loses-nothing
 
 pub one-point : {a : Answer EqPoint} (r s : Point) → shownPoint r ≡ a → shownPoint s ≡ a → r ≡ s
 one-point = unique shownPoint shown-point-loses-nothing
+
+pub one-arcminutes : {a : Answer Arcmin} (r s : Arcminutes) → shownArcminutes r ≡ a → shownArcminutes s ≡ a → r ≡ s
+one-arcminutes = unique shownArcminutes shown-arcminutes-loses-nothing
 
 -- ---- an answer in code is its rule's
 

@@ -6,10 +6,12 @@ use lib.Dec.{T}
 use lib.IntN.{pos}
 use lib.Ieee.{Float, binary64, neg, fits}
 use Rattle.double.specs.rules.Operations.{bits, zero, _⊗_}
-use Rattle.double.specs.rules.Order.{Finite, Between}
+use Rattle.double.specs.rules.Order.{_≼_, Finite, Between}
+use Rattle.double.specs.rules.Table.{over}
 use Rattle.double.specs.notions.Greatest.{greatest}
 use Rattle.double.specs.notions.Code.{ofNumber}
 use Rattle.double.specs.laws.Apart.{apart}
+use Rattle.quantity.specs.declared.Deg.{Deg}
 use Rattle.quantity.specs.declared.Rad.{Rad}
 use Rattle.quantity.specs.declared.EclPoint.{EclPoint}
 use Rattle.quantity.specs.declared.GeographPoint.{GeographPoint}
@@ -27,6 +29,9 @@ use Rattle.nutation_args.specs.notions.Computed as nutation
 use Rattle.nutation_table.specs.rules.Rows.{rows}
 use Rattle.parallax.specs.rules.Observer.{centreOf, observerRefusal}
 use Rattle.parallax_ecl.specs.rules.Ecliptic.{nearby, eclipticAt, eclipticIn, topopcentRefusal, topopcentEclCoordsRule}
+use Rattle.atmos.specs.rules.Refraction.{refracFrmApprntAltOf, refracFrmTrueAltOf, altRefusal}
+use Rattle.atmos.specs.notions.Computed as atmos
+use Rattle.atmos.specs.notions.Stated.{lowest}
 use Rattle.chain.specs.notions.Computed.{computed}
 use Rattle.chain.specs.notions.Still.{still}
 use Rattle.list.specs.declared.Star.{Star}
@@ -46,6 +51,15 @@ pub precession-never-meets-seven-excluded : ¬ ((e : Edition) (asc dec : Rad) (d
 unfolding computed
 precession-never-meets-seven-excluded wrong =
     apart ofNumber refl (wrong Crate (rad (bits 0xbf712cb6ca12d2de)) (rad (bits 0x3ff9130eb16ff8e6)) epoch (bits 0x4142ceecf0000000) refl 7 refl)
+
+-- at altitude 0.0 refraction is above 34 minutes of arc, from the true altitude above 28
+pub refraction-at-most-34-excluded : ¬ ((h : Deg) → altRefusal h ≡ 0 → refracFrmApprntAltOf h .0 ≼ over 34 1)
+unfolding atmos.computed
+refraction-at-most-34-excluded wrong = wrong lowest refl
+
+pub true-refraction-at-most-28-excluded : ¬ ((h : Deg) → altRefusal h ≡ 0 → refracFrmTrueAltOf h .0 ≼ over 28 1)
+unfolding atmos.computed
+true-refraction-at-most-28-excluded wrong = wrong lowest refl
 
 -- seen from the equator a body at the parallax of a quarter turn: N is 1.0 − 1.0
 abbrev point : EclPoint
