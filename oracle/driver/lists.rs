@@ -7,35 +7,32 @@ use table::{refuses, Sort};
 use written;
 use Count;
 
+/// The editions of the batch, which take the same.
+macro_rules! batches {
+    ($($symbol:ident)*) => {
+        extern "C" {
+            $( fn $symbol(
+                bytes: *const u8,
+                len: usize,
+                day1: f64,
+                day2: f64,
+                status: *mut u8,
+                status_len: usize,
+                asc: *mut f64,
+                asc_len: usize,
+                dec: *mut f64,
+                dec_len: usize,
+                tally: *mut u32,
+            ) -> u8; )*
+        }
+    };
+}
+
+batches! { brundelak_batch brundelak_batch_published }
+
 extern "C" {
     fn brundelak_star(bytes: *const u8, len: usize, place: usize, number: *mut u32, asc: *mut u32, dec: *mut i32, next: *mut usize) -> u8;
     fn brundelak_find(bytes: *const u8, len: usize, number: u32, index: *mut usize, asc: *mut u32, dec: *mut i32) -> u8;
-    fn brundelak_batch(
-        bytes: *const u8,
-        len: usize,
-        day1: f64,
-        day2: f64,
-        status: *mut u8,
-        status_len: usize,
-        asc: *mut f64,
-        asc_len: usize,
-        dec: *mut f64,
-        dec_len: usize,
-        tally: *mut u32,
-    ) -> u8;
-    fn brundelak_batch_published(
-        bytes: *const u8,
-        len: usize,
-        day1: f64,
-        day2: f64,
-        status: *mut u8,
-        status_len: usize,
-        asc: *mut f64,
-        asc_len: usize,
-        dec: *mut f64,
-        dec_len: usize,
-        tally: *mut u32,
-    ) -> u8;
     fn brundelak_tally_raise(status: u8, tally: *mut u32) -> u8;
 }
 

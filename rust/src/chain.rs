@@ -3,7 +3,7 @@ use crate::coords::EqPoint;
 use crate::{ffi, Edition, Refusal};
 
 /// A star's place from one day to another: precession, then nutation, by the true obliquity, and aberration at the precessed point.
-/// Refusals: 1, 2, 3, 7, 4.
+/// Refusals: 1, 2, 3, 14, 7, 4.
 pub fn chain(asc: f64, dec: f64, day1: f64, day2: f64) -> Result<EqPoint, Refusal> {
     chain_by(Edition::Crate, asc, dec, day1, day2)
 }

@@ -58,7 +58,7 @@ pub fn dec_frm_ecl(ecl_long: f64, ecl_lat: f64, oblq_eclip: f64) -> Result<f64, 
     ffi::dec_frm_ecl(ecl_long, ecl_lat, oblq_eclip)
 }
 
-/// The azimuth, from south, west positive, with the sign of the sine of the hour angle. Refusals: 1, 3, 4.
+/// The azimuth, from south, west positive, with the sign of the sine of the hour angle. Refusals: 1, 3, 4, 14 at the zenith.
 pub fn az_frm_eq(hour_angle: f64, dec: f64, observer_lat: f64) -> Result<f64, Refusal> {
     ffi::az_frm_eq(hour_angle, dec, observer_lat)
 }
@@ -68,7 +68,7 @@ pub fn alt_frm_eq(hour_angle: f64, dec: f64, observer_lat: f64) -> Result<f64, R
     ffi::alt_frm_eq(hour_angle, dec, observer_lat)
 }
 
-/// The hour angle from horizontal coordinates. Refusals: 1, 3, 4.
+/// The hour angle from horizontal coordinates. Refusals: 1, 3, 4, 14 at the pole.
 pub fn hr_angl_frm_hz(az: f64, alt: f64, observer_lat: f64) -> Result<f64, Refusal> {
     ffi::hr_angl_frm_hz(az, alt, observer_lat)
 }
@@ -86,7 +86,7 @@ pub fn dec_frm_hz_by(edition: Edition, az: f64, alt: f64, observer_lat: f64) -> 
     }
 }
 
-/// The galactic longitude from coordinates of B1950.0. Refusals: 1, 3, 4.
+/// The galactic longitude from coordinates of B1950.0. Refusals: 1, 3, 4, 14 at the galactic pole.
 pub fn gal_long_frm_eq(asc: f64, dec: f64) -> Result<f64, Refusal> {
     ffi::gal_long_frm_eq(asc, dec)
 }
@@ -96,7 +96,7 @@ pub fn gal_lat_frm_eq(asc: f64, dec: f64) -> Result<f64, Refusal> {
     ffi::gal_lat_frm_eq(asc, dec)
 }
 
-/// The right ascension of B1950.0 from galactic coordinates. Refusals: 1, 3, 4.
+/// The right ascension of B1950.0 from galactic coordinates. Refusals: 1, 3, 4, 14 at the celestial pole.
 pub fn asc_frm_gal(gal_long: f64, gal_lat: f64) -> Result<f64, Refusal> {
     ffi::asc_frm_gal(gal_long, gal_lat)
 }

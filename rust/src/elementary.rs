@@ -16,7 +16,7 @@ pub fn tan(x: f64) -> Result<f64, Refusal> {
     ffi::tangent(x)
 }
 
-/// The arctangent of (y, x): the sign of y, and at least a quarter turn where x bears a minus sign. Refusals: 1.
+/// The arctangent of (y, x): the sign of y, and at least a quarter turn where x bears a minus sign. Refusals: 1, 14 where both are zero.
 pub fn atan2(y: f64, x: f64) -> Result<f64, Refusal> {
     ffi::arctangent(y, x)
 }

@@ -77,6 +77,29 @@ boundary! {
 // ---- the stored list: the slices' own lengths go with them
 
 mod stored {
+    /// The editions of the batch, which take the same.
+    macro_rules! batches {
+        ($($symbol:ident)*) => {
+            extern "C" {
+                $( pub fn $symbol(
+                    bytes: *const u8,
+                    len: usize,
+                    day1: f64,
+                    day2: f64,
+                    status: *mut u8,
+                    status_len: usize,
+                    asc: *mut f64,
+                    asc_len: usize,
+                    dec: *mut f64,
+                    dec_len: usize,
+                    tally: *mut u32,
+                ) -> u8; )*
+            }
+        };
+    }
+
+    batches! { brundelak_batch brundelak_batch_published }
+
     extern "C" {
         pub fn brundelak_star(
             bytes: *const u8,
@@ -94,32 +117,6 @@ mod stored {
             index: *mut usize,
             asc: *mut u32,
             dec: *mut i32,
-        ) -> u8;
-        pub fn brundelak_batch(
-            bytes: *const u8,
-            len: usize,
-            day1: f64,
-            day2: f64,
-            status: *mut u8,
-            status_len: usize,
-            asc: *mut f64,
-            asc_len: usize,
-            dec: *mut f64,
-            dec_len: usize,
-            tally: *mut u32,
-        ) -> u8;
-        pub fn brundelak_batch_published(
-            bytes: *const u8,
-            len: usize,
-            day1: f64,
-            day2: f64,
-            status: *mut u8,
-            status_len: usize,
-            asc: *mut f64,
-            asc_len: usize,
-            dec: *mut f64,
-            dec_len: usize,
-            tally: *mut u32,
         ) -> u8;
         pub fn brundelak_tally_raise(status: u8, tally: *mut u32) -> u8;
     }

@@ -7,7 +7,7 @@ pub fn eq_hz_parallax(dist_to_earth: f64) -> Result<f64, Refusal> {
     ffi::eq_hz_parallax(dist_to_earth)
 }
 
-/// The topocentric equatorial point. Refusals: 1, 3, 4, 5.
+/// The topocentric equatorial point. Refusals: 1, 3, 4, 5, 14.
 pub fn topocent_eq_coords(
     eq_point: &EqPoint,
     eq_hz_parllx: f64,

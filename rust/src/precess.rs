@@ -6,7 +6,7 @@ pub fn annual_precess(asc: f64, dec: f64, day: f64) -> Result<(f64, f64), Refusa
     ffi::annual_precess(asc, dec, day)
 }
 
-/// Right ascension and declination (FK5) from one day to another. Refusals: 1, 2, 3, 7.
+/// Right ascension and declination (FK5) from one day to another. Refusals: 1, 2, 3, 14, 7.
 pub fn precess_eq_coords(old_asc: f64, old_dec: f64, day1: f64, day2: f64) -> Result<(f64, f64), Refusal> {
     precess_eq_coords_by(Edition::Crate, old_asc, old_dec, day1, day2)
 }
@@ -19,7 +19,7 @@ pub fn precess_eq_coords_by(edition: Edition, old_asc: f64, old_dec: f64, day1: 
     }
 }
 
-/// Coordinates of the FK4 system from one day to another, as astro has it. Refusals: 1, 2, 3, 7.
+/// Coordinates of the FK4 system from one day to another, as astro has it. Refusals: 1, 2, 3, 14, 7.
 #[allow(non_snake_case)]
 pub fn precess_eq_coords_FK5(old_asc: f64, old_dec: f64, day1: f64, day2: f64) -> Result<(f64, f64), Refusal> {
     precess_eq_coords_FK5_by(Edition::Crate, old_asc, old_dec, day1, day2)

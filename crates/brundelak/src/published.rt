@@ -30,7 +30,7 @@ pub extern "C" fn brundelak_dec_frm_hz_published(
     )
 }
 
-// Equatorial coordinates from one day to another. Refusals: 1; 2; 3; 7.
+// Equatorial coordinates from one day to another. Refusals: 1; 2; 3; 14; 7.
 #[no_mangle]
 pub extern "C" fn brundelak_precess_eq_coords_published(
     old_asc: f64,
@@ -49,7 +49,7 @@ pub extern "C" fn brundelak_precess_eq_coords_published(
     )
 }
 
-// Coordinates of the FK4 system from one day to another. Refusals: 1; 2; 3; 7.
+// Coordinates of the FK4 system from one day to another. Refusals: 1; 2; 3; 14; 7.
 #[no_mangle]
 pub extern "C" fn brundelak_precess_eq_coords_fk5_published(
     old_asc: f64,
@@ -109,7 +109,7 @@ pub extern "C" fn brundelak_topopcent_ecl_coords_published(
     )
 }
 
-// A star's place from one day to another: precession, nutation, aberration. Refusals: 1; 2; 3; 7; 4.
+// A star's place from one day to another: precession, nutation, aberration. Refusals: 1; 2; 3; 14; 7; 4.
 #[no_mangle]
 pub extern "C" fn brundelak_chain_published(
     asc: f64,
