@@ -40,7 +40,7 @@
  * Editions: where the ported crate's rule is not Meeus's, the plain name is the crate's, by which past files reproduce, and
  * the name with _published is Meeus's, for new files. Arguments and answers are the same.
  *
- * The archive is x86-64 code; link with -lbrundelak -lm.
+ * The archive is x86-64 code; link with -lbrundelak alone: it needs nothing of libm.
  */
 #ifndef BRUNDELAK_H
 #define BRUNDELAK_H

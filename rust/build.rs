@@ -1,4 +1,4 @@
-//! Links the archive that `./build` leaves in target/brundelak, and libm.
+//! Links the archive that `./build` leaves in target/brundelak; it needs nothing else.
 use std::env;
 use std::path::PathBuf;
 
@@ -13,5 +13,4 @@ fn main() {
     println!("cargo:rerun-if-changed={}", archive.display());
     println!("cargo:rustc-link-search=native={}", folder.display());
     println!("cargo:rustc-link-lib=static=brundelak");
-    println!("cargo:rustc-link-lib=m");
 }

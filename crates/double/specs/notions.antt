@@ -3,6 +3,7 @@ pub mod Fraction
 pub mod Range
 pub mod Grid
 pub mod Greatest
+pub mod Count
 pub mod Computed
 pub mod Code
 pub mod Stated

@@ -21,7 +21,7 @@ pub fn radians(x: Deg) -> Rad
 fn remainder(x: f64, full: f64) -> f64
     ensures { λ r. ⌜ r ≡ remainder x full ⌝ }
 {
-    x % full
+    remainder::remainder_of(x, full)
 }
 
 // The remainder, plus a full turn where it is below zero. Every fold into a turn is this one, and so is that of days into one.

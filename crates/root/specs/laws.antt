@@ -1,8 +1,4 @@
 -- What is proved of the root, for callers to cite. Theorems only.
-pub mod Numbers
-pub mod Doubles
-pub mod Patterns
-pub mod Raised
 pub mod Whole
 pub mod Normal
 pub mod Unique

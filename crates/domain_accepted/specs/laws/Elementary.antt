@@ -24,7 +24,7 @@ use Rattle.double.specs.laws.NearZero.{add-plus}
 use Rattle.quantity.specs.declared.Rad.{Rad}
 use Rattle.quantity.specs.rules.Angle.{PI, HALF}
 use Rattle.quantity.specs.rules.Answer.{answered}
-use Rattle.root.specs.rules.Count.{IsFromZero}
+use Rattle.double.specs.rules.Count.{IsFromZero}
 use Rattle.root.specs.rules.Root.{rootOf, rootRule}
 use Rattle.root.specs.laws.Root.{root-from-zero, root-answered}
 use Rattle.elementary_arc.specs.rules.Arctangent.{turned, bothZero, arctangentOf, arctangentIn}

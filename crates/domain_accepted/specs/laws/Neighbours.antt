@@ -18,7 +18,7 @@ use Rattle.double.specs.laws.Order.{minus-le-plus}
 use Rattle.double.specs.laws.Rounding.{round-plus}
 use Rattle.double.specs.laws.Exact.{round-own}
 use Rattle.double.specs.laws.Grid.{grid-under, grid-over}
-use Rattle.root.specs.laws.Numbers.{less-or-not}
+use Rattle.double.specs.laws.Numbers.{less-or-not}
 use Rattle.root.specs.laws.Midpoint.{multiple, short}
 
 -- what is above k is k + 1 at least: m·2^e is a multiple of the grid's step, or has too few digits

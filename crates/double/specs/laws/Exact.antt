@@ -12,6 +12,7 @@ use lib.Pow.{pow-add, pow-pos}
 use lib.Ieee.{Float, nan, inf, fin, Format, binary64, prec, emax, low, up, down, round, neg, sum, add, sub, fits, lt, ofBits}
 use lib.Ieee.Fits.{and-l, up-pos, down-pos, round-fits}
 use lib.Ieee.Exact.{HasValue}
+use lib.Ieee.Scale.{round-same}
 use Rattle.double.specs.rules.Operations as operations
 use Rattle.double.specs.rules.Operations.{_⊖_}
 use Rattle.double.specs.rules.Sign.{size, isFinite}
@@ -122,6 +123,15 @@ pub round-own : (f : Format) (s : Bool) (m : ℕ) (e : ℤ) → T (fits f (fin s
 round-own f s m e F =
     value-unique f (round f s (m * up e) (down e)) (fin s m e) s (m * up e) (down e) (down-pos e)
     (round-fits f s (m * up e) (down e)) F (own-value f s m e F) (refl, refl)
+
+-- and of any fraction of its value
+pub round-value : (r : Float) (s : Bool) (a c : ℕ) → 0 < c → T (fits binary64 r) → HasValue r s a c → round binary64 s a c ≡ r
+round-value nan s a c p F h = absurd h
+round-value (inf t) s a c p F h = absurd h
+round-value (fin t m e) s a c p F h =
+    round-same binary64 s a c (m * up e) (down e) p (down-pos e) (sym (h .1))
+    ∙ ap (λ (u : Bool). round binary64 u (m * up e) (down e)) (sym (h .0))
+    ∙ round-own binary64 t m e F
 
 -- what lies from a double to itself is that double
 pub squeezed : (c x : Float) → T (fits binary64 c) → T (fits binary64 x) → Plus c → Plus x → Between c c x → x ≡ c

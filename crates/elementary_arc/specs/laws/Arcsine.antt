@@ -28,7 +28,7 @@ use Rattle.quantity.specs.rules.Answer.{answered, refused, unless, then}
 use Rattle.double.specs.laws.Apart.{apart}
 use Rattle.quantity.specs.notions.Code.{ofRad, ofAnswer}
 use Rattle.quantity.specs.laws.Steps.{same-number}
-use Rattle.root.specs.rules.Count.{IsFromZero}
+use Rattle.double.specs.rules.Count.{IsFromZero}
 use Rattle.root.specs.rules.Root.{rootOf}
 use Rattle.root.specs.laws.Root.{root-from-zero, root-answered}
 use Rattle.root.specs.notions.Computed as root

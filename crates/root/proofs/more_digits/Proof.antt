@@ -5,7 +5,7 @@ use Prim.Native.Nat.{ℕ, _*_, _%_, _^_, _≤_, _<_}
 use native.Mathlib.Nat.{le-trans, lt-of-le-of-lt, mul-le-mul-left}
 use native.Mathlib.Omega.{arith}
 use lib.Pow.{pow-pos}
-use Rattle.root.specs.laws.Numbers.{square-lt-back}
+use Rattle.double.specs.laws.Numbers.{square-lt-back}
 use Rattle.root.specs.notions.Steps.{Begun}
 use Rattle.root.specs.laws.Whole.{begun, next, digits-most, mended-is}
 use Rattle.root.proofs.more_digits.Statement.{statement}

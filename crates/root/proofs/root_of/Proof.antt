@@ -5,9 +5,9 @@ use lib.Dec.{T}
 use lib.Ieee.{binary64}
 use lib.Ieee.Bits.{ofBits-toBits}
 use Rattle.double.specs.laws.Calls.{asks-nothing}
-use Rattle.root.specs.rules.Count.{IsAboveZero}
+use Rattle.double.specs.rules.Count.{IsAboveZero}
 use Rattle.root.specs.rules.Root.{rootOf}
-use Rattle.root.specs.laws.Patterns.{above-zero-pattern, finite-no-nan, pattern-no-nan}
+use Rattle.double.specs.laws.Patterns.{above-zero-pattern, finite-no-nan, pattern-no-nan}
 use Rattle.root.specs.laws.Normal.{above-zero-normal}
 use Rattle.root.specs.laws.Nearest.{pattern-finite}
 use Rattle.root.proofs.root_of.Statement.{statement}

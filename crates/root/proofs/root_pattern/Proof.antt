@@ -5,14 +5,14 @@ use Prim.Native.Nat.{ℕ, _+_, _-_, _*_, _^_}
 use native.Mathlib.Omega.{arith}
 use lib.Count.{leadingZeros}
 use Rattle.root.specs.rules.Root.{rootPattern}
-use Rattle.root.specs.notions.Steps.{Raised}
-use Rattle.root.specs.laws.Raised.{raised}
+use Rattle.double.specs.notions.Count.{Raised}
+use Rattle.double.specs.laws.Raised.{raised}
 use Rattle.root.specs.laws.Normal.{low-square, high-square}
 use Rattle.root.proofs.root_pattern.Statement.{statement}
 use Rattle.root.proofs.root_pattern.Tie as tie
 
 up : (c : tie.Then1) → Raised (c .before .args .b) (leadingZeros 64 (c .before .args .b))
-up c = raised (c .before .args .b) (c .before .pre .0) (c .if1 .taken)
+up c = raised (c .before .args .b) (c .before .pre .0) (omega arith)
 
 sub-up : tie.Need-sub-up
 sub-up c = omega (arith, up c)

@@ -7,7 +7,7 @@ use Rattle.double.specs.rules.Operations.{bits}
 use Rattle.double.specs.rules.Sign.{isFinite}
 use Rattle.double.specs.rules.Table.{Row, _is_, Agrees}
 use Rattle.quantity.specs.rules.Answer.{Answer, answered, refused}
-use Rattle.root.specs.rules.Count.{count}
+use Rattle.double.specs.rules.Count.{count}
 use Rattle.root.specs.rules.Whole.{wholeRoot}
 use Rattle.root.specs.rules.Root.{rootPattern, rootOf, rootRule}
 

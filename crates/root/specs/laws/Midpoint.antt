@@ -8,7 +8,7 @@ use native.Mathlib.Nat.{mul-le-mul, mul-le-mul-left, mul-le-mul-right, mul-lt-mu
 use native.Mathlib.Omega.{arith}
 use lib.Pow.{pow-add, pow-pos, pow-mono}
 use lib.Ieee.Digits.{back}
-use Rattle.root.specs.laws.Numbers.{less-or-not, square-lt}
+use Rattle.double.specs.laws.Numbers.{less-or-not, square-lt}
 
 -- with more zeros at its end the other is a multiple of 2^e
 pub multiple : (a j e : ℕ) → e ≤ j → a * 2 ^ j ≡ a * 2 ^ (j - e) * 2 ^ e

@@ -6,16 +6,17 @@ use native.Mathlib.Omega.{arith}
 use lib.Pow.{pow-add, pow-pos}
 use lib.Ieee.{Float}
 use Rattle.double.specs.rules.Operations.{bits}
-use Rattle.root.specs.rules.Count.{IsAboveZero, count}
+use Rattle.double.specs.rules.Count.{IsAboveZero, count}
 use Rattle.root.specs.rules.Nearest.{twiceRootSquared, IsRoot}
 use Rattle.root.specs.rules.Whole.{IsWholeRoot, wholeRoot}
 use Rattle.root.specs.rules.Root.{rootPattern, rootOf}
-use Rattle.root.specs.laws.Doubles.{double-short}
-use Rattle.root.specs.laws.Patterns.{pattern-from-zero, count-high}
+use Rattle.double.specs.laws.Count.{double-short}
+use Rattle.double.specs.laws.Patterns.{pattern-from-zero, count-high}
 use Rattle.root.specs.laws.Unique.{root-unique}
 use Rattle.root.specs.laws.Midpoint.{near-above, near-below}
 use Rattle.root.specs.laws.Whole.{whole-root, whole-root-least, whole-root-most}
-use Rattle.root.specs.notions.Steps.{Normal, Short}
+use Rattle.double.specs.notions.Count.{Short}
+use Rattle.root.specs.notions.Steps.{Normal}
 use Rattle.root.specs.laws.Normal.{above-zero-normal, pattern-is}
 
 -- ---- the last of 54 digits rounds

@@ -11,14 +11,15 @@ use lib.Ieee.{Float, binary64, size, toBits}
 use lib.Ieee.Bits.{ofBits-toBits}
 use lib.Ieee.Digits.{size-lt, size-le}
 use Rattle.double.specs.rules.Operations.{bits}
-use Rattle.root.specs.rules.Count.{IsAboveZero}
+use Rattle.double.specs.rules.Count.{IsAboveZero}
 use Rattle.root.specs.rules.Nearest.{twiceRootSquared}
 use Rattle.root.specs.rules.Whole.{wholeRoot}
 use Rattle.root.specs.rules.Root.{rootPattern}
-use Rattle.root.specs.laws.Numbers.{less-or-not, pow-lt-back}
-use Rattle.root.specs.laws.Patterns.{count-low, count-high, above-zero-pattern}
-use Rattle.root.specs.laws.Raised.{raised}
-use Rattle.root.specs.notions.Steps.{Normal, Raised}
+use Rattle.double.specs.laws.Numbers.{less-or-not, pow-lt-back}
+use Rattle.double.specs.laws.Patterns.{count-low, count-high, above-zero-pattern}
+use Rattle.double.specs.laws.Raised.{raised}
+use Rattle.double.specs.notions.Count.{Raised}
+use Rattle.root.specs.notions.Steps.{Normal}
 
 -- ---- the exponent's half: an odd two goes to the digits
 
@@ -71,7 +72,7 @@ has-normal b p h = go (less-or-not b (2 ^ 52))
     go : (b < 2 ^ 52) ⊎ (2 ^ 52 ≤ b) → (d : ℕ) × (e : ℕ) × Normal (twiceRootSquared (bits b)) d e
     go (inl l) =
         let z = leadingZeros 64 b in
-        let r : Raised b z = raised b p l in
+        let r : Raised b z = raised b p (omega arith) in
         let n = normal (b * 2 ^ (z - 11)) (1024 - (z - 11)) (r .least) (r .most) (omega arith) (omega arith) in
         (_, _, rw (low-square b z l r) at n)
     go (inr l) =

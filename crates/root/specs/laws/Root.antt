@@ -11,10 +11,10 @@ use Rattle.double.specs.rules.Operations as operations
 use Rattle.double.specs.rules.Operations.{bits}
 use Rattle.double.specs.rules.Sign.{bearsMinus, isFinite}
 use Rattle.quantity.specs.rules.Answer.{answered, unless}
-use Rattle.root.specs.rules.Count.{IsFromZero, IsAboveZero}
+use Rattle.double.specs.rules.Count.{IsFromZero, IsAboveZero}
 use Rattle.root.specs.rules.Nearest.{twiceRootSquared}
 use Rattle.root.specs.rules.Root.{rootPattern, rootOf, rootRefusal, rootRule}
-use Rattle.root.specs.laws.Patterns.{pattern-from-zero}
+use Rattle.double.specs.laws.Patterns.{pattern-from-zero}
 use Rattle.root.specs.laws.Normal.{above-zero-normal}
 use Rattle.root.specs.laws.Nearest.{pattern-finite}
 

@@ -5,10 +5,10 @@ use Prim.Native.Nat.{ℕ, _+_, _*_, _≤_, _<_}
 use native.Mathlib.Nat.{eq-or-lt-of-le}
 use native.Mathlib.Omega.{arith}
 use lib.Ieee.{Float}
-use Rattle.root.specs.rules.Count.{count}
+use Rattle.double.specs.rules.Count.{count}
 use Rattle.root.specs.rules.Nearest.{IsRoot}
-use Rattle.root.specs.laws.Numbers.{less-or-not}
-use Rattle.root.specs.laws.Doubles.{same-count}
+use Rattle.double.specs.laws.Numbers.{less-or-not}
+use Rattle.double.specs.laws.Count.{same-count}
 
 clash : (w a b : ℕ) → w < (a + b) * (a + b) → (b + a) * (b + a) < w → ⊥
 clash w a b h k = omega arith

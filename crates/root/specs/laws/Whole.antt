@@ -8,7 +8,7 @@ use native.Mathlib.Omega.{arith}
 use lib.Dec.{leb, ltb}
 use borrow.Author.Tests.{leb-true, leb-false, ltb-true, ltb-false}
 use Rattle.root.specs.rules.Whole.{IsWholeRoot, longer, wholeRoot, mended}
-use Rattle.root.specs.laws.Numbers.{square-lt-back}
+use Rattle.double.specs.laws.Numbers.{square-lt-back}
 use Rattle.root.specs.notions.Steps.{Begun, Next}
 
 longer-is : (n s : ℕ) → IsWholeRoot (n / 4) s → IsWholeRoot n (longer n s)

@@ -1,7 +1,7 @@
 -- What a theorem opens that works rules out at stated inputs: the root, over answers and doubles.
 use Prim.Native.Nat.{ℕ}
 use Rattle.quantity.specs.notions.Computed as quantity
-use Rattle.root.specs.rules.Count.{count}
+use Rattle.double.specs.rules.Count.{count}
 use Rattle.root.specs.rules.Whole.{wholeRoot}
 use Rattle.root.specs.rules.Root.{rootPattern, rootOf, rootRule}
 

@@ -7,7 +7,7 @@ use Rattle.double.specs.rules.Operations.{bits, zero}
 use Rattle.double.specs.rules.Sign.{isFinite}
 use Rattle.double.specs.notions.Greatest.{greatest}
 use Rattle.quantity.specs.rules.Answer.{Answer, answered, unless}
-use Rattle.root.specs.rules.Count.{IsFromZero, count}
+use Rattle.double.specs.rules.Count.{IsFromZero, count}
 use Rattle.root.specs.rules.Nearest.{twiceRootSquared}
 use Rattle.root.specs.rules.Whole.{wholeRoot, mended}
 use Rattle.root.specs.rules.Root.{rootPattern, rootOf, rootRefusal}

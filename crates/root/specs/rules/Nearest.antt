@@ -1,7 +1,7 @@
 -- IEEE 754's squareRoot to nearest, said over whole numbers.
 use Prim.Native.Nat.{ℕ, _+_, _*_, _^_, _<_}
 use lib.Ieee.{Float}
-use Rattle.root.specs.rules.Count.{IsFromZero, count}
+use Rattle.double.specs.rules.Count.{IsFromZero, count}
 
 -- the square of twice x's root, where the root is counted as doubles are
 abbrev pub twiceRootSquared : Float → ℕ

@@ -12,12 +12,13 @@ use lib.Ieee.{Float, nan, inf, fin, binary64, up, down, odd, ofFields, ofBits, t
 use lib.Ieee.Bits.{ofBits-toBits, ofBits-fits, nanBits-is}
 use lib.Ieee.Exact.{HasValue, odd-sign}
 use borrow.Author.Tests.{lt-ltb, le-ltb, ltb-true, lt-leb, leb-false, ne-eqb}
 use Rattle.double.specs.rules.Operations.{bits}
 use Rattle.double.specs.rules.Operations as operations
-use Rattle.double.specs.rules.Sign.{isFinite}
-use Rattle.root.specs.rules.Count.{IsFromZero, IsAboveZero, count}
-use Rattle.root.specs.laws.Numbers.{less-or-not}
-use Rattle.root.specs.laws.Doubles.{value-count, value-from-zero}
+use Rattle.double.specs.rules.Sign.{bearsMinus, isFinite}
+use Rattle.double.specs.rules.Count.{IsFromZero, IsAboveZero, count}
+use Rattle.double.specs.laws.SignBit.{sign-bit}
+use Rattle.double.specs.laws.Numbers.{less-or-not}
+use Rattle.double.specs.laws.Count.{value-count, value-from-zero, count-exact}
 
 -- ---- a pattern without its sign, in units of the smallest double
 
@@ -114,28 +115,35 @@ finite-no-nan nan i = absurd (true≢false (sym i))
 finite-no-nan (inf s) i = tt
 finite-no-nan (fin s m e) i = tt
 
+below-top : (b : ℕ) → isFinite (bits b) ≡ true → b % 2 ^ 63 < 2047 * 2 ^ 52
+unfolding isFinite
+below-top b i = go (less-or-not (b % 2 ^ 63) (2047 * 2 ^ 52))
+  where
+    not-finite : (t s : Bool) → isFinite (cond t (inf s) nan) ≡ true → ⊥
+    not-finite true s e = true≢false (sym e)
+    not-finite false s e = true≢false (sym e)
+
+    go : (b % 2 ^ 63 < 2047 * 2 ^ 52) ⊎ (2047 * 2 ^ 52 ≤ b % 2 ^ 63) → b % 2 ^ 63 < 2047 * 2 ^ 52
+    go (inl h) = h
+    go (inr h) = absurd (not-finite (eqb (b % 2 ^ 63 % 2 ^ 52) 0) (leb (2 ^ 63) b) (ap isFinite (sym (top-field b h)) ∙ i))
+
+pub from-zero-pattern : (x : Float) → IsFromZero x → toBits binary64 x < 2047 * 2 ^ 52
+from-zero-pattern x d =
+    let plus : leb (2 ^ 63) (toBits binary64 x) ≡ false = sign-bit binary64 x (d .held) (finite-no-nan x (d .finite)) ∙ d .plus in
+    let low : toBits binary64 x < 2 ^ 63 = leb-false (2 ^ 63) (toBits binary64 x) plus in
+    let rest = below-top (toBits binary64 x) (rw (ofBits-toBits binary64 x (d .held)) (d .finite)) in
+    omega arith
+
 module _ (b : ℕ) (i : isFinite (bits b) ≡ true) (l : lt operations.zero (bits b) ≡ true) where
-  below-top : b % 2 ^ 63 < 2047 * 2 ^ 52
-  unfolding isFinite
-  below-top = go (less-or-not (b % 2 ^ 63) (2047 * 2 ^ 52))
-    where
-      not-finite : (t s : Bool) → isFinite (cond t (inf s) nan) ≡ true → ⊥
-      not-finite true s e = true≢false (sym e)
-      not-finite false s e = true≢false (sym e)
-
-      go : (b % 2 ^ 63 < 2047 * 2 ^ 52) ⊎ (2047 * 2 ^ 52 ≤ b % 2 ^ 63) → b % 2 ^ 63 < 2047 * 2 ^ 52
-      go (inl h) = h
-      go (inr h) = absurd (not-finite (eqb (b % 2 ^ 63 % 2 ^ 52) 0) (leb (2 ^ 63) b) (ap isFinite (sym (top-field b h)) ∙ i))
-
   plus : (leb (2 ^ 63) b ≡ false) × (0 < val (b % 2 ^ 63))
-  plus = above-zero-value (bits b) (leb (2 ^ 63) b) (val (b % 2 ^ 63)) (2 ^ 1074) (pow-pos 1074) l (finite-value b below-top)
+  plus = above-zero-value (bits b) (leb (2 ^ 63) b) (val (b % 2 ^ 63)) (2 ^ 1074) (pow-pos 1074) l (finite-value b (below-top b i))
 
   between : (0 < b) × (b < 2047 * 2 ^ 52)
   unfolding val
   between =
       let low : b < 2 ^ 63 = leb-false (2 ^ 63) b (plus .0) in
       let same : b % 2 ^ 63 ≡ b = omega arith in
-      (some b (rw same at (plus .1)), rw same at below-top)
+      (some b (rw same at (plus .1)), rw same at (below-top b i))
     where
       some : (b : ℕ) → 0 < val b → 0 < b
       some zero h = absurd (lt-irrefl 0 h)
@@ -145,3 +153,7 @@ pub above-zero-pattern : (x : Float) → IsAboveZero x → (0 < toBits binary64 
 above-zero-pattern x a =
     let e = ofBits-toBits binary64 x (a .held) in
     between (toBits binary64 x) (rw e (a .finite)) (rw e (a .above))
+
+pub above-zero-counts : (x : Float) → IsAboveZero x → 0 < count x
+above-zero-counts x a =
+    above-zero-value x (bearsMinus x) (count x) (2 ^ 1074) (pow-pos 1074) (a .above) (count-exact x (a .held) (a .finite)) .1

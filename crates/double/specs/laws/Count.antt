@@ -7,15 +7,16 @@ use native.Mathlib.Omega.{arith}
 use lib.IntN.{ℤ, pos, negsuc}
 use lib.Dec.{T, leb, ltb, eqb, ltb→lt, leb→le}
 use lib.Pow.{pow-add, pow-pos}
-use lib.Ieee.{Float, nan, inf, fin, binary64, fits, size, up, down, ofBits, toBits}
+use lib.Ieee as Ieee
+use lib.Ieee.{Float, nan, inf, fin, binary64, fits, up, down, ofBits, toBits}
 use lib.Ieee.Digits.{back}
 use lib.Ieee.Bits.{ofBits-toBits}
 use lib.Ieee.Exact.{HasValue}
 use lib.Ieee.Fits.{and-l, and-r, down-pos}
-use Rattle.double.specs.rules.Sign.{bearsMinus, isFinite}
-use Rattle.root.specs.rules.Count.{IsFromZero, count}
-use Rattle.root.specs.laws.Numbers.{pow-le-back}
-use Rattle.root.specs.notions.Steps.{Short}
+use Rattle.double.specs.rules.Sign.{bearsMinus, size, isFinite}
+use Rattle.double.specs.rules.Count.{IsFromZero, count}
+use Rattle.double.specs.laws.Numbers.{pow-le-back}
+use Rattle.double.specs.notions.Count.{Short}
 
 -- ---- what is a / 2^1074 counts a
 
@@ -73,7 +74,7 @@ count-exact (fin s m e) f i = (refl, fits-place s m e f .2 ∙ ap (λ (x : ℕ).
 -- ---- a double from zero on is fixed by its count
 
 bits-by-count : (r : Float) → isFinite r ≡ true → bearsMinus r ≡ false
-    → toBits binary64 r ≡ (size (count r) - 53) * 2 ^ 52 + count r / 2 ^ (size (count r) - 53)
+    → toBits binary64 r ≡ (Ieee.size (count r) - 53) * 2 ^ 52 + count r / 2 ^ (Ieee.size (count r) - 53)
 unfolding isFinite bearsMinus count toBits
 bits-by-count nan i s = absurd (true≢false (sym i))
 bits-by-count (inf t) i s = absurd (true≢false (sym i))
@@ -87,6 +88,14 @@ same-count r s d d' h =
     sym (ofBits-toBits binary64 r (d .held))
     ∙ ap (ofBits binary64)
     (bits-by-count r (d .finite) (d .plus)
-    ∙ ap (λ (n : ℕ). (size n - 53) * 2 ^ 52 + n / 2 ^ (size n - 53)) h
+    ∙ ap (λ (n : ℕ). (Ieee.size n - 53) * 2 ^ 52 + n / 2 ^ (Ieee.size n - 53)) h
     ∙ sym (bits-by-count s (d' .finite) (d' .plus)))
     ∙ ofBits-toBits binary64 s (d' .held)
+
+-- ---- a size counts what the number does
+
+pub size-counts : (x : Float) → count (size x) ≡ count x
+unfolding size count
+size-counts nan = refl
+size-counts (inf s) = refl
+size-counts (fin s m e) = refl

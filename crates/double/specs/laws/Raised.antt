@@ -1,19 +1,19 @@
--- A subnormal's digits brought up to 53 by their leading zeros. Assumes nothing.
+-- Digits brought up to 53 by their leading zeros. Assumes nothing.
 use mathlib.Core.Path.{_≡_, sym, ap, _∙_}
 use Prim.Native.Nat.{ℕ, suc, _+_, _-_, _^_, _≤_, _<_}
 use native.Mathlib.Nat.{le-trans, le-of-eq, lt-of-lt-of-le, lt-of-not-le, not-le-of-lt, mul-le-mul-right, mul-lt-mul-of-pos-right}
 use native.Mathlib.Omega.{arith}
 use lib.Pow.{pow-add, pow-pos, pow-mono}
 use lib.Count.{leadingZeros, leading-top}
-use Rattle.root.specs.notions.Steps.{Raised}
+use Rattle.double.specs.notions.Count.{Raised}
 
-pub raised : (t : ℕ) → 0 < t → t < 2 ^ 52 → Raised t (leadingZeros 64 t)
+pub raised : (t : ℕ) → 0 < t → t < 2 ^ 53 → Raised t (leadingZeros 64 t)
 raised t p h =
     let z = leadingZeros 64 t in
     let top = leading-top 64 t p (omega arith) in
     let j = top .0 in
     let e : z + suc j ≡ 64 = top .1 in
-    let jl : j < 52 = lt-of-not-le (λ (g : 52 ≤ j). not-le-of-lt h (le-trans (pow-mono g) (top .2))) in
+    let jl : j < 53 = lt-of-not-le (λ (g : 53 ≤ j). not-le-of-lt h (le-trans (pow-mono g) (top .2))) in
     let u : j + (z - 11) ≡ 52 = omega arith in
     let u' : suc j + (z - 11) ≡ 53 = omega arith in
     record {

@@ -1,0 +1,18 @@
+-- `remainder::places` meets its contract. Assumes nothing.
+use borrow.Author.Needs.{needs}
+use mathlib.Core.Path.{sym}
+use Rattle.remainder.specs.laws.Digits.{places-low, places-high}
+use Rattle.remainder.proofs.places.Statement.{statement}
+use Rattle.remainder.proofs.places.Tie as tie
+
+returns : tie.Need-returns
+returns c = sym (places-low _ (c .if1 .taken))
+
+sub-result : tie.Need-sub-result
+sub-result c = search needs
+
+returns-2 : tie.Need-returns-2
+returns-2 c = sym (places-high _)
+
+pub places-spec : {M : Type 1} → statement M
+places-spec = tie.close (tie.spec returns sub-result returns-2)
