@@ -154,19 +154,12 @@ uint8_t brundelak_hr_angl_frm_observer_long(double green_sidreal, double observe
  * Refusals:  1, 3 */
 uint8_t brundelak_hr_angl_frm_loc_sidr(double local_sidreal, double asc, double *out);
 
-/* Ecliptic longitude from equatorial coordinates.
+/* Ecliptic longitude and latitude from equatorial coordinates.
  * Given:     asc, dec     right ascension, declination (size at most 1.57)
  *            oblq_eclip   obliquity of the ecliptic
- * Returned:  out          ecliptic longitude, -PI to PI
- * Refusals:  1, 3, 4 */
-uint8_t brundelak_ecl_long_frm_eq(double asc, double dec, double oblq_eclip, double *out);
-
-/* Ecliptic latitude from equatorial coordinates.
- * Given:     asc, dec     right ascension, declination
- *            oblq_eclip   obliquity of the ecliptic
- * Returned:  out          ecliptic latitude
- * Refusals:  1, 3, 7 */
-uint8_t brundelak_ecl_lat_frm_eq(double asc, double dec, double oblq_eclip, double *out);
+ * Returned:  long_, lat   ecliptic longitude, -PI to PI, and latitude
+ * Refusals:  1, 3, 4, 7 */
+uint8_t brundelak_ecl_frm_eq(double asc, double dec, double oblq_eclip, double *long_, double *lat);
 
 /* Right ascension from ecliptic coordinates.
  * Given:     ecl_long, ecl_lat   ecliptic longitude, latitude (size at most 1.57)

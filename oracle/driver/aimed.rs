@@ -67,7 +67,11 @@ pub fn input(r: &mut Random, name: &str) -> Option<Vec<f64>> {
         "brundelak_precess_eq_coords_fk5_published" if r.below(8) == 0 => {
             pole(0xbf752d92049a74c8, 0x3ff90f943d214bc0, 2451545.0, 0x4142d52b18000000)
         }
-        "brundelak_ecl_lat_frm_eq" => vec![-FRAC_PI_2, FRAC_PI_2 - angle, angle],
+        // Past 1.57 too, where the longitude's 4 comes first.
+        "brundelak_ecl_frm_eq" => {
+            let oblq = if r.below(4) == 0 { angle / 2048.0 } else { angle };
+            vec![-FRAC_PI_2, FRAC_PI_2 - oblq, oblq]
+        }
         "brundelak_dec_frm_ecl" => vec![FRAC_PI_2, FRAC_PI_2 - angle, angle],
         "brundelak_alt_frm_eq" => vec![0.0, angle, angle],
         "brundelak_gal_lat_frm_eq" => vec![3.355395487179189, 0.47822021504644535],

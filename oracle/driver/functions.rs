@@ -177,10 +177,9 @@ pub fn all() -> Vec<Function> {
             |a| vec![coords::hr_angl_frm_observer_long(a[0], a[1], a[2])]),
         function!(rust brundelak_hr_angl_frm_loc_sidr [Angle, Angle] (1, 3)
             |a| vec![coords::hr_angl_frm_loc_sidr(a[0], a[1])]),
-        function!(rust brundelak_ecl_long_frm_eq [Angle, Steep, Angle] (1, 3, 4)
-            |a| vec![coords::ecl_long_frm_eq(a[0], a[1], a[2])]),
-        function!(rust brundelak_ecl_lat_frm_eq [Angle, Latitude, Angle] (1, 3, 7)
-            |a| vec![coords::ecl_lat_frm_eq(a[0], a[1], a[2])]),
+        // The Rust has two functions, the longitude's and then the latitude's.
+        function!(rust brundelak_ecl_frm_eq [Angle, Steep, Angle] (1, 3, 4, 7)
+            |a| vec![coords::ecl_long_frm_eq(a[0], a[1], a[2]), coords::ecl_lat_frm_eq(a[0], a[1], a[2])]),
         function!(rust brundelak_asc_frm_ecl [Angle, Steep, Angle] (1, 3, 4)
             |a| vec![coords::asc_frm_ecl(a[0], a[1], a[2])]),
         function!(rust brundelak_dec_frm_ecl [Angle, Latitude, Angle] (1, 3, 7)

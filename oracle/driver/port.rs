@@ -36,8 +36,7 @@ exported! {
     brundelak_rho_sin_cos_phi(x, y)(a, b);
     brundelak_hr_angl_frm_observer_long(x, y, z)(a);
     brundelak_hr_angl_frm_loc_sidr(x, y)(a);
-    brundelak_ecl_long_frm_eq(x, y, z)(a);
-    brundelak_ecl_lat_frm_eq(x, y, z)(a);
+    brundelak_ecl_frm_eq(x, y, z)(a, b);
     brundelak_asc_frm_ecl(x, y, z)(a);
     brundelak_dec_frm_ecl(x, y, z)(a);
     brundelak_az_frm_eq(x, y, z)(a);

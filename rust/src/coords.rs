@@ -38,14 +38,10 @@ pub fn hr_angl_frm_loc_sidr(local_sidreal: f64, asc: f64) -> Result<f64, Refusal
     ffi::hr_angl_frm_loc_sidr(local_sidreal, asc)
 }
 
-/// The ecliptic longitude. Refusals: 1, 3, 4.
-pub fn ecl_long_frm_eq(asc: f64, dec: f64, oblq_eclip: f64) -> Result<f64, Refusal> {
-    ffi::ecl_long_frm_eq(asc, dec, oblq_eclip)
-}
-
-/// The ecliptic latitude. Refusals: 1, 3, 7.
-pub fn ecl_lat_frm_eq(asc: f64, dec: f64, oblq_eclip: f64) -> Result<f64, Refusal> {
-    ffi::ecl_lat_frm_eq(asc, dec, oblq_eclip)
+/// The ecliptic longitude and latitude, in one point. Refusals: 1, 3, 4, 7.
+pub fn ecl_frm_eq(asc: f64, dec: f64, oblq_eclip: f64) -> Result<EclPoint, Refusal> {
+    let (long, lat) = ffi::ecl_frm_eq(asc, dec, oblq_eclip)?;
+    Ok(EclPoint { long, lat })
 }
 
 /// The right ascension from ecliptic coordinates. Refusals: 1, 3, 4.

@@ -36,8 +36,7 @@ boundary! {
     brundelak_rho_sin_cos_phi rho_sin_cos_phi(lat, height) -> (a, b);
     brundelak_hr_angl_frm_observer_long hr_angl_frm_observer_long(sidereal, long, asc) -> (a);
     brundelak_hr_angl_frm_loc_sidr hr_angl_frm_loc_sidr(sidereal, asc) -> (a);
-    brundelak_ecl_long_frm_eq ecl_long_frm_eq(asc, dec, oblq) -> (a);
-    brundelak_ecl_lat_frm_eq ecl_lat_frm_eq(asc, dec, oblq) -> (a);
+    brundelak_ecl_frm_eq ecl_frm_eq(asc, dec, oblq) -> (a, b);
     brundelak_asc_frm_ecl asc_frm_ecl(long, lat, oblq) -> (a);
     brundelak_dec_frm_ecl dec_frm_ecl(long, lat, oblq) -> (a);
     brundelak_az_frm_eq az_frm_eq(hour_angle, dec, lat) -> (a);

@@ -79,8 +79,16 @@ fn meeus_13_b() {
 #[test]
 fn meeus_13_a() {
     let (asc, dec, oblq) = (deg(116.328942), deg(28.026183), deg(23.4392911));
-    near(coords::ecl_long_frm_eq(asc, dec, oblq).unwrap(), deg(113.215630), deg(0.000001));
-    near(coords::ecl_lat_frm_eq(asc, dec, oblq).unwrap(), deg(6.684170), deg(0.000001));
+    let p = coords::ecl_frm_eq(asc, dec, oblq).unwrap();
+    near(p.long, deg(113.215630), deg(0.000001));
+    near(p.lat, deg(6.684170), deg(0.000001));
+}
+
+/// One call for both angles: past 1.57 the longitude's 4 comes before the latitude's 7, which an arcsine's argument above 1 gives.
+#[test]
+fn the_longitude_is_refused_before_the_latitude() {
+    assert_eq!(number(coords::ecl_frm_eq(-FRAC_PI_2, 1.5706052715566496, 0.00019105523824691772)), 4);
+    assert_eq!(number(coords::ecl_frm_eq(-FRAC_PI_2, 1.3832963267948966, 0.1875)), 7);
 }
 
 /// Meeus, example 21.b: theta Persei to 2028 November 13.19.

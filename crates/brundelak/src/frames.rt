@@ -1,10 +1,11 @@
 // Changes of frame.
-ghost use Rattle.brundelak_handed.specs.rules.Boundary.{Told, numberOfRadians};
+ghost use Rattle.brundelak_handed.specs.rules.Boundary.{Told, ToldTwo, numberOfRadians, numbersOfEcliptic};
 ghost use Rattle.edition.specs.declared.Edition.the-variants.{Crate};
 ghost use Rattle.coords.specs.rules.HourAngle.{hrAnglFrmObserverLongRule, hrAnglFrmLocSidrRule};
-ghost use Rattle.coords_ecl.specs.rules.Ecliptic.{eclLongFrmEqRule, eclLatFrmEqRule, ascFrmEclRule, decFrmEclRule};
+ghost use Rattle.coords_ecl.specs.rules.Ecliptic.{eclFrmEqRule, ascFrmEclRule, decFrmEclRule};
 ghost use Rattle.coords.specs.rules.Horizon.{azFrmEqRule, altFrmEqRule, hrAnglFrmHzRule, decFrmHzRule};
 ghost use Rattle.coords_gal.specs.rules.Galactic.{galLongFrmEqRule, galLatFrmEqRule, ascFrmGalRule};
+use brundelak_handed::give_ecliptic;
 use brundelak_handed::give_radians;
 use edition::Edition;
 use quantity::Rad;
@@ -36,30 +37,21 @@ pub extern "C" fn brundelak_hr_angl_frm_loc_sidr(local_sidreal: f64, asc: f64, o
     )
 }
 
-// The ecliptic longitude. Refusals: 1; 3; 4.
+// The ecliptic longitude and latitude. Refusals: 1; 3; 4; 7.
 #[no_mangle]
-pub extern "C" fn brundelak_ecl_long_frm_eq(
+pub extern "C" fn brundelak_ecl_frm_eq(
     asc: f64,
     dec: f64,
     oblq_eclip: f64,
-    out: &mut f64,
+    long: &mut f64,
+    lat: &mut f64,
 ) -> u8
-    ensures { λ n. ⌜ Told (numberOfRadians (eclLongFrmEqRule (record { 0 = asc }) (record { 0 = dec }) (record { 0 = «oblq_eclip» }))) n (now (out .entry)) (now (out .exit)) ⌝ }
+    ensures { λ n. ⌜ ToldTwo (numbersOfEcliptic (eclFrmEqRule (record { 0 = asc }) (record { 0 = dec }) (record { 0 = «oblq_eclip» }))) n (now (long .entry)) (now (lat .entry)) (now (long .exit)) (now (lat .exit)) ⌝ }
 {
-    give_radians(
-        coords_ecl::ecl_long_frm_eq(Rad(asc), Rad(dec), Rad(oblq_eclip)),
-        out,
-    )
-}
-
-// The ecliptic latitude. Refusals: 1; 3; 7.
-#[no_mangle]
-pub extern "C" fn brundelak_ecl_lat_frm_eq(asc: f64, dec: f64, oblq_eclip: f64, out: &mut f64) -> u8
-    ensures { λ n. ⌜ Told (numberOfRadians (eclLatFrmEqRule (record { 0 = asc }) (record { 0 = dec }) (record { 0 = «oblq_eclip» }))) n (now (out .entry)) (now (out .exit)) ⌝ }
-{
-    give_radians(
-        coords_ecl::ecl_lat_frm_eq(Rad(asc), Rad(dec), Rad(oblq_eclip)),
-        out,
+    give_ecliptic(
+        coords_ecl::ecl_frm_eq(Rad(asc), Rad(dec), Rad(oblq_eclip)),
+        long,
+        lat,
     )
 }
 

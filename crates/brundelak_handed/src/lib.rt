@@ -2,9 +2,11 @@
 // Rules: specs/rules, in reading order in specs/rules.antt.
 ghost use mathlib.Core.Path.{_≡_};
 ghost use Rattle.quantity.specs.rules.Answer.{shown, shownTwo, shownThree, shownDegrees, shownRadians, shownPoint};
+ghost use Rattle.coords_ecl.specs.rules.Point.{shownEcliptic};
 ghost use Rattle.atmos.specs.rules.Arcminutes.{shownArcminutes};
-ghost use Rattle.brundelak_handed.specs.rules.Boundary.{Told, ToldTwo, ToldThree, numberOfDegrees, numberOfRadians, numberOfArcminutes, numbersOfPoint};
+ghost use Rattle.brundelak_handed.specs.rules.Boundary.{Told, ToldTwo, ToldThree, numberOfDegrees, numberOfRadians, numberOfArcminutes, numbersOfPoint, numbersOfEcliptic};
 use atmos::Arcminutes;
+use coords_ecl::Ecliptic;
 use quantity::Degrees;
 use quantity::One;
 use quantity::Point;
@@ -94,6 +96,16 @@ fn point_numbers(a: Point) -> Two
     }
 }
 
+// An ecliptic point as its two numbers.
+fn ecliptic_numbers(a: Ecliptic) -> Two
+    ensures { λ r. ⌜ shownTwo r ≡ numbersOfEcliptic (shownEcliptic a) ⌝ }
+{
+    match a {
+        Ecliptic::Is(p) => Two::Are(p.long, p.lat),
+        Ecliptic::Refused(n) => Two::Refused(n),
+    }
+}
+
 // An answer in degrees, as its number.
 pub fn give_degrees(a: Degrees, out: &mut f64) -> u8
     ensures { λ n. ⌜ Told (numberOfDegrees (shownDegrees a)) n (now (out .entry)) (now (out .exit)) ⌝ }
@@ -120,4 +132,11 @@ pub fn give_point(a: Point, first: &mut f64, second: &mut f64) -> u8
     ensures { λ n. ⌜ ToldTwo (numbersOfPoint (shownPoint a)) n (now (first .entry)) (now (second .entry)) (now (first .exit)) (now (second .exit)) ⌝ }
 {
     give_two(point_numbers(a), first, second)
+}
+
+// An ecliptic point, as its two numbers.
+pub fn give_ecliptic(a: Ecliptic, first: &mut f64, second: &mut f64) -> u8
+    ensures { λ n. ⌜ ToldTwo (numbersOfEcliptic (shownEcliptic a)) n (now (first .entry)) (now (second .entry)) (now (first .exit)) (now (second .exit)) ⌝ }
+{
+    give_two(ecliptic_numbers(a), first, second)
 }

@@ -1,11 +1,20 @@
-// Ecliptic coordinates (section 4). All angles are in radians.
+// Ecliptic coordinates (section 4; document 02, request (ix)). All angles are in radians.
 // Rules: specs/rules, in reading order in specs/rules.antt.
 ghost use mathlib.Core.Path.{_≡_};
-ghost use Rattle.quantity.specs.rules.Answer.{shownRadians};
+ghost use Rattle.quantity.specs.rules.Answer.{shownTwo, shownRadians};
 ghost use Rattle.coords_ecl.specs.rules.Arguments.{frameRefusal, steepFrameRefusal};
-ghost use Rattle.coords_ecl.specs.rules.Ecliptic.{eclLongIn, eclLongFrmEqRule, eclLatIn, eclLatFrmEqRule, ascFrmEclIn, ascFrmEclRule, decFrmEclIn, decFrmEclRule};
+ghost use Rattle.coords_ecl.specs.rules.Point.{shownEcliptic, pointOf};
+ghost use Rattle.coords_ecl.specs.rules.Ecliptic.{eclFrmEqIn, eclFrmEqRule, ascFrmEclIn, ascFrmEclRule, decFrmEclIn, decFrmEclRule};
+use quantity::EclPoint;
 use quantity::Rad;
 use quantity::Radians;
+use quantity::Two;
+
+// An ecliptic point, or a refusal.
+pub enum Ecliptic {
+    Is(EclPoint),
+    Refused(u8),
+}
 
 // ---- refusals of the arguments, shared by the functions
 
@@ -23,9 +32,17 @@ fn frame_refusal(long: Rad, lat: Rad, oblq: Rad) -> u8
 }
 
 // The same where the latitude goes into a tangent: 1; 3; 4.
+// Three sizes within their limits are seen first, as nothing refuses them.
 fn steep_frame_refusal(long: Rad, lat: Rad, oblq: Rad) -> u8
     ensures { λ r. ⌜ r ≡ steepFrameRefusal long lat oblq ⌝ }
 {
+    if double::size(long.0) <= 64.0 {
+        if double::size(lat.0) <= 1.57 {
+            if double::size(oblq.0) <= 64.0 {
+                return 0;
+            }
+        }
+    }
     quantity::lower(
         quantity::angle_refusal(long),
         quantity::lower(quantity::steep_refusal(lat), quantity::angle_refusal(oblq)),
@@ -34,46 +51,41 @@ fn steep_frame_refusal(long: Rad, lat: Rad, oblq: Rad) -> u8
 
 // ---- ecliptic coordinates (Meeus, chapter 13)
 
-// The ecliptic longitude of arguments that are not refused.
-fn ecl_long_in(asc: Rad, dec: Rad, oblq: Rad) -> Radians
-    ensures { λ r. ⌜ shownRadians r ≡ eclLongIn asc dec oblq ⌝ }
+// A longitude and a latitude as a point; a refusal stays.
+fn point_of(a: Two) -> Ecliptic
+    ensures { λ r. ⌜ shownEcliptic r ≡ pointOf (shownTwo a) ⌝ }
 {
-    let a = elementary::turn_of(asc);
-    let e = elementary::turn_of(oblq);
-    let d = elementary::fold(dec);
-    elementary_arc::arctangent_in(a.sine * e.cosine + d.tangent() * e.sine, a.cosine)
-}
-
-// The ecliptic longitude from equatorial coordinates and the obliquity. Refusals: 1; 3; 4 past 1.57 for declination.
-pub fn ecl_long_frm_eq(asc: Rad, dec: Rad, oblq_eclip: Rad) -> Radians
-    ensures { λ r. ⌜ shownRadians r ≡ eclLongFrmEqRule asc dec «oblq_eclip» ⌝ }
-{
-    let no = steep_frame_refusal(asc, dec, oblq_eclip);
-    if no != 0 {
-        return Radians::Refused(no);
+    match a {
+        Two::Are(long, lat) => Ecliptic::Is(EclPoint {
+            long: long,
+            lat: lat,
+        }),
+        Two::Refused(n) => Ecliptic::Refused(n),
     }
-    ecl_long_in(asc, dec, oblq_eclip)
 }
 
-// The ecliptic latitude of arguments that are not refused.
-fn ecl_lat_in(asc: Rad, dec: Rad, oblq: Rad) -> Radians
-    ensures { λ r. ⌜ shownRadians r ≡ eclLatIn asc dec oblq ⌝ }
+// The ecliptic point of arguments that are not refused: sine and cosine of each angle are taken once for both.
+fn ecl_frm_eq_in(asc: Rad, dec: Rad, oblq: Rad) -> Ecliptic
+    ensures { λ r. ⌜ shownEcliptic r ≡ eclFrmEqIn asc dec oblq ⌝ }
 {
     let a = elementary::turn_of(asc);
     let e = elementary::turn_of(oblq);
     let d = elementary::turn_of(dec);
-    elementary_arc::arcsine_in(d.sine * e.cosine - d.cosine * e.sine * a.sine)
+    point_of(quantity::both(
+        elementary_arc::arctangent_in(a.sine * e.cosine + d.sine / d.cosine * e.sine, a.cosine),
+        elementary_arc::arcsine_in(d.sine * e.cosine - d.cosine * e.sine * a.sine),
+    ))
 }
 
-// The ecliptic latitude from equatorial coordinates and the obliquity. Refusals: 1; 3; then 7.
-pub fn ecl_lat_frm_eq(asc: Rad, dec: Rad, oblq_eclip: Rad) -> Radians
-    ensures { λ r. ⌜ shownRadians r ≡ eclLatFrmEqRule asc dec «oblq_eclip» ⌝ }
+// The ecliptic point from equatorial coordinates and the obliquity. Refusals: 1; 3; 4 past 1.57 for declination; then 7.
+pub fn ecl_frm_eq(asc: Rad, dec: Rad, oblq_eclip: Rad) -> Ecliptic
+    ensures { λ r. ⌜ shownEcliptic r ≡ eclFrmEqRule asc dec «oblq_eclip» ⌝ }
 {
-    let no = frame_refusal(asc, dec, oblq_eclip);
+    let no = steep_frame_refusal(asc, dec, oblq_eclip);
     if no != 0 {
-        return Radians::Refused(no);
+        return Ecliptic::Refused(no);
     }
-    ecl_lat_in(asc, dec, oblq_eclip)
+    ecl_frm_eq_in(asc, dec, oblq_eclip)
 }
 
 // The right ascension of arguments that are not refused.

@@ -3,6 +3,7 @@
 pub mod Elementary
 pub mod Frames
 pub mod FrameRefusals
+pub mod EclFrmEq
 pub mod Days
 pub mod Helpers
 pub mod Conversions

@@ -6,7 +6,6 @@ ghost use Rattle.elementary_arc.specs.rules.Series.{arctangentSeries};
 ghost use Rattle.elementary_arc.specs.rules.Arctangent.{atn, base, turned, arctangentOf, bothZero, arctangentIn, arctangentRefusal, arctangentRule};
 ghost use Rattle.elementary_arc.specs.rules.Arcsine.{arcsineIn, arcsineRule};
 use quantity::HALF;
-use quantity::One;
 use quantity::PI;
 use quantity::QUARTER;
 use quantity::Rad;
@@ -156,17 +155,20 @@ pub fn arctangent(y: f64, x: f64) -> Radians
     arctangent_in(y, x)
 }
 
-// The arcsine as other functions use it. Refusals, which callers hand on: 7 where s exceeds 1 in size; never 14.
+// The arcsine as other functions use it: base with the sign of s, since the root bears no minus sign. Refusals, which callers hand on:
+// 7 where s exceeds 1 in size, 1 of a NaN; never 14.
 pub fn arcsine_in(s: f64) -> Radians
     ensures { λ r. ⌜ shownRadians r ≡ arcsineIn s ⌝ }
 {
-    if 1.0 < double::size(s) {
+    let a = double::size(s);
+    if a <= 1.0 {
+        let b = base(a, root::root_of((1.0 - s) * (1.0 + s)));
+        return Radians::Are(Rad(double::negated_if(double::bears_minus(s), b)));
+    }
+    if 1.0 < a {
         return Radians::Refused(7);
     }
-    match root::square_root((1.0 - s) * (1.0 + s)) {
-        One::Is(r) => arctangent_in(s, r),
-        One::Refused(n) => Radians::Refused(n),
-    }
+    Radians::Refused(1)
 }
 
 // The arcsine of s, called alone. Refusals: 1; 7 where s exceeds 1 in size.

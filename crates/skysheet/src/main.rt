@@ -2,6 +2,7 @@
 // order of the file `figures`: the 16 hexadecimal digits of each number of the answer, or `refused` and the number. `tools/skysheet` reads
 // the lines, prints them with their names beside the published figures, and holds them to those.
 use atmos::Arcminutes;
+use coords_ecl::Ecliptic;
 use edition::Edition;
 use helpers::angle;
 use helpers::earth::Earth;
@@ -106,6 +107,17 @@ fn point(a: Point) {
     end();
 }
 
+fn ecliptic(a: Ecliptic) {
+    match a {
+        Ecliptic::Is(p) => {
+            number(p.long);
+            next(p.lat);
+        }
+        Ecliptic::Refused(n) => refusal(n),
+    }
+    end();
+}
+
 // ---- the cases
 
 fn deg(x: f64) -> Rad {
@@ -123,8 +135,7 @@ fn limits() {
 
 fn earth_and_ecliptic() {
     two(Earth::rho_sin_cos_phi(deg(33.35611111111111), 1706.0));
-    radians(coords_ecl::ecl_long_frm_eq(deg(116.328942), deg(28.026183), deg(23.4392911)));
-    radians(coords_ecl::ecl_lat_frm_eq(deg(116.328942), deg(28.026183), deg(23.4392911)));
+    ecliptic(coords_ecl::ecl_frm_eq(deg(116.328942), deg(28.026183), deg(23.4392911)));
     radians(coords_ecl::asc_frm_ecl(deg(113.21563), deg(6.68417), deg(23.4392911)));
     radians(coords_ecl::dec_frm_ecl(deg(113.21563), deg(6.68417), deg(23.4392911)));
 }

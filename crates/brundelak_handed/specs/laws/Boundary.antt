@@ -5,6 +5,7 @@ use lib.Ieee.{Float}
 use Rattle.quantity.specs.declared.Deg.{Deg}
 use Rattle.quantity.specs.declared.Rad.{Rad}
 use Rattle.quantity.specs.declared.EqPoint.{EqPoint}
+use Rattle.quantity.specs.declared.EclPoint.{EclPoint}
 use Rattle.quantity.specs.declared.One.{One}
 use Rattle.quantity.specs.declared.One.the-variants.{Refused}
 use Rattle.quantity.specs.declared.Two.{Two}
@@ -13,7 +14,7 @@ use Rattle.quantity.specs.declared.Three.{Three}
 use Rattle.quantity.specs.declared.Three.the-variants as three
 use Rattle.quantity.specs.rules.Answer.{Answer, Pair, Triple, shown, shownTwo, shownThree}
 use Rattle.atmos.specs.declared.Arcmin.{Arcmin}
-use Rattle.brundelak_handed.specs.rules.Boundary.{Told, ToldTwo, ToldThree, numberOfDegrees, numberOfRadians, numberOfArcminutes, numbersOfPoint}
+use Rattle.brundelak_handed.specs.rules.Boundary.{Told, ToldTwo, ToldThree, numberOfDegrees, numberOfRadians, numberOfArcminutes, numbersOfPoint, numbersOfEcliptic}
 
 -- ---- one float
 
@@ -49,6 +50,11 @@ pub told-point : {n : ℕ} {old1 old2 new1 new2 : Float} {a b : Answer EqPoint} 
     → ToldTwo (numbersOfPoint a) n old1 old2 new1 new2
     → ToldTwo (numbersOfPoint b) n old1 old2 new1 new2
 told-point p t = told-two (ap numbersOfPoint p) t
+
+pub told-ecliptic : {n : ℕ} {old1 old2 new1 new2 : Float} {a b : Answer EclPoint} → a ≡ b
+    → ToldTwo (numbersOfEcliptic a) n old1 old2 new1 new2
+    → ToldTwo (numbersOfEcliptic b) n old1 old2 new1 new2
+told-ecliptic p t = told-two (ap numbersOfEcliptic p) t
 
 -- ---- three
 

@@ -8,13 +8,14 @@ use Rattle.double.specs.laws.Apart.{apart}
 use Rattle.quantity.specs.declared.Deg.{Deg}
 use Rattle.quantity.specs.declared.Rad.{Rad}
 use Rattle.quantity.specs.declared.EqPoint.{EqPoint}
+use Rattle.quantity.specs.declared.EclPoint.{EclPoint}
 use Rattle.quantity.specs.rules.Answer.{Answer, answered, refused}
 use Rattle.quantity.specs.notions.Computed.{computed}
 use Rattle.quantity.specs.notions.Code.{ofFloat, ofPair, ofAnswer}
 use Rattle.quantity.specs.notions.Varies.{Varies}
 use Rattle.atmos.specs.declared.Arcmin.{Arcmin}
-use Rattle.brundelak_handed.specs.rules.Boundary.{numberOfDegrees, numberOfRadians, numberOfArcminutes, numbersOfPoint}
-use Rattle.brundelak_handed.specs.notions.Wrong.{degreesLost, radiansRefusedAsOne, arcminutesInDegrees, pointTraded}
+use Rattle.brundelak_handed.specs.rules.Boundary.{numberOfDegrees, numberOfRadians, numberOfArcminutes, numbersOfPoint, numbersOfEcliptic}
+use Rattle.brundelak_handed.specs.notions.Wrong.{degreesLost, radiansRefusedAsOne, arcminutesInDegrees, pointTraded, eclipticTraded}
 
 abbrev degrees : Float → Answer Deg
 degrees x = answered (record { 0 = x })
@@ -27,6 +28,9 @@ arcminutes x = answered (record { 0 = x })
 
 abbrev point : Float → Float → Answer EqPoint
 point x y = answered (record { asc = x; dec = y })
+
+abbrev ecliptic : Float → Float → Answer EclPoint
+ecliptic x y = answered (record { long = x; lat = y })
 
 pub degrees-number-varies : Varies (numberOfDegrees (degrees one)) (numberOfDegrees (degrees zero))
 unfolding computed numberOfDegrees
@@ -59,3 +63,11 @@ point-numbers-varies = record { here = refl; there = refl; apart = apart (ofAnsw
 pub point-traded-excluded : pointTraded (point one zero) ≢ numbersOfPoint (point one zero)
 unfolding computed numbersOfPoint
 point-traded-excluded = apart (ofAnswer ofPair) refl
+
+pub ecliptic-numbers-varies : Varies (numbersOfEcliptic (ecliptic one zero)) (numbersOfEcliptic (ecliptic zero one))
+unfolding computed numbersOfEcliptic
+ecliptic-numbers-varies = record { here = refl; there = refl; apart = apart (ofAnswer ofPair) refl }
+
+pub ecliptic-traded-excluded : eclipticTraded (ecliptic one zero) ≢ numbersOfEcliptic (ecliptic one zero)
+unfolding computed numbersOfEcliptic
+ecliptic-traded-excluded = apart (ofAnswer ofPair) refl

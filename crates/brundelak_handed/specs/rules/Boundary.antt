@@ -5,6 +5,7 @@ use lib.Ieee.{Float}
 use Rattle.quantity.specs.declared.Deg.{Deg}
 use Rattle.quantity.specs.declared.Rad.{Rad}
 use Rattle.quantity.specs.declared.EqPoint.{EqPoint}
+use Rattle.quantity.specs.declared.EclPoint.{EclPoint}
 use Rattle.quantity.specs.rules.Answer.{Answer, answered, refused, Pair, pair, first, second, Triple, triple, with, statusOf}
 use Rattle.atmos.specs.declared.Arcmin.{Arcmin}
 
@@ -52,3 +53,6 @@ numberOfArcminutes a = with (λ (x : Arcmin). x .0) a
 
 unfoldable pub numbersOfPoint : Answer EqPoint → Answer Pair
 numbersOfPoint a = with (λ (p : EqPoint). pair (p .asc) (p .dec)) a
+
+unfoldable pub numbersOfEcliptic : Answer EclPoint → Answer Pair
+numbersOfEcliptic a = with (λ (p : EclPoint). pair (p .long) (p .lat)) a

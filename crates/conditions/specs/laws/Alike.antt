@@ -14,7 +14,7 @@ use Rattle.elementary_arc.specs.laws.Arctangent.{arctangent-refuses-fourteen, a
 pub opposite-twice : (x : Rad) → opposite (opposite x) ≡ x
 opposite-twice x = ap rad (neg-neg (x .0))
 
-pub refused-alike : (m n : ℕ) (a b : Answer Rad) → ((k : ℕ) → a ≡ refused k → b ≡ refused k) → unless m a ≡ refused n
+pub refused-alike : {A : Type 0} (m n : ℕ) (a b : Answer A) → ((k : ℕ) → a ≡ refused k → b ≡ refused k) → unless m a ≡ refused n
     → unless m b ≡ refused n
 refused-alike m n a b work e = by-case (eqb m 0) e
   where

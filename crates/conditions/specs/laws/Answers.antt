@@ -12,8 +12,12 @@ use Rattle.quantity.specs.declared.Point.{Point}
 use Rattle.quantity.specs.declared.Deg.{Deg}
 use Rattle.quantity.specs.declared.Rad.{Rad}
 use Rattle.quantity.specs.declared.EqPoint.{EqPoint}
+use Rattle.quantity.specs.declared.EclPoint.{EclPoint}
 use Rattle.quantity.specs.rules.Answer.{Answer, answered, refused, Pair, Triple, shown, shownTwo, shownThree, shownDegrees, shownRadians, shownPoint, with}
 use Rattle.quantity.specs.laws.Answer.{carried, unique, shown-loses-nothing, shown-two-loses-nothing, shown-three-loses-nothing, shown-degrees-loses-nothing, shown-radians-loses-nothing, shown-point-loses-nothing}
+use Rattle.coords_ecl.specs.declared.Ecliptic.{Ecliptic}
+use Rattle.coords_ecl.specs.rules.Point.{shownEcliptic}
+use Rattle.coords_ecl.specs.laws.Point.{shown-ecliptic-loses-nothing}
 use Rattle.atmos.specs.declared.Arcmin.{Arcmin}
 use Rattle.atmos.specs.declared.Arcminutes.{Arcminutes}
 use Rattle.atmos.specs.rules.Arcminutes.{shownArcminutes}
@@ -38,6 +42,9 @@ one-radians = unique shownRadians shown-radians-loses-nothing
 
 pub one-point : {a : Answer EqPoint} (r s : Point) → shownPoint r ≡ a → shownPoint s ≡ a → r ≡ s
 one-point = unique shownPoint shown-point-loses-nothing
+
+pub one-ecliptic : {a : Answer EclPoint} (r s : Ecliptic) → shownEcliptic r ≡ a → shownEcliptic s ≡ a → r ≡ s
+one-ecliptic = unique shownEcliptic shown-ecliptic-loses-nothing
 
 pub one-arcminutes : {a : Answer Arcmin} (r s : Arcminutes) → shownArcminutes r ≡ a → shownArcminutes s ≡ a → r ≡ s
 one-arcminutes = unique shownArcminutes shown-arcminutes-loses-nothing

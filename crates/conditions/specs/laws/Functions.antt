@@ -10,15 +10,20 @@ use Rattle.quantity.specs.declared.Radians.{Radians}
 use Rattle.quantity.specs.declared.Radians.the-variants.{Are, Refused}
 use Rattle.quantity.specs.rules.Angle.{PI, HALF, opposite}
 use Rattle.quantity.specs.rules.Answer.{shownRadians, with}
-use Rattle.quantity.specs.laws.Answer.{shown-radians-loses-nothing}
+use Rattle.quantity.specs.laws.Answer.{carried, shown-radians-loses-nothing}
 use Rattle.elementary.specs.rules.Sine.{sineOf}
 use Rattle.coords.specs.rules.Horizon.{southward, azFrmEqRule, altFrmEqRule}
-use Rattle.coords_ecl.specs.rules.Ecliptic.{eclLongSum, eclLongFrmEqRule, eclLatSum, eclLatFrmEqRule}
+use Rattle.coords_ecl.specs.declared.Ecliptic.{Ecliptic}
+use Rattle.coords_ecl.specs.declared.Ecliptic.the-variants as ecliptic
+use Rattle.coords_ecl.specs.rules.Point.{shownEcliptic}
+use Rattle.coords_ecl.specs.rules.Ecliptic.{longitudeSum, latitudeSum, eclFrmEqRule}
+use Rattle.coords_ecl.specs.laws.Point.{shown-ecliptic-loses-nothing}
+use Rattle.conditions.specs.notions.Mirror.{oppositePoint}
 use Rattle.conditions.specs.laws.Answers.{answered-by, mirrored, unchanged}
 use Rattle.conditions.specs.laws.Azimuth.{azimuth-sign, azimuth-at-most-quarter-turn, azimuth-at-least-quarter-turn}
 use Rattle.conditions.specs.laws.HourAngle.{azimuth-hour, altitude-hour}
 use Rattle.conditions.specs.laws.Declination.{altitude-declination, azimuth-refused-there, azimuth-refused-here, azimuth-sign-stays, azimuth-size-there, azimuth-size-here}
-use Rattle.conditions.specs.laws.RightAscension.{longitude-mirror, latitude-mirror}
+use Rattle.conditions.specs.laws.RightAscension.{ecliptic-mirror, ecliptic-refused-there, ecliptic-refused-here}
 
 -- ---- azimuth answers v
 
@@ -65,11 +70,18 @@ module _ (h d p : Rad) (r s : Radians) where
     pub az-frm-eq-declination-here : bearsMinus (southward h d p) ≡ true → size (v .0) ≡ PI ⊖ size (w .0)
     az-frm-eq-declination-here = azimuth-size-here h d p not-zero v w (answered-by meets is) (answered-by meets' is')
 
-module _ (a d e : Rad) (r s : Radians) where
-  pub ecl-long-frm-eq-mirror : NonZero (eclLongSum a d e) → shownRadians r ≡ eclLongFrmEqRule a d e
-      → shownRadians s ≡ eclLongFrmEqRule (opposite a) (opposite d) e → shownRadians s ≡ with opposite (shownRadians r)
-  ecl-long-frm-eq-mirror not-zero = mirrored opposite (longitude-mirror a d e not-zero) r s
+-- right ascension negated with declination
+module _ (a d e : Rad) (r s : Ecliptic) (meets : shownEcliptic r ≡ eclFrmEqRule a d e) (meets' : shownEcliptic s ≡ eclFrmEqRule (opposite a) (opposite d) e) where
+  pub ecl-frm-eq-mirror : NonZero (longitudeSum a d e) → NonZero (latitudeSum a d e)
+      → shownEcliptic s ≡ with oppositePoint (shownEcliptic r)
+  ecl-frm-eq-mirror not-zero not-zero' =
+      carried shownEcliptic (with oppositePoint) r s meets meets' (ecliptic-mirror a d e not-zero not-zero')
 
-  pub ecl-lat-frm-eq-mirror : NonZero (eclLatSum a d e) → shownRadians r ≡ eclLatFrmEqRule a d e
-      → shownRadians s ≡ eclLatFrmEqRule (opposite a) (opposite d) e → shownRadians s ≡ with opposite (shownRadians r)
-  ecl-lat-frm-eq-mirror not-zero = mirrored opposite (latitude-mirror a d e not-zero) r s
+  -- refused alike
+  pub ecl-frm-eq-refused-there : (n : ℕ) → r ≡ ecliptic.Refused n → s ≡ ecliptic.Refused n
+  ecl-frm-eq-refused-there n is =
+      shown-ecliptic-loses-nothing s (ecliptic.Refused n) (meets' ∙ ecliptic-refused-there a d e n (sym meets ∙ ap shownEcliptic is))
+
+  pub ecl-frm-eq-refused-here : (n : ℕ) → s ≡ ecliptic.Refused n → r ≡ ecliptic.Refused n
+  ecl-frm-eq-refused-here n is =
+      shown-ecliptic-loses-nothing r (ecliptic.Refused n) (meets ∙ ecliptic-refused-here a d e n (sym meets' ∙ ap shownEcliptic is))

@@ -15,10 +15,13 @@ use Rattle.quantity.specs.notions.Code.{ofFloat, ofRad, ofTriple, ofAnswer}
 use Rattle.quantity.specs.notions.Stated.{r0, r½, r1}
 use Rattle.elementary_arc.specs.notions.Computed.{computed}
 use Rattle.coords.specs.rules.Horizon.{southward, azimuthIn, azFrmEqRule, altitudeIn, altFrmEqRule}
-use Rattle.coords_ecl.specs.rules.Ecliptic.{eclLongSum, eclLatIn, eclLatFrmEqRule}
+use Rattle.coords_ecl.specs.rules.Point.{pointOf}
+use Rattle.coords_ecl.specs.rules.Ecliptic.{longitudeSum, longitudeIn, latitudeSum, latitudeIn, eclFrmEqIn, eclFrmEqRule}
+use Rattle.coords_ecl.specs.notions.Code.{ofEclPoint}
 use Rattle.transit.specs.rules.RiseCulmSet.{riseCulmSetRule}
 use Rattle.transit.specs.notions.Stated.{northOfIt}
 use Rattle.transit.specs.notions.Computed as transit
+use Rattle.conditions.specs.notions.Mirror.{oppositePoint}
 
 abbrev m0 : Rad
 m0 = rad minusZero
@@ -57,12 +60,16 @@ pub altitude-within-less-than-a-quarter-turn-excluded : ¬ ((h d p : Rad) (v : R
 unfolding computed altitudeIn
 altitude-within-less-than-a-quarter-turn-excluded wrong = wrong r0 r0 r0 (rad HALF) refl
 
--- ---- ecliptic latitude
+-- ---- ecliptic longitude and latitude
 
--- the sum behind the longitude is not zero, but that behind the latitude is
-pub latitude-mirror-of-a-zero-sum-excluded : ¬ ((a d e : Rad) → NonZero (eclLongSum a d e) → eclLatFrmEqRule (opposite a) (opposite d) e ≡ with opposite (eclLatFrmEqRule a d e))
-unfolding computed eclLatIn
-latitude-mirror-of-a-zero-sum-excluded wrong = apart (ofAnswer ofRad) refl (wrong r½ r0 r0 tt)
+-- one of the sums is zero, and its angle stays +0
+pub mirror-of-a-zero-latitude-sum-excluded : ¬ ((a d e : Rad) → NonZero (longitudeSum a d e) → eclFrmEqRule (opposite a) (opposite d) e ≡ with oppositePoint (eclFrmEqRule a d e))
+unfolding computed pointOf longitudeIn latitudeIn eclFrmEqIn
+mirror-of-a-zero-latitude-sum-excluded wrong = apart (ofAnswer ofEclPoint) refl (wrong r½ r0 r0 tt)
+
+pub mirror-of-a-zero-longitude-sum-excluded : ¬ ((a d e : Rad) → NonZero (latitudeSum a d e) → eclFrmEqRule (opposite a) (opposite d) e ≡ with oppositePoint (eclFrmEqRule a d e))
+unfolding computed pointOf longitudeIn latitudeIn eclFrmEqIn
+mirror-of-a-zero-longitude-sum-excluded wrong = apart (ofAnswer ofEclPoint) refl (wrong m0 r½ r0 tt)
 
 -- ---- rise, culmination and set
 

@@ -2,31 +2,34 @@
 use lib.Ieee.{Float}
 use Rattle.double.specs.rules.Operations.{_⊕_, _⊖_, _⊗_}
 use Rattle.quantity.specs.declared.Rad.{Rad}
-use Rattle.quantity.specs.rules.Answer.{Answer, unless}
+use Rattle.quantity.specs.declared.EclPoint.{EclPoint}
+use Rattle.quantity.specs.rules.Answer.{Answer, unless, both}
 use Rattle.elementary.specs.rules.Sine.{sineOf, cosineOf, tangentOf}
 use Rattle.elementary_arc.specs.rules.Arctangent.{arctangentIn}
 use Rattle.elementary_arc.specs.rules.Arcsine.{arcsineIn}
 use Rattle.coords_ecl.specs.rules.Arguments.{frameRefusal, steepFrameRefusal}
+use Rattle.coords_ecl.specs.rules.Point.{pointOf}
 
 -- the sum behind the ecliptic longitude
-abbrev pub eclLongSum : Rad → Rad → Rad → Float
-eclLongSum a d e = sineOf a ⊗ cosineOf e ⊕ tangentOf d ⊗ sineOf e
+abbrev pub longitudeSum : Rad → Rad → Rad → Float
+longitudeSum a d e = sineOf a ⊗ cosineOf e ⊕ tangentOf d ⊗ sineOf e
 
-unfoldable pub eclLongIn : Rad → Rad → Rad → Answer Rad
-eclLongIn a d e = arctangentIn (eclLongSum a d e) (cosineOf a)
-
-abbrev pub eclLongFrmEqRule : Rad → Rad → Rad → Answer Rad
-eclLongFrmEqRule a d e = unless (steepFrameRefusal a d e) (eclLongIn a d e)
+unfoldable pub longitudeIn : Rad → Rad → Rad → Answer Rad
+longitudeIn a d e = arctangentIn (longitudeSum a d e) (cosineOf a)
 
 -- the sum behind the ecliptic latitude
-abbrev pub eclLatSum : Rad → Rad → Rad → Float
-eclLatSum a d e = sineOf d ⊗ cosineOf e ⊖ cosineOf d ⊗ sineOf e ⊗ sineOf a
+abbrev pub latitudeSum : Rad → Rad → Rad → Float
+latitudeSum a d e = sineOf d ⊗ cosineOf e ⊖ cosineOf d ⊗ sineOf e ⊗ sineOf a
 
-unfoldable pub eclLatIn : Rad → Rad → Rad → Answer Rad
-eclLatIn a d e = arcsineIn (eclLatSum a d e)
+unfoldable pub latitudeIn : Rad → Rad → Rad → Answer Rad
+latitudeIn a d e = arcsineIn (latitudeSum a d e)
 
-abbrev pub eclLatFrmEqRule : Rad → Rad → Rad → Answer Rad
-eclLatFrmEqRule a d e = unless (frameRefusal a d e) (eclLatIn a d e)
+-- both in one point; the longitude's refusal comes before the latitude's
+unfoldable pub eclFrmEqIn : Rad → Rad → Rad → Answer EclPoint
+eclFrmEqIn a d e = pointOf (both (longitudeIn a d e) (latitudeIn a d e))
+
+abbrev pub eclFrmEqRule : Rad → Rad → Rad → Answer EclPoint
+eclFrmEqRule a d e = unless (steepFrameRefusal a d e) (eclFrmEqIn a d e)
 
 unfoldable pub ascFrmEclIn : Rad → Rad → Rad → Answer Rad
 ascFrmEclIn l b e = arctangentIn (sineOf l ⊗ cosineOf e ⊖ tangentOf b ⊗ sineOf e) (cosineOf l)

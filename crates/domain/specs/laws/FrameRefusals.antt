@@ -1,5 +1,6 @@
--- Which refusals the changes of frame meet in the work: those that end in an arctangent 14 only, ecliptic longitude and right ascension
--- from ecliptic coordinates not even that, since a cosine is never zero; those that end in an arcsine never 14. Assumes nothing.
+-- Which refusals the changes of frame meet in the work: those that end in an arctangent 14 only, right ascension from ecliptic coordinates
+-- not even that, since a cosine is never zero; those that end in an arcsine never 14. Ecliptic coordinates from equatorial ones stand in
+-- EclFrmEq. Assumes nothing.
 use Prim.Native.Nat.{ℕ}
 use mathlib.Core.Path.{_≡_, subst}
 use std.Logic.{_≢_}
@@ -25,7 +26,7 @@ use Rattle.helpers.specs.rules.Angle.{radiansOf}
 use Rattle.coords.specs.rules.Arguments.{skyRefusal, steepSkyRefusal}
 use Rattle.coords.specs.rules.Horizon.{southward, azimuthIn, azFrmEqRule, upward, altitudeIn, altFrmEqRule, hrAnglFrmHzIn, hrAnglFrmHzRule, decFrmHzIn, decFrmHzRule}
 use Rattle.coords_ecl.specs.rules.Arguments.{frameRefusal, steepFrameRefusal}
-use Rattle.coords_ecl.specs.rules.Ecliptic.{eclLongSum, eclLongIn, eclLongFrmEqRule, eclLatSum, eclLatIn, eclLatFrmEqRule, ascFrmEclIn, ascFrmEclRule, decFrmEclIn, decFrmEclRule}
+use Rattle.coords_ecl.specs.rules.Ecliptic.{ascFrmEclIn, ascFrmEclRule, decFrmEclIn, decFrmEclRule}
 use Rattle.coords_gal.specs.rules.Arguments.{galRefusal, steepGalRefusal}
 use Rattle.coords_gal.specs.rules.Galactic.{southCelPoleLong, southGalPoleAsc, pole, fromPoleAsc, fromPoleLong, roundPole, galLongIn, galLongFrmEqRule, galLatIn, galLatFrmEqRule, ascFrmGalIn, ascFrmGalRule}
 use Rattle.domain_accepted.specs.laws.Accepted.{none-of-three}
@@ -67,18 +68,7 @@ module _ (z a p : Rad) where
   dec-frm-hz-never-meets-fourteen e =
       by-arcsine (skyRefusal z a p) (sineOf p ⊗ sineOf a ⊖ cosineOf p ⊗ chosen e (cosineOf z) (cosineOf a) ⊗ cosineOf z)
 
--- ---- equatorial and ecliptic
-
-module _ (a d e : Rad) where
-  pub ecl-long-frm-eq-refuses : steepFrameRefusal a d e ≡ 0 → (k : ℕ) → eclLongFrmEqRule a d e ≡ refused k → ⊥
-  unfolding eclLongIn
-  ecl-long-frm-eq-refuses none =
-      by-some (steepFrameRefusal a d e) (eclLongSum a d e) (cosineOf a) none
-      (cosine-never-zero a (none-of-three (angleRefusal a) (steepRefusal d) (angleRefusal e) none .0))
-
-  pub ecl-lat-frm-eq-never-meets-fourteen : frameRefusal a d e ≡ 0 → eclLatFrmEqRule a d e ≢ refused 14
-  unfolding eclLatIn
-  ecl-lat-frm-eq-never-meets-fourteen = by-arcsine (frameRefusal a d e) (eclLatSum a d e)
+-- ---- right ascension and declination from ecliptic coordinates
 
 module _ (l b e : Rad) where
   pub asc-frm-ecl-refuses : steepFrameRefusal l b e ≡ 0 → (k : ℕ) → ascFrmEclRule l b e ≡ refused k → ⊥

@@ -1,4 +1,5 @@
 -- No answer of the changes of frame is a NaN or an infinity; altitude, declinations and latitudes are a quarter turn at most in size.
+-- Ecliptic coordinates from equatorial ones stand in EclFrmEq.
 -- Assumes nothing.
 use Prim.Native.Nat.{ℕ}
 use mathlib.Core.Path.{_≡_, refl}
@@ -26,7 +27,7 @@ use Rattle.coords_ecl.specs.rules.Arguments.{frameRefusal, steepFrameRefusal}
 use Rattle.coords.specs.rules.Arguments.{skyRefusal, steepSkyRefusal}
 use Rattle.coords_gal.specs.rules.Arguments.{galRefusal, steepGalRefusal}
 use Rattle.coords.specs.rules.HourAngle.{hrAnglFrmObserverLong, observerLongRefusal, hrAnglFrmObserverLongRule, locSidrRefusal, hrAnglFrmLocSidrRule}
-use Rattle.coords_ecl.specs.rules.Ecliptic.{eclLongSum, eclLongIn, eclLongFrmEqRule, eclLatSum, eclLatIn, eclLatFrmEqRule, ascFrmEclIn, ascFrmEclRule, decFrmEclIn, decFrmEclRule}
+use Rattle.coords_ecl.specs.rules.Ecliptic.{ascFrmEclIn, ascFrmEclRule, decFrmEclIn, decFrmEclRule}
 use Rattle.coords.specs.rules.Horizon.{southward, azimuthIn, azFrmEqRule, upward, altitudeIn, altFrmEqRule, hrAnglFrmHzIn, hrAnglFrmHzRule, decFrmHzIn, decFrmHzRule}
 use Rattle.coords_gal.specs.rules.Galactic.{southCelPoleLong, galPoleAsc, galPoleDec, celPoleLong, southGalPoleAsc, roundPole, galLongIn, galLongFrmEqRule, galLatIn, galLatFrmEqRule, ascFrmGalIn, ascFrmGalRule}
 use Rattle.domain_accepted.specs.notions.Within.{Angle}
@@ -75,26 +76,7 @@ hr-angl-frm-loc-sidr-finite s a v answer =
     let n = lower-none (angleRefusal s) (angleRefusal a) none in
     within 32768 (known (angle-between s (n .0)) ⊟ known (angle-between a (n .1))) tt .finite)
 
--- ---- equatorial and ecliptic
-
-pub ecl-long-frm-eq-finite : (a d e v : Rad) → eclLongFrmEqRule a d e ≡ answered v → Finite (v .0)
-unfolding eclLongIn isFinite le neg add sub mul ofBits round
-ecl-long-frm-eq-finite a d e v answer =
-    of-arctangent (steepFrameRefusal a d e) (eclLongSum a d e) (cosineOf a) v answer
-    (λ none.
-    let n = none-of-three (angleRefusal a) (steepRefusal d) (angleRefusal e) none in
-    (within 32768 (known (angle-sine a (n .0)) ⊠ known (angle-cosine e (n .2)) ⊞ known (steep-tangent d (n .1)) ⊠ known (angle-sine e (n .2))) tt .finite, within 32768 (known (angle-cosine a (n .0))) tt .finite))
-
-pub ecl-lat-frm-eq-at-most-quarter-turn : (a d e v : Rad) → eclLatFrmEqRule a d e ≡ answered v → size (v .0) ≼ HALF
-unfolding eclLatIn isFinite le neg add sub mul ofBits round
-ecl-lat-frm-eq-at-most-quarter-turn a d e v answer =
-    of-arcsine (frameRefusal a d e) (eclLatSum a d e) v answer
-    (λ none.
-    let n = none-of-three (angleRefusal a) (latitudeRefusal d) (angleRefusal e) none in
-    within 32768 (known (latitude-sine d (n .1)) ⊠ known (angle-cosine e (n .2)) ⊟ known (latitude-cosine d (n .1)) ⊠ known (angle-sine e (n .2)) ⊠ known (angle-sine a (n .0))) tt .finite)
-
-pub ecl-lat-frm-eq-finite : (a d e v : Rad) → eclLatFrmEqRule a d e ≡ answered v → Finite (v .0)
-ecl-lat-frm-eq-finite a d e v answer = finite-of-quarter-turn v (ecl-lat-frm-eq-at-most-quarter-turn a d e v answer)
+-- ---- right ascension and declination from ecliptic coordinates
 
 pub asc-frm-ecl-finite : (l b e v : Rad) → ascFrmEclRule l b e ≡ answered v → Finite (v .0)
 unfolding ascFrmEclIn isFinite le neg add sub mul ofBits round

@@ -27,7 +27,7 @@ use Rattle.double.specs.laws.Interval.{bounded}
 use Rattle.double.specs.laws.Grid.{parts-of-value, grid-parts, grid-under, grid-over, under-grid, over-grid}
 use Rattle.double.specs.laws.WholePart.{whole-part-mono, whole-part-true, from-whole-exact, from-whole-between}
 use Rattle.quantity.specs.rules.Refusal.{steepest}
-use Rattle.elementary.specs.rules.Fold.{I, P1, P2, P3, quarters, rest}
+use Rattle.elementary.specs.rules.Fold.{I, P1, P2, P3, quarters, restAt, rest}
 use Rattle.elementary.specs.rules.Sine.{farthestAlone}
 
 -- ---- s = a·I + 0.5, and its whole part
@@ -300,9 +300,6 @@ late-quarters a i =
     (whole-part-mono one (a ⊗ I ⊕ half) tt (s .finite) (plus-of-positive one (a ⊗ I ⊕ half) tt (s .from)) (s .from))
 
 -- r for each of the two
-abbrev restAt : Float → ℕ → Float
-restAt a n = ((a ⊖ fromWhole n ⊗ P1) ⊖ fromWhole n ⊗ P2) ⊖ fromWhole n ⊗ P3
-
 rest-none : (a : Float) → Between zero late a → Between zero late (restAt a 0)
 unfolding isFinite le neg mul add sub ofBits ofInt round
 rest-none a i =

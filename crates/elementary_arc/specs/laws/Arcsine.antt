@@ -1,16 +1,16 @@
 -- The arcsine of a number of size 1 at most is answered: neither the root nor the arctangent is refused, and the answer bears the
 -- number's sign and is a quarter turn at most. So 7 is the only refusal of a finite number, and 14 is never met. Assumes nothing.
-use mathlib.Core.Path.{_≡_, refl}
+use mathlib.Core.Path.{_≡_, refl, ap, _∙_, subst}
 use Prim.Native.Nat.{ℕ}
 use native.Mathlib.Omega.{arith}
 use mathlib.Core.Bool.{Bool, true, false, not, _&&_, cond}
 use std.Logic.{_≢_}
-use lib.Dec.{T}
+use lib.Dec.{T, T-not}
 use lib.Ieee.{Float, nan, inf, fin, binary64, neg, add, sub, mul, le, lt, fits, ofBits, round}
 use lib.Ieee.Bits.{is-true, is-false}
 use lib.Ieee.Fits.{mul-fits}
 use Rattle.double.specs.rules.Operations.{zero, one, two, _⊕_, _⊖_, _⊗_}
-use Rattle.double.specs.rules.Sign.{bearsMinus, size, isFinite}
+use Rattle.double.specs.rules.Sign.{bearsMinus, negatedIf, size, isFinite}
 use Rattle.double.specs.rules.Order.{_≼_, isZero, NonZero, Finite, Plus, Between}
 use Rattle.double.specs.rules.Table.{over}
 use Rattle.double.specs.notions.Range.{known, con, _⊞_, _⊟_, _⊠_}
@@ -22,7 +22,7 @@ use Rattle.double.specs.laws.Zero.{size-of-zero}
 use Rattle.double.specs.laws.Exact.{squeezed}
 use Rattle.double.specs.laws.Interval.{bounded}
 use Rattle.double.specs.laws.NearZero.{mul-plus, add-plus, sub-plus}
-use Rattle.quantity.specs.rules.Angle.{HALF}
+use Rattle.quantity.specs.rules.Angle.{rad, HALF}
 use Rattle.quantity.specs.declared.Rad.{Rad}
 use Rattle.quantity.specs.rules.Answer.{answered, refused, unless, then}
 use Rattle.double.specs.laws.Apart.{apart}
@@ -32,10 +32,10 @@ use Rattle.double.specs.rules.Count.{IsFromZero}
 use Rattle.root.specs.rules.Root.{rootOf}
 use Rattle.root.specs.laws.Root.{root-from-zero, root-answered}
 use Rattle.root.specs.notions.Computed as root
-use Rattle.elementary_arc.specs.rules.Arctangent.{arctangentOf, bothZero}
+use Rattle.elementary_arc.specs.rules.Arctangent.{base, arctangentOf, bothZero}
 use Rattle.elementary_arc.specs.rules.Arcsine.{arcsineIn, arcsineRule}
 use Rattle.elementary_arc.specs.notions.Computed.{computed}
-use Rattle.elementary_arc.specs.laws.Arctangent.{arctangent-answered, arctangent-sign, arctangent-finite, arctangent-at-most-half}
+use Rattle.elementary_arc.specs.laws.Arctangent.{arctangent-answered, arctangent-ahead, arctangent-sign, arctangent-finite, arctangent-at-most-half}
 
 -- what the root is taken of
 abbrev square : Float → Float
@@ -47,6 +47,14 @@ arcsineOf s = arctangentOf s (rootOf (square s))
 root-of-one : NonZero (rootOf one)
 unfolding root.computed
 root-of-one = tt
+
+size-no-minus : (x : Float) → bearsMinus x ≡ false → size x ≡ x
+unfolding bearsMinus size
+size-no-minus nan h = refl
+size-no-minus (inf true) h = absurd (subst T h tt)
+size-no-minus (inf false) h = refl
+size-no-minus (fin true m e) h = absurd (subst T h tt)
+size-no-minus (fin false m e) h = refl
 
 module _ (s : Float) (h : size s ≼ one) where
   place : Between (neg one) one s
@@ -103,6 +111,22 @@ module _ (s : Float) (h : size s ≼ one) where
     where
       not-past : lt one (size s) ≡ false
       not-past = is-false (lt one (size s)) (not-lt-of-le (size s) one (rw (finite-size s) (place .finite)) finite-one h)
+
+  -- base with s's sign, since the root bears no minus sign
+  pub arcsine-by-base : arcsineIn s ≡ answered (rad (negatedIf (bearsMinus s) (base (size s) (rootOf (square s)))))
+  arcsine-by-base =
+      arcsine-answered
+      ∙ ap answered
+      (arctangent-ahead s (rootOf (square s)) (place .finite) root-finite arcsine-of-no-zeros (root-double .plus)
+      (size-no-minus (rootOf (square s)) (root-double .plus)))
+
+-- what is neither up to 1 in size nor past it is a NaN, which the root refuses
+pub arcsine-of-neither : (s : Float) → T (not (le (size s) one)) → T (not (lt one (size s))) → arcsineIn s ≡ refused 1
+unfolding computed
+arcsine-of-neither nan up past = refl
+arcsine-of-neither (inf t) up past = absurd past
+arcsine-of-neither (fin t m d) up past =
+    absurd (T-not (le (size (fin t m d)) one) up (le-of-not-lt one (size (fin t m d)) finite-one tt past))
 
 -- ---- what it answers to a finite number
 

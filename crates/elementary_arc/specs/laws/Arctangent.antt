@@ -14,7 +14,7 @@ use lib.Ieee.Fits.{and-i, eq→eqb, up-pos, down-pos, mul-fits, div-fits}
 use lib.Ieee.Bits.{is-true, is-false}
 use lib.Ieee.Positive.{positive}
 use Rattle.double.specs.rules.Operations.{zero, half, one, _⊕_, _⊖_, _⊗_, _⊘_}
-use Rattle.double.specs.rules.Sign.{bearsMinus, size, isFinite}
+use Rattle.double.specs.rules.Sign.{bearsMinus, negatedIf, size, isFinite}
 use Rattle.double.specs.rules.Order.{_≼_, isZero, Finite, Plus, Between}
 use Rattle.double.specs.rules.Table.{over}
 use Rattle.double.specs.notions.Range.{Expr, known, con, _⊞_, _⊟_, _⊠_, _⧄_, hornerExpr}
@@ -26,7 +26,7 @@ use Rattle.double.specs.laws.Order.{le→below, le-trans, le-of-not-le, neg-le}
 use Rattle.double.specs.laws.Between.{between, zero-le-plus, finite-of-plus, plus-of-positive}
 use Rattle.double.specs.laws.Interval.{bounded}
 use Rattle.double.specs.laws.NearZero.{mul-shrinks, mul-plus, add-plus, sub-plus, div-plus, div-le-one}
-use Rattle.quantity.specs.rules.Angle.{PI, HALF, QUARTER}
+use Rattle.quantity.specs.rules.Angle.{rad, PI, HALF, QUARTER}
 use Rattle.quantity.specs.declared.Rad.{Rad}
 use Rattle.quantity.specs.rules.Answer.{answered, refused}
 use Rattle.quantity.specs.laws.Steps.{refused-not-answered, same-value, same-number}
@@ -189,6 +189,11 @@ module _ (y x : Float) (p : Finite y) (q : Finite x) (n : T (not (bothZero y x))
   arctangent-sign =
       rw (turned-size)
       (minus-negated (bearsMinus y) (turned (bearsMinus x) (base (size y) (size x))) (turned-plus (bearsMinus x) (base (size y) (size x)) (base-of y x p q n)))
+
+  -- base with y's sign, where x bears no minus sign
+  pub arctangent-ahead : bearsMinus x ≡ false → size x ≡ x → arctangentOf y x ≡ rad (negatedIf (bearsMinus y) (base (size y) x))
+  unfolding arctangentOf
+  arctangent-ahead h same = rw (turned-size, h, same)
 
   pub arctangent-finite : Finite (arctangentOf y x .0)
   arctangent-finite = rw (← finite-size (arctangentOf y x .0), arctangent-size) (by-sign (bearsMinus x))
