@@ -1,9 +1,10 @@
 /*
  * Brundelak: star places, proved against written rules.
  *
- * Every function answers its status: 0, or the number of a refusal. Each number of the answer comes out through a
- * pointer of its own, after the arguments; a refused call leaves what the pointers point to unchanged. Any double may
- * be given. Pointers must be valid and distinct. No function keeps state or allocates; all may be called from any thread.
+ * Every function answers its status: 0, or the number of a refusal; enum brundelak_status names them,
+ * brundelak_sentence says what each means. Each number of the answer comes out through a pointer of its own, after the
+ * arguments; a refused call leaves what the pointers point to unchanged. Any double may be given. Pointers must be
+ * valid and distinct. No function keeps state or allocates; all may be called from any thread.
  *
  * Status
  *    0   answered
@@ -19,8 +20,9 @@
  *        cosine of the topocentric longitude
  *    7   the argument of an arcsine exceeds 1 in size
  *    8   list bytes not a multiple of 12, or more than 60000; a lent slice shorter than the star count; a place past the
- *        end of the list or not at a record's start (the end itself is accepted); a count to be raised already at 60000;
- *        a star count of a radio list above 5000; a slice too short for a radio list, a part of one or the list of one
+ *        end of the list or not at a record's start (the end itself is accepted); a record to be written elsewhere than
+ *        at one of a list's 5000 record starts, or without room; a count to be raised already at 60000; a star count of
+ *        a radio list above 5000; a slice too short for a radio list, a part of one or the list of one
  *    9   a star record out of range; a status given to the tally that is neither 0 nor a number of this table (before 8)
  *   10   no star has the number sought
  *   11   the first byte of a radio list is not 2
@@ -40,7 +42,7 @@
  * Editions: where the ported crate's rule is not Meeus's, the plain name is the crate's, by which past files reproduce, and
  * the name with _published is Meeus's, for new files. Arguments and answers are the same.
  *
- * The archive is x86-64 code; link with -lbrundelak alone: it needs nothing of libm.
+ * The archive is x86-64 code and needs nothing of libm; pkg-config brundelak says how to compile and link.
  */
 #ifndef BRUNDELAK_H
 #define BRUNDELAK_H
@@ -51,6 +53,85 @@
 #ifdef __cplusplus
 extern "C" {
 #endif
+
+#define BRUNDELAK_VERSION "0.1.0"
+#define BRUNDELAK_VERSION_MAJOR 0
+#define BRUNDELAK_VERSION_MINOR 1
+#define BRUNDELAK_VERSION_PATCH 0
+
+/* The status of brundelak_star where no star is left. */
+#define BRUNDELAK_END 255
+
+/* How many counts a tally has. */
+#define BRUNDELAK_COUNTS 20
+
+/* ---- statuses ---------------------------------------------------------------------------------------------------- */
+
+/* A status by name. The functions answer it as a uint8_t. */
+enum brundelak_status {
+    BRUNDELAK_ANSWERED = 0,
+    BRUNDELAK_REFUSAL_NOT_FINITE = 1,
+    BRUNDELAK_REFUSAL_DAY = 2,
+    BRUNDELAK_REFUSAL_ANGLE = 3,
+    BRUNDELAK_REFUSAL_STEEP = 4,
+    BRUNDELAK_REFUSAL_RANGE = 5,
+    BRUNDELAK_REFUSAL_ZERO = 6,
+    BRUNDELAK_REFUSAL_ARCSINE = 7,
+    BRUNDELAK_REFUSAL_LIST = 8,
+    BRUNDELAK_REFUSAL_RECORD = 9,
+    BRUNDELAK_REFUSAL_NO_STAR = 10,
+    BRUNDELAK_REFUSAL_FIRST_BYTE = 11,
+    BRUNDELAK_REFUSAL_SPELLING = 12,
+    BRUNDELAK_REFUSAL_END = 13,
+    BRUNDELAK_REFUSAL_NO_DIRECTION = 14,
+    BRUNDELAK_REFUSAL_NEVER_RISES = 15,
+    BRUNDELAK_REFUSAL_NEVER_SETS = 16
+};
+
+/* What a status means, as a sentence for people: also of BRUNDELAK_END, and of a number that has no name here. */
+static inline const char *brundelak_sentence(uint8_t status)
+{
+    switch (status) {
+    case BRUNDELAK_ANSWERED:
+        return "the call was answered";
+    case BRUNDELAK_REFUSAL_NOT_FINITE:
+        return "an argument is NaN or infinite";
+    case BRUNDELAK_REFUSAL_DAY:
+        return "a day is more than 730500 days from 2451545.0";
+    case BRUNDELAK_REFUSAL_ANGLE:
+        return "an angle is too large, or a latitude or declination exceeds a quarter turn";
+    case BRUNDELAK_REFUSAL_STEEP:
+        return "an angle that goes into a tangent or divides by its cosine exceeds 1.57";
+    case BRUNDELAK_REFUSAL_RANGE:
+        return "a distance, a height or the argument of a root is outside its range";
+    case BRUNDELAK_REFUSAL_ZERO:
+        return "the sine of the new inclination, or the divisor N, is zero";
+    case BRUNDELAK_REFUSAL_ARCSINE:
+        return "the argument of an arcsine exceeds 1 in size";
+    case BRUNDELAK_REFUSAL_LIST:
+        return "the list, a place in it or a lent slice has a bad length, or a radio list too many stars";
+    case BRUNDELAK_REFUSAL_RECORD:
+        return "a star record is out of range";
+    case BRUNDELAK_REFUSAL_NO_STAR:
+        return "no star has the number sought";
+    case BRUNDELAK_REFUSAL_FIRST_BYTE:
+        return "the first byte of a radio list is not 2";
+    case BRUNDELAK_REFUSAL_SPELLING:
+        return "a number of a radio list is not in its shortest length or above 32 bits";
+    case BRUNDELAK_REFUSAL_END:
+        return "a radio list is cut short, an empty one too, or has bytes over";
+    case BRUNDELAK_REFUSAL_NO_DIRECTION:
+        return "there is no direction: both arguments of an arctangent are zero";
+    case BRUNDELAK_REFUSAL_NEVER_RISES:
+        return "the star never rises: it stays below the standard altitude";
+    case BRUNDELAK_REFUSAL_NEVER_SETS:
+        return "the star never sets: it stays above the standard altitude";
+    case BRUNDELAK_END:
+        return "no star is left";
+    default:
+        return "the call was refused";
+    }
+}
 
 /* ---- elementary functions ---------------------------------------------------------------------------------------- */
 
@@ -130,12 +211,12 @@ uint8_t brundelak_limit_to_two_pi(double x, double *out);
 uint8_t brundelak_julian_cent(double day, double *out);
 
 /* The observer's place from the Earth's centre (Meeus, chapter 11).
- * Given:     lat      observer's latitude, size at most 1.57
- *            height   metres above sea level
- * Returned:  first    rho sin phi', in equatorial radii
- *            second   rho cos phi'
+ * Given:     lat       observer's latitude, size at most 1.57
+ *            height    metres above sea level
+ * Returned:  rho_sin   rho sin phi', in equatorial radii
+ *            rho_cos   rho cos phi'
  * Refusals:  1, 3, 4, 5 */
-uint8_t brundelak_rho_sin_cos_phi(double lat, double height, double *first, double *second);
+uint8_t brundelak_rho_sin_cos_phi(double lat, double height, double *rho_sin, double *rho_cos);
 
 /* ---- changes of frame (Meeus, chapter 13) ------------------------------------------------------------------------ */
 
@@ -236,76 +317,79 @@ uint8_t brundelak_asc_frm_gal(double gal_long, double gal_lat, double *out);
 /* ---- precession (Meeus, chapter 21) ------------------------------------------------------------------------------ */
 
 /* Annual precession.
- * Given:     asc, dec   right ascension, declination (size at most 1.57)
- *            day        Julian day of the new epoch
- * Returned:  first      annual precession in right ascension
- *            second     annual precession in declination
+ * Given:     asc, dec         right ascension, declination (size at most 1.57)
+ *            day              Julian day of the new epoch
+ * Returned:  precess_in_asc   annual precession in right ascension
+ *            precess_in_dec   annual precession in declination
  * Refusals:  1, 2, 3, 4 */
-uint8_t brundelak_annual_precess(double asc, double dec, double day, double *first, double *second);
+uint8_t brundelak_annual_precess(double asc, double dec, double day, double *precess_in_asc,
+                                 double *precess_in_dec);
 
 /* Equatorial coordinates (FK5) from one day to another.
  * Given:     old_asc, old_dec   right ascension, declination on day1
  *            day1, day2         Julian days
- * Returned:  first, second      right ascension (not folded), declination on day2
+ * Returned:  asc, dec           right ascension (not folded), declination on day2
  * Refusals:  1, 2, 3, then 14 (the star comes to the pole), 7
  * Note:      two signs are the ported crate's and not Meeus's: docs/DIFFERENCES.md. */
 uint8_t brundelak_precess_eq_coords(double old_asc, double old_dec, double day1, double day2,
-                                    double *first, double *second);
+                                    double *asc, double *dec);
 
 /* The same in the published edition, with Meeus's signs.
  * Given, Returned, Refusals:  as brundelak_precess_eq_coords */
 uint8_t brundelak_precess_eq_coords_published(double old_asc, double old_dec, double day1, double day2,
-                                              double *first, double *second);
+                                              double *asc, double *dec);
 
 /* Coordinates of the FK4 system from one day to another, as the ported crate has it.
  * Given:     old_asc, old_dec   right ascension, declination on day1
  *            day1, day2         Julian days
- * Returned:  first, second      right ascension, declination on day2
+ * Returned:  asc, dec           right ascension, declination on day2
  * Refusals:  1, 2, 3, then 14, 7
  * Note:      the crate takes counts of degrees as radians here: docs/DIFFERENCES.md. */
 uint8_t brundelak_precess_eq_coords_fk5(double old_asc, double old_dec, double day1, double day2,
-                                        double *first, double *second);
+                                        double *asc, double *dec);
 
 /* The same in the published edition: each angle is converted to radians.
  * Given, Returned, Refusals:  as brundelak_precess_eq_coords_fk5 */
 uint8_t brundelak_precess_eq_coords_fk5_published(double old_asc, double old_dec, double day1, double day2,
-                                                  double *first, double *second);
+                                                  double *asc, double *dec);
 
 /* Ecliptic coordinates from one day to another.
  * Given:     old_long, old_lat   ecliptic longitude, latitude on day1
  *            day1, day2          Julian days
- * Returned:  first, second       ecliptic longitude (not folded), latitude on day2
+ * Returned:  ecl_long, ecl_lat   ecliptic longitude (not folded), latitude on day2
  * Refusals:  1, 2, 3, 7 */
 uint8_t brundelak_precess_ecl_coords(double old_long, double old_lat, double day1, double day2,
-                                     double *first, double *second);
+                                     double *ecl_long, double *ecl_lat);
 
 /* Orbital elements from one day to another (Meeus, chapter 24).
  * Given:     old_inc                inclination on day1
  *            old_arg_perih          argument of perihelion on day1
  *            old_long_ascend_node   longitude of the ascending node on day1
  *            day1, day2             Julian days
- * Returned:  first, second, third   the same three on day2
+ * Returned:  inc, arg_perih, long_ascend_node
+ *                                   the same three on day2
  * Refusals:  1, 2, 3, then 7 (new inclination), 6 (its sine is zero), 7 (the change of the perihelion) */
 uint8_t brundelak_precess_orb_elements(double old_inc, double old_arg_perih, double old_long_ascend_node,
-                                       double day1, double day2, double *first, double *second, double *third);
+                                       double day1, double day2, double *inc, double *arg_perih,
+                                       double *long_ascend_node);
 
 /* ---- nutation (Meeus, chapters 22 and 23) ------------------------------------------------------------------------ */
 
 /* Nutation.
- * Given:     day      Julian day
- * Returned:  first    nutation in longitude
- *            second   nutation in obliquity
+ * Given:     day           Julian day
+ * Returned:  nut_in_long   nutation in longitude
+ *            nut_in_oblq   nutation in obliquity
  * Refusals:  1, 2 */
-uint8_t brundelak_nutation(double day, double *first, double *second);
+uint8_t brundelak_nutation(double day, double *nut_in_long, double *nut_in_oblq);
 
 /* Nutation in equatorial coordinates.
  * Given:     asc, dec                   right ascension, declination (size at most 1.57)
  *            nut_in_long, nut_in_oblq   nutation in longitude, in obliquity
  *            tru_oblq                   obliquity of the ecliptic
- * Returned:  first, second              nutation in right ascension, in declination
+ * Returned:  nut_in_asc, nut_in_dec     nutation in right ascension, in declination
  * Refusals:  1, 3, 4 */
 uint8_t brundelak_nutation_in_eq_coords(double asc, double dec, double nut_in_long, double nut_in_oblq,
-                                        double tru_oblq, double *first, double *second);
+                                        double tru_oblq, double *nut_in_asc, double *nut_in_dec);
 
 /* ---- aberration (Meeus, chapters 23 and 25) ---------------------------------------------------------------------- */
 
@@ -316,11 +400,12 @@ uint8_t brundelak_nutation_in_eq_coords(double asc, double dec, double nut_in_lo
 uint8_t brundelak_sol_aberr(double dist, double *out);
 
 /* Stellar aberration in equatorial coordinates (Ron and Vondrak).
- * Given:     asc, dec        right ascension, declination (size at most 1.57)
- *            day             Julian day
- * Returned:  first, second   aberration in right ascension, in declination
+ * Given:     asc, dec                     right ascension, declination (size at most 1.57)
+ *            day                          Julian day
+ * Returned:  aberr_in_asc, aberr_in_dec   aberration in right ascension, in declination
  * Refusals:  1, 2, 3, 4 */
-uint8_t brundelak_stell_aberr_in_eq_coords(double asc, double dec, double day, double *first, double *second);
+uint8_t brundelak_stell_aberr_in_eq_coords(double asc, double dec, double day, double *aberr_in_asc,
+                                           double *aberr_in_dec);
 
 /* ---- parallax (Meeus, chapter 40) -------------------------------------------------------------------------------- */
 
@@ -331,30 +416,32 @@ uint8_t brundelak_stell_aberr_in_eq_coords(double asc, double dec, double day, d
 uint8_t brundelak_eq_hz_parallax(double dist, double *out);
 
 /* Topocentric equatorial coordinates.
- * Given:     asc, dec        geocentric right ascension, declination
- *            parallax        equatorial horizontal parallax
- *            long_, lat      observer's longitude, latitude (size at most 1.57)
- *            height          metres above sea level
- *            sidereal        sidereal time at Greenwich
- * Returned:  first, second   topocentric right ascension, declination
+ * Given:     asc, dec     geocentric right ascension, declination
+ *            parallax     equatorial horizontal parallax
+ *            long_, lat   observer's longitude, latitude (size at most 1.57)
+ *            height       metres above sea level
+ *            sidereal     sidereal time at Greenwich
+ * Returned:  topocent_asc, topocent_dec
+ *                         topocentric right ascension, declination
  * Refusals:  1, 3, 4, 5, 14 */
 uint8_t brundelak_topocent_eq_coords(double asc, double dec, double parallax, double long_, double lat, double height,
-                                     double sidereal, double *first, double *second);
+                                     double sidereal, double *topocent_asc, double *topocent_dec);
 
 /* Topocentric ecliptic coordinates and semidiameter.
- * Given:     ecl_long, ecl_lat      geocentric ecliptic longitude, latitude
- *            parallax               equatorial horizontal parallax
- *            long_, lat             observer's longitude (not used, refused all the same), latitude (size at most 1.57)
- *            height                 metres above sea level
- *            sidereal               local sidereal time
- *            oblq                   obliquity of the ecliptic
- *            semidiameter           geocentric semidiameter
- * Returned:  first, second, third   topocentric longitude (0 to 2 PI), latitude, semidiameter
+ * Given:     ecl_long, ecl_lat   geocentric ecliptic longitude, latitude
+ *            parallax            equatorial horizontal parallax
+ *            long_, lat          observer's longitude (not used, refused all the same), latitude (size at most 1.57)
+ *            height              metres above sea level
+ *            sidereal            local sidereal time
+ *            oblq                obliquity of the ecliptic
+ *            semidiameter        geocentric semidiameter
+ * Returned:  topocent_long, topocent_lat, topocent_semidiameter
+ *                                topocentric longitude (0 to 2 PI), latitude, semidiameter
  * Refusals:  1, 3, 4, 5, then 6 (N is zero), 7
  * Note:      for N < 0 the latitude lies beyond the pole, as in the ported crate: docs/DIFFERENCES.md. */
 uint8_t brundelak_topopcent_ecl_coords(double ecl_long, double ecl_lat, double parallax, double long_, double lat,
                                        double height, double sidereal, double oblq, double semidiameter,
-                                       double *first, double *second, double *third);
+                                       double *topocent_long, double *topocent_lat, double *topocent_semidiameter);
 
 /* The same in the published edition: Meeus's latitude, which for N < 0 too lies on this side of the pole, and the
  * semidiameter by it.
@@ -362,7 +449,8 @@ uint8_t brundelak_topopcent_ecl_coords(double ecl_long, double ecl_lat, double p
  * Refusals:         1, 3, 4, 5, then 6 (N is zero), 6 (the cosine of the topocentric longitude is zero), 7 */
 uint8_t brundelak_topopcent_ecl_coords_published(double ecl_long, double ecl_lat, double parallax, double long_, double lat,
                                                  double height, double sidereal, double oblq, double semidiameter,
-                                                 double *first, double *second, double *third);
+                                                 double *topocent_long, double *topocent_lat,
+                                                 double *topocent_semidiameter);
 
 /* ---- rise, culmination and set (Meeus, chapter 15) --------------------------------------------------------------- */
 
@@ -409,16 +497,17 @@ uint8_t brundelak_plan_alt(double true_alt, double *out);
 /* ---- the chain --------------------------------------------------------------------------------------------------- */
 
 /* A star's place from one day to another: precession, then nutation and aberration at the precessed point.
- * Given:     asc, dec        right ascension, declination on day1
- *            day1, day2      Julian days
- * Returned:  first, second   right ascension (not folded), declination on day2
+ * Given:     old_asc, old_dec   right ascension, declination on day1
+ *            day1, day2         Julian days
+ * Returned:  asc, dec           right ascension (not folded), declination on day2
  * Refusals:  1, 2, 3, then 14 and 7 (precession), then 4 on the precessed declination
  * Note:      the obliquity is the true one on day2; files made by the mean one differ as docs/DIFFERENCES.md shows. */
-uint8_t brundelak_chain(double asc, double dec, double day1, double day2, double *first, double *second);
+uint8_t brundelak_chain(double old_asc, double old_dec, double day1, double day2, double *asc, double *dec);
 
 /* The same in the published edition: precession has Meeus's signs.
  * Given, Returned, Refusals:  as brundelak_chain */
-uint8_t brundelak_chain_published(double asc, double dec, double day1, double day2, double *first, double *second);
+uint8_t brundelak_chain_published(double old_asc, double old_dec, double day1, double day2, double *asc,
+                                  double *dec);
 
 /* ---- the stored list ---------------------------------------------------------------------------------------------
  * A list is at most 5000 records of 12 bytes, little-endian: number (uint32), right ascension in milliarcseconds
@@ -429,10 +518,20 @@ uint8_t brundelak_chain_published(double asc, double dec, double day1, double da
  *            place              a multiple of 12, at most len
  * Returned:  number, asc, dec   the record's fields
  *            next               the place after it
- * Status:    0, or 255 where none is left (nothing is written)
+ * Status:    0, or BRUNDELAK_END where none is left (nothing is written)
  * Refusals:  8 */
 uint8_t brundelak_star(const uint8_t *bytes, size_t len, size_t place, uint32_t *number, uint32_t *asc, int32_t *dec,
                        size_t *next);
+
+/* A star written as a record: stars written one after the other from place 0 on are a list, which ends at the last next.
+ * Given:     out, len           a slice of any length
+ *            place              where in it the record begins: a multiple of 12, below 60000
+ *            number, asc, dec   the star's fields
+ * Returned:  out                the record from place on; all else stays
+ *            next               the place after it
+ * Refusals:  9 (out of range), then 8 (no record of a list begins there, or no room); the slice stays unchanged */
+uint8_t brundelak_put_star(uint8_t *out, size_t len, size_t place, uint32_t number, uint32_t asc, int32_t dec,
+                           size_t *next);
 
 /* The first star with a number.
  * Given:     bytes, len   the list
@@ -450,7 +549,7 @@ uint8_t brundelak_find(const uint8_t *bytes, size_t len, uint32_t number, size_t
  *            dec, dec_len          likewise
  * Returned:  status[i]             0, or star i's refusal: 4, 7, 14, or 9 for a record out of range
  *            asc[i], dec[i]        star i's place on day2; 0.0 and 0.0 where it is refused; places past the stars stay
- *            tally                 20 counts: how many stars have status 0, 1, .. 19
+ *            tally                 BRUNDELAK_COUNTS counts: how many stars have status 0, 1, .. 19
  * Refusals:  1, 2, then 8; all that is lent stays unchanged */
 uint8_t brundelak_batch(const uint8_t *bytes, size_t len, double day1, double day2, uint8_t *status, size_t status_len,
                         double *asc, size_t asc_len, double *dec, size_t dec_len, uint32_t *tally);
@@ -463,7 +562,7 @@ uint8_t brundelak_batch_published(const uint8_t *bytes, size_t len, double day1,
 
 /* One status counted in a tally.
  * Given:     status   0, or a refusal number up to 16
- *            tally    20 counts
+ *            tally    BRUNDELAK_COUNTS counts
  * Returned:  tally    the count of that status raised by one
  * Refusals:  9 for a status that is not known, then 8 for a count that is full, 60000; the counts stay unchanged */
 uint8_t brundelak_tally_raise(uint8_t status, uint32_t *tally);

@@ -1,4 +1,4 @@
-/* Seven functions, each put in the place of the archive's by the linker, with one slip of the boundary: fuzz must report each. */
+/* Eight functions, each put in the place of the archive's by the linker, with one slip of the boundary: fuzz must report each. */
 #include "brundelak.h"
 
 uint8_t __real_brundelak_root(double x, double *out);
@@ -6,6 +6,7 @@ uint8_t __real_brundelak_find(const uint8_t *bytes, size_t len, uint32_t number,
 uint8_t __real_brundelak_batch(const uint8_t *bytes, size_t len, double day1, double day2, uint8_t *status, size_t status_len,
                                double *asc, size_t asc_len, double *dec, size_t dec_len, uint32_t *tally);
 uint8_t __real_brundelak_tally_raise(uint8_t status, uint32_t *tally);
+uint8_t __real_brundelak_put_star(uint8_t *out, size_t len, size_t place, uint32_t number, uint32_t asc, int32_t dec, size_t *next);
 uint8_t __real_brundelak_radio_star(const uint8_t *bytes, size_t len, size_t place, uint32_t *number, uint32_t *asc, int32_t *dec,
                                     size_t *next);
 uint8_t __real_brundelak_radio_to_list(const uint8_t *bytes, size_t len, uint8_t *out, size_t out_len, size_t *written);
@@ -15,6 +16,7 @@ uint8_t __wrap_brundelak_radio_star(const uint8_t *bytes, size_t len, size_t pla
 uint8_t __wrap_brundelak_radio_to_list(const uint8_t *bytes, size_t len, uint8_t *out, size_t out_len, size_t *written);
 uint8_t __wrap_brundelak_list_to_radio(const uint8_t *bytes, size_t len, uint8_t *out, size_t out_len, size_t *written);
 uint8_t __wrap_brundelak_tally_raise(uint8_t status, uint32_t *tally);
+uint8_t __wrap_brundelak_put_star(uint8_t *out, size_t len, size_t place, uint32_t number, uint32_t asc, int32_t dec, size_t *next);
 uint8_t __wrap_brundelak_root(double x, double *out);
 uint8_t __wrap_brundelak_find(const uint8_t *bytes, size_t len, uint32_t number, size_t *index, uint32_t *asc, int32_t *dec);
 uint8_t __wrap_brundelak_batch(const uint8_t *bytes, size_t len, double day1, double day2, uint8_t *status, size_t status_len,
@@ -124,6 +126,19 @@ uint8_t __wrap_brundelak_list_to_radio(const uint8_t *bytes, size_t len, uint8_t
 #elif SLIP == 18 /* a byte past the slice */
     if (status == 0 && *written == out_len)
         out[out_len] = 0;
+#endif
+    return status;
+}
+
+uint8_t __wrap_brundelak_put_star(uint8_t *out, size_t len, size_t place, uint32_t number, uint32_t asc, int32_t dec, size_t *next)
+{
+    uint8_t status = __real_brundelak_put_star(out, len, place, number, asc, dec, next);
+#if SLIP == 19 /* a record begun though it has no room */
+    if (status == 8 && place < len)
+        out[place] = (uint8_t)number;
+#elif SLIP == 20 /* the place of the record in place of the one after it */
+    if (status == 0)
+        *next = place;
 #endif
     return status;
 }

@@ -168,8 +168,8 @@ static void fault(int signal)
 
 /* ---- calls ---- */
 
-/* star, find, both batches, tally_raise and those of radio lists stand behind the functions of numbers. */
-enum { KINDS = FUNCTION_COUNT + 12 };
+/* star, find, both batches, tally_raise, put_star and those of radio lists stand behind the functions of numbers. */
+enum { KINDS = FUNCTION_COUNT + 13 };
 static uint64_t answered[KINDS], refused[KINDS], unsound;
 static size_t which;
 
@@ -251,7 +251,7 @@ static void star(void)
     if (below(2) == 0)
         place -= place % 12;
     uint8_t status = brundelak_star(bytes.at, len, place, lend(&words[0], 4), lend(&words[1], 4), lend(&words[2], 4), lend(&words[3], sizeof(size_t)));
-    uint8_t expected = bad_list(len) || place > len || place % 12 != 0 ? 8 : place == len ? 255 : 0;
+    uint8_t expected = bad_list(len) || place > len || place % 12 != 0 ? 8 : place == len ? BRUNDELAK_END : 0;
     int sound = status == expected && kept(&bytes);
     for (size_t i = 0; i < 4; i++)
         sound &= status == 0 ? kept_beyond(&words[i], words[i].len) : kept(&words[i]);
@@ -282,6 +282,9 @@ static void find(void)
     judge(status, sound);
 }
 
+/* Bytes of a tally. */
+enum { TALLY = sizeof(uint32_t[BRUNDELAK_COUNTS]) };
+
 /* The length of a lent slice: exact, longer, or too short. */
 static size_t length(size_t stars)
 {
@@ -298,7 +301,7 @@ static void batch_by(batch_call *call)
     args[1] = any_day();
     uint8_t *status_of = lend(&statuses, lens[0]);
     double *asc = lend(&ascs, 8 * lens[1]), *dec = lend(&decs, 8 * lens[2]);
-    uint32_t *counts = lend(&tally, 80), sum = 0;
+    uint32_t *counts = lend(&tally, TALLY), sum = 0;
     uint8_t status = call(bytes.at, len, args[0], args[1], status_of, lens[0], asc, lens[1], dec, lens[2], counts);
     int bad = bad_list(len) || lens[0] < stars || lens[1] < stars || lens[2] < stars;
     int sound = kept(&bytes) && (status <= 2 || status == 8) && (status == 1 || status == 2 || (status == 8) == bad);
@@ -306,12 +309,12 @@ static void batch_by(batch_call *call)
         judge(status, sound && kept(&statuses) && kept(&ascs) && kept(&decs) && kept(&tally));
         return;
     }
-    sound &= kept_beyond(&statuses, stars) && kept_beyond(&ascs, 8 * stars) && kept_beyond(&decs, 8 * stars) && kept_beyond(&tally, 80);
+    sound &= kept_beyond(&statuses, stars) && kept_beyond(&ascs, 8 * stars) && kept_beyond(&decs, 8 * stars) && kept_beyond(&tally, TALLY);
     for (size_t i = 0; i < stars; i++) {
         sound &= status_of[i] == 0 ? isfinite(asc[i]) && isfinite(dec[i]) : asc[i] == 0.0 && dec[i] == 0.0;
         sound &= status_of[i] == 0 || status_of[i] == 4 || status_of[i] == 7 || status_of[i] == 9 || status_of[i] == 14;
     }
-    for (size_t i = 0; i < 20; i++)
+    for (size_t i = 0; i < BRUNDELAK_COUNTS; i++)
         sum += counts[i];
     judge(status, sound && sum == stars);
 }
@@ -332,15 +335,15 @@ static void tally_raise(void)
 {
     name = "tally_raise";
     uint8_t of = (uint8_t)(below(2) ? below(20) : bits());
-    uint32_t *counts = lend(&tally, 80), before[20];
-    for (size_t i = 0; i < 20; i++)
+    uint32_t *counts = lend(&tally, TALLY), before[BRUNDELAK_COUNTS];
+    for (size_t i = 0; i < BRUNDELAK_COUNTS; i++)
         counts[i] = below(2) ? (uint32_t)below(60002) : (uint32_t)bits();
     given(&tally);
     memcpy(before, counts, sizeof before);
-    uint8_t status = brundelak_tally_raise(of, counts), want = of > 16 ? 9 : before[of % 20] >= 60000 ? 8 : 0;
+    uint8_t status = brundelak_tally_raise(of, counts), want = of > 16 ? 9 : before[of % BRUNDELAK_COUNTS] >= 60000 ? 8 : 0;
     if (want == 0)
         before[of]++;
-    judge(status, status == want && memcmp(before, counts, sizeof before) == 0 && (status == 0 ? kept_beyond(&tally, 80) : kept(&tally)));
+    judge(status, status == want && memcmp(before, counts, sizeof before) == 0 && (status == 0 ? kept_beyond(&tally, TALLY) : kept(&tally)));
 }
 
 /* ---- radio lists ---- */
@@ -503,6 +506,24 @@ static void radio_put_star(void)
     judge(status, status == (!in_range(asc, dec) ? 9 : !fits(size, place, len) ? 8 : 0) && wrote(status, place, size));
 }
 
+/* Read again, it is the star. */
+static void put_star(void)
+{
+    name = "put_star";
+    uint32_t number = any_number(), asc = any_number(), back_number = 0, back_asc = 0;
+    int32_t dec = (int32_t)(any_number() ^ (uint32_t)-(int32_t)below(2)), back_dec = 0;
+    size_t end = below(8) == 0 ? 59988 + 12 * below(3) : 12 * below(6), len = end + below(24), next = 0;
+    size_t place = below(4) == 0 ? any_place(len) : end;
+    lend(&slice, len);
+    uint8_t status = brundelak_put_star(slice.at, len, place, number, asc, dec, lend(&words[3], sizeof(size_t)));
+    int begins = place % 12 == 0 && place < 60000;
+    int sound = status == (!in_range(asc, dec) ? 9 : !begins || !fits(12, place, len) ? 8 : 0) && wrote(status, place, 12);
+    if (status == 0)
+        sound &= brundelak_star(slice.at, place + 12, place, &back_number, &back_asc, &back_dec, &next) == 0
+            && back_number == number && back_asc == asc && back_dec == dec && next == place + 12;
+    judge(status, sound);
+}
+
 /* The length of a slice that size bytes go into: exact, longer, too short, or any. */
 static size_t any_length(size_t size)
 {
@@ -609,14 +630,14 @@ int main(int argc, char **argv)
     make(&statuses, 5100);
     make(&ascs, 8 * 5100);
     make(&decs, 8 * 5100);
-    make(&tally, 80);
+    make(&tally, TALLY);
     try_the_guard();
     signal(SIGSEGV, fault);
     signal(SIGBUS, fault);
     signal(SIGFPE, fault);
     static void (*const others[KINDS - FUNCTION_COUNT])(void) = {
-        star, find, batch, batch_published, tally_raise, radio_open, radio_star, radio_accept, radio_put_head, radio_put_star, radio_to_list,
-        list_to_radio};
+        star, find, batch, batch_published, tally_raise, put_star, radio_open, radio_star, radio_accept, radio_put_head, radio_put_star,
+        radio_to_list, list_to_radio};
     for (at_call = 0; at_call < calls; at_call++) {
         which = below(KINDS);
         memset(args, 0, sizeof args);

@@ -100,7 +100,7 @@ static unsigned batch(batch_call *call)
     size_t stars = list_len / 12;
     uint8_t statuses[ROOM], want_statuses[ROOM];
     double asc[ROOM], dec[ROOM], want_asc[ROOM], want_dec[ROOM];
-    uint32_t tally[20], want_tally[20], raised[20] = {0};
+    uint32_t tally[BRUNDELAK_COUNTS], want_tally[BRUNDELAK_COUNTS], raised[BRUNDELAK_COUNTS] = {0};
     double day1 = number(strtok(NULL, " \n")), day2 = number(strtok(NULL, " \n"));
     unsigned status = (unsigned)whole();
     memset(statuses, 0xA5, sizeof statuses);
@@ -115,7 +115,7 @@ static unsigned batch(batch_call *call)
         memset(want_tally, 0, sizeof want_tally);
         for (size_t i = 0; i < stars; i++) {
             want_statuses[i] = (uint8_t)whole();
-            want_tally[want_statuses[i] % 20]++;
+            want_tally[want_statuses[i] % BRUNDELAK_COUNTS]++;
             want_asc[i] = want_statuses[i] == 0 ? number(strtok(NULL, " \n")) : 0.0;
             want_dec[i] = want_statuses[i] == 0 ? number(strtok(NULL, " \n")) : 0.0;
         }
@@ -169,6 +169,8 @@ static unsigned radio_accept(void)
     return agrees && count == (status == 0 ? (uint32_t)whole() : UNTOUCHED) ? status : 999;
 }
 
+typedef uint8_t put_call(uint8_t *, size_t, size_t, uint32_t, uint32_t, int32_t, size_t *);
+
 /* A call that writes into a slice: its name tells which. */
 static unsigned written(const char *name)
 {
@@ -184,11 +186,12 @@ static unsigned written(const char *name)
         place = (size_t)whole();
         given[0] = (uint32_t)whole();
         got = brundelak_radio_put_head(slice, len, place, given[0], &after);
-    } else if (strcmp(name, "radio_put_star") == 0) {
+    } else if (strcmp(name, "put_star") == 0 || strcmp(name, "radio_put_star") == 0) {
+        put_call *call = name[0] == 'p' ? brundelak_put_star : brundelak_radio_put_star;
         place = (size_t)whole();
         for (size_t i = 0; i < 3; i++)
             given[i] = (uint32_t)whole();
-        got = brundelak_radio_put_star(slice, len, place, given[0], given[1], (int32_t)given[2], &after);
+        got = call(slice, len, place, given[0], given[1], (int32_t)given[2], &after);
     } else if (strcmp(name, "radio_to_list") == 0) {
         got = brundelak_radio_to_list(list, list_len, slice, len, &after);
     } else {
@@ -242,7 +245,7 @@ int main(void)
             status = radio_star();
         } else if (strcmp(word, "radio_accept") == 0) {
             status = radio_accept();
-        } else if (strncmp(word, "radio_", 6) == 0 || strcmp(word, "list_to_radio") == 0) {
+        } else if (strncmp(word, "radio_", 6) == 0 || strcmp(word, "list_to_radio") == 0 || strcmp(word, "put_star") == 0) {
             status = written(word);
         } else {
             size_t given_count = numbers(word, given, 9);

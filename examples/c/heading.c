@@ -6,12 +6,12 @@
 /* Degrees of one radian. */
 static const double DEGREES = 57.29577951308232;
 
-/* Says what a call answered; 0 where it was refused. */
+/* Whether a call was answered; says why it was not. */
 static int answered(const char *call, uint8_t status)
 {
-    if (status != 0)
-        printf("%s refused by %u\n", call, (unsigned)status);
-    return status == 0;
+    if (status != BRUNDELAK_ANSWERED)
+        printf("%s refused by %u: %s\n", call, (unsigned)status, brundelak_sentence(status));
+    return status == BRUNDELAK_ANSWERED;
 }
 
 /* True heading from north, clockwise, altitude, and the altitude at which refraction shows it, in degrees, of a star of J2000 at
@@ -52,5 +52,5 @@ int main(void)
     status = brundelak_az_frm_eq(0.5, 1.5705, latitude, &untouched);
     answered("azimuth at declination 1.5705", status);
     printf("still %.2f\n", untouched);
-    return status == 4 && untouched == 0.25 ? 0 : 1;
+    return status == BRUNDELAK_REFUSAL_STEEP && untouched == 0.25 ? 0 : 1;
 }

@@ -3,6 +3,7 @@
 use aimed;
 use functions::Outcome;
 use inputs::{self, Random};
+use put::{compare_put, hex, put_told, room, Answer};
 use table::{refuses, Sort};
 use written;
 use Count;
@@ -32,6 +33,7 @@ batches! { brundelak_batch brundelak_batch_published }
 
 extern "C" {
     fn brundelak_star(bytes: *const u8, len: usize, place: usize, number: *mut u32, asc: *mut u32, dec: *mut i32, next: *mut usize) -> u8;
+    fn brundelak_put_star(out: *mut u8, len: usize, place: usize, number: u32, asc: u32, dec: i32, next: *mut usize) -> u8;
     fn brundelak_find(bytes: *const u8, len: usize, number: u32, index: *mut usize, asc: *mut u32, dec: *mut i32) -> u8;
     fn brundelak_tally_raise(status: u8, tally: *mut u32) -> u8;
 }
@@ -92,6 +94,17 @@ fn star(bytes: &[u8], place: usize) -> (u8, Option<(Record, usize)>) {
     } else {
         (0, Some((Record::at(bytes, place), place + 12)))
     }
+}
+
+/// What is written for a star: 9, then 8 for a place at which no record of a list begins.
+fn record_text(one: &Record, place: usize) -> Answer<Vec<u8>> {
+    if !one.in_range() {
+        return Err(9);
+    }
+    if place % 12 != 0 || place / 12 >= 5000 {
+        return Err(8);
+    }
+    Ok(one.bytes())
 }
 
 fn find(bytes: &[u8], number: u32) -> (u8, Option<(usize, Record)>) {
@@ -195,6 +208,16 @@ fn a_place(r: &mut Random, bytes: &[u8]) -> usize {
     }
 }
 
+/// A place to write at: most often a record's start.
+fn a_start(r: &mut Random) -> usize {
+    match r.below(8) {
+        0 => [!0, !0 - 3, !0 - 11, 1 << 63][r.below(4)],
+        1 => [59976, 59988, 59999, 60000, 60012][r.below(5)],
+        2 => r.below(40),
+        _ => 12 * r.below(6),
+    }
+}
+
 /// A number to be sought.
 fn a_number(r: &mut Random, bytes: &[u8]) -> u32 {
     match r.below(4) {
@@ -217,6 +240,15 @@ fn compare_star(r: &mut Random, bytes: &[u8], count: &mut Count) {
     count.tell(status, agrees, || format!("star: place {} of {:?}", place, bytes));
 }
 
+fn compare_put_star(r: &mut Random, count: &mut Count) {
+    let (one, place) = (record(r, 24, 2451545.0, 2462088.69), a_start(r));
+    let text = record_text(&one, place);
+    let len = room(r, place, &text);
+    compare_put("put_star", text, len, place, count, |out, next| unsafe {
+        brundelak_put_star(out, len, place, one.number, one.asc, one.dec, next)
+    });
+}
+
 fn compare_find(r: &mut Random, bytes: &[u8], count: &mut Count) {
     let number = a_number(r, bytes);
     let (expected, found) = find(bytes, number);
@@ -233,7 +265,7 @@ fn lent<T: Copy>(len: usize, fill: T) -> Vec<T> {
 }
 
 /// The length of a lent slice.
-fn room(r: &mut Random, stars: usize) -> usize {
+fn places(r: &mut Random, stars: usize) -> usize {
     match r.below(24) {
         0 => stars.saturating_sub(1),
         1 => 0,
@@ -305,12 +337,13 @@ fn compare_raise(r: &mut Random, count: &mut Count) {
     count.tell(answer, answer == expected && got == want, || format!("tally_raise: status {}, {:?} for {:?}", status, got, want));
 }
 
-/// n lists, a star of each shown, one sought, and each in a batch. Answers the number of calls and of those that differ.
+/// n lists, stars of each shown and sought, as many written, and each in a batch. Answers the number of calls and of those that differ.
 pub fn compare(n: u64) -> (u64, u64) {
     let mut r = Random(::SEED);
     let (mut stars, mut finds, mut batches, mut statuses) = (Count::new(), Count::new(), Count::new(), Count::new());
     let (mut published, mut published_statuses) = (Count::new(), Count::new());
-    let mut raises = Count::new();
+    let (mut raises, mut puts) = (Count::new(), Count::new());
+    let mut writer = Random(::SEED);
     let mut both = (2451545.0, 2462088.69);
     for i in 0..n {
         both = days(&mut r, both);
@@ -319,11 +352,12 @@ pub fn compare(n: u64) -> (u64, u64) {
             compare_star(&mut r, &bytes, &mut stars);
             compare_find(&mut r, &bytes, &mut finds);
             compare_raise(&mut r, &mut raises);
+            compare_put_star(&mut writer, &mut puts);
         }
         // A star costs some hundred thousand instructions on either side.
         if i % 4 == 0 {
             let stars = bytes.len() / 12;
-            let lens = [room(&mut r, stars), room(&mut r, stars), room(&mut r, stars)];
+            let lens = [places(&mut r, stars), places(&mut r, stars), places(&mut r, stars)];
             compare_batch(&CRATE, &bytes, lens, both, &mut batches, &mut statuses);
             compare_batch(&PUBLISHED, &bytes, lens, both, &mut published, &mut published_statuses);
         }
@@ -346,6 +380,7 @@ pub fn compare(n: u64) -> (u64, u64) {
     println!("{}", published.line("batch_published"));
     println!("{}", published_statuses.line("stars of those"));
     println!("{}", raises.line("tally_raise"));
+    println!("{}", puts.line("put_star"));
     let met = |c: &Count, numbers: &[usize]| numbers.iter().all(|&k| c.by[k] > 0);
     let all = met(&stars, &[0, 8, 255])
         && met(&finds, &[0, 8, 9, 10])
@@ -353,15 +388,18 @@ pub fn compare(n: u64) -> (u64, u64) {
         && met(&statuses, &[0, 4, 7, 9, 14])
         && met(&published, &[0, 1, 2, 8])
         && met(&published_statuses, &[0, 4, 9])
-        && met(&raises, &[0, 8, 9]);
+        && met(&raises, &[0, 8, 9])
+        && met(&puts, &[0, 8, 9]);
     if !all {
         println!("lists: a refusal that was never met");
     }
-    let calls = stars.calls + finds.calls + batches.calls + published.calls + raises.calls;
-    (calls, stars.differing + finds.differing + batches.differing + published.differing + raises.differing + !all as u64)
+    let (calls, differing) = [stars, finds, batches, published, raises, puts]
+        .iter()
+        .fold((0, 0), |t, c| (t.0 + c.calls, t.1 + c.differing));
+    (calls, differing + !all as u64)
 }
 
-/// The sample's lists: of each some stars shown, some sought, and all in a batch.
+/// The sample's lists: of each some stars shown, some sought, and all in a batch; then as many stars written.
 pub fn sample(n: u64) {
     println!("# A list in hexadecimal, then calls on it: star PLACE = status, number, right ascension, declination, next place;");
     println!("# find NUMBER = status, index, right ascension, declination; batch DAY DAY = status, each star's status, angles if it is 0; batch_published alike.");
@@ -370,8 +408,7 @@ pub fn sample(n: u64) {
     for _ in 0..n {
         both = days(&mut r, both);
         let bytes = list(&mut r, both.0, both.1);
-        let digits: String = bytes.iter().map(|b| format!("{:02x}", b)).collect();
-        println!("list {}", digits);
+        println!("list {}", hex(&bytes));
         for _ in 0..4 {
             let place = a_place(&mut r, &bytes);
             let (status, shown) = star(&bytes, place);
@@ -391,5 +428,14 @@ pub fn sample(n: u64) {
             }
             println!("{}{} = {}{}", edition.name, ::hex(&[both.0, both.1]), status, answer);
         }
+    }
+    println!("# put_star LENGTH PLACE NUMBER ASC DEC = status, what is written into a slice of so many bytes.");
+    let mut r = Random(::SEED);
+    for _ in 0..n {
+        let one = record(&mut r, 24, 2451545.0, 2462088.69);
+        let place = if r.below(4) == 0 { r.below(40) } else { 12 * r.below(6) };
+        let text = record_text(&one, place);
+        let len = room(&mut r, place, &text);
+        println!("put_star {} {} {} {} {} = {}", len, place, one.number, one.asc, one.dec, put_told(text, len, place));
     }
 }

@@ -13,6 +13,7 @@ mod inputs;
 mod lists;
 mod port;
 mod published;
+mod put;
 mod radio;
 mod table;
 mod transit;

@@ -1,6 +1,7 @@
 //! Lists over the radio link: document 02's request (i) written a second time, and the port's reader, writer and movers compared with it.
 use inputs::Random;
 use lists::{bad_list, Record};
+use put::{compare_put, hex, put_told, room, status_of, told, Answer};
 use std::cmp;
 use Count;
 
@@ -15,9 +16,6 @@ extern "C" {
 }
 
 // ---- request (i)
-
-/// What is answered, or the number of the refusal.
-type Answer<T> = Result<T, u8>;
 
 /// A number in as many groups as its bits need.
 fn groups(n: u32) -> Vec<u8> {
@@ -127,15 +125,6 @@ fn to_radio(bytes: &[u8]) -> Answer<Vec<u8>> {
         radio.extend(star_bytes(&Record::at(bytes, 12 * i))?);
     }
     Ok(radio)
-}
-
-/// The text that a slice of some length gets from a place on: 8 where it has no room, after its own refusal.
-fn with_room(text: Answer<Vec<u8>>, len: usize, place: usize) -> Answer<Vec<u8>> {
-    let text = text?;
-    match place.checked_add(text.len()) {
-        Some(end) if end <= len => Ok(text),
-        _ => Err(8),
-    }
 }
 
 // ---- inputs
@@ -250,23 +239,7 @@ fn a_place(r: &mut Random, bytes: &[u8]) -> usize {
     }
 }
 
-/// The length of a slice that a text goes into: exact, too short, or longer.
-fn room(r: &mut Random, place: usize, text: &Answer<Vec<u8>>) -> usize {
-    let exact = place.saturating_add(text.as_ref().map(|t| t.len()).unwrap_or(20));
-    let exact = if exact > 100000 { 20 } else { exact };
-    match r.below(8) {
-        0 => exact.saturating_sub(1),
-        1 => r.below(exact + 1),
-        2 | 3 => exact + r.below(9),
-        _ => exact,
-    }
-}
-
 // ---- the comparison
-
-fn status_of<T>(answer: &Answer<T>) -> u8 {
-    answer.as_ref().err().map_or(0, |&n| n)
-}
 
 fn compare_open(bytes: &[u8], count: &mut Count) {
     let expected = open(bytes);
@@ -294,25 +267,6 @@ fn compare_accept(bytes: &[u8], count: &mut Count) {
     let status = unsafe { brundelak_radio_accept(bytes.as_ptr(), bytes.len(), &mut got) };
     let agrees = status == status_of(&expected) && got == expected.unwrap_or(0xA5A5A5A5);
     count.tell(status, agrees, || format!("radio_accept: {} for {:?}, {:?}", got, expected, bytes));
-}
-
-/// A call that writes into a slice of some length from a place on, eight bytes on either side of it. No two bytes beside each other are
-/// the same before it.
-fn compare_put<F>(name: &str, text: Answer<Vec<u8>>, len: usize, place: usize, count: &mut Count, call: F)
-where
-    F: FnOnce(*mut u8, *mut usize) -> u8,
-{
-    let expected = with_room(text, len, place);
-    let mut want: Vec<u8> = (0..len + 16).map(|i| 0xA5 ^ i as u8).collect();
-    let mut got = (want.clone(), 0x1234567);
-    let status = call(unsafe { got.0.as_mut_ptr().offset(8) }, &mut got.1);
-    let mut after = 0x1234567;
-    if let Ok(ref t) = expected {
-        want[8 + place..8 + place + t.len()].copy_from_slice(t);
-        after = place + t.len();
-    }
-    let agrees = status == status_of(&expected) && got == (want, after);
-    count.tell(status, agrees, || format!("{}: status {}, {:?} for {:?}, place {} of {}", name, status, got, expected, place, len));
 }
 
 fn compare_put_head(r: &mut Random, count: &mut Count) {
@@ -428,22 +382,6 @@ pub fn compare(n: u64) -> (u64, u64) {
 }
 
 // ---- the sample
-
-fn hex(bytes: &[u8]) -> String {
-    bytes.iter().map(|b| format!("{:02x}", b)).collect()
-}
-
-/// The status, and behind it what is answered.
-fn told<T, F: FnOnce(T) -> String>(answer: Answer<T>, shown: F) -> String {
-    match answer {
-        Ok(x) => format!("0 {}", shown(x)).trim_end().to_string(),
-        Err(n) => n.to_string(),
-    }
-}
-
-fn put_told(text: Answer<Vec<u8>>, len: usize, place: usize) -> String {
-    told(with_room(text, len, place), |t| hex(&t))
-}
 
 /// The sample's radio lists, and a stored list for each.
 pub fn sample(n: u64) {

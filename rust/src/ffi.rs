@@ -109,6 +109,15 @@ mod stored {
             dec: *mut i32,
             next: *mut usize,
         ) -> u8;
+        pub fn brundelak_put_star(
+            out: *mut u8,
+            len: usize,
+            place: usize,
+            number: u32,
+            asc: u32,
+            dec: i32,
+            next: *mut usize,
+        ) -> u8;
         pub fn brundelak_find(
             bytes: *const u8,
             len: usize,
@@ -121,17 +130,30 @@ mod stored {
     }
 }
 
+/// The status of `brundelak_star` where none is left.
+const END: u8 = 255;
+
 /// Number, right ascension, declination and the place after; none where none is left.
 pub fn star(bytes: &[u8], place: usize) -> Result<Option<(u32, u32, i32, usize)>, Refusal> {
     let (mut number, mut asc, mut dec, mut next) = (0, 0, 0, 0);
     let status = unsafe {
         stored::brundelak_star(bytes.as_ptr(), bytes.len(), place, &mut number, &mut asc, &mut dec, &mut next)
     };
-    if status == 255 {
+    if status == END {
         return Ok(None);
     }
     Refusal::from_status(status)?;
     Ok(Some((number, asc, dec, next)))
+}
+
+/// The place after the star.
+pub fn put_star(out: &mut [u8], place: usize, number: u32, asc: u32, dec: i32) -> Result<usize, Refusal> {
+    let mut next = 0;
+    let status = unsafe {
+        stored::brundelak_put_star(out.as_mut_ptr(), out.len(), place, number, asc, dec, &mut next)
+    };
+    Refusal::from_status(status)?;
+    Ok(next)
 }
 
 /// Index, right ascension and declination.

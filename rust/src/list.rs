@@ -1,5 +1,19 @@
 //! The stored list: records of 12 bytes, little-endian; number, right ascension and declination in milliarcseconds.
+//!
+//! ```
+//! # fn main() -> Result<(), brundelak::Refusal> {
+//! use brundelak::list::{self, Star};
+//! let stars = [Star { number: 7, asc: 0, dec: 0 }, Star { number: 9, asc: 3600000, dec: -3600000 }];
+//! let (mut out, mut end) = ([0; 36], 0);
+//! for &star in &stars {
+//!     end = list::put_star(&mut out, end, star)?;
+//! }
+//! assert!(list::stars(&out[..end])?.eq(stars.iter().copied()));
+//! # Ok(())
+//! # }
+//! ```
 use crate::{ffi, Refusal};
+use std::iter::FusedIterator;
 
 /// A star as its record has it, in range or not.
 #[derive(Clone, Copy, Debug, PartialEq, Eq)]
@@ -12,9 +26,51 @@ pub struct Star {
     pub dec: i32,
 }
 
+/// Bytes of a record.
+const WIDTH: usize = 12;
+
+/// The stars of a list, in range or not, in their order. Refusals: 8.
+pub fn stars(bytes: &[u8]) -> Result<Stars<'_>, Refusal> {
+    star(bytes, 0)?;
+    Ok(Stars { bytes, place: 0 })
+}
+
+/// The stars of a list, one after the other: what [`stars`] answers.
+#[derive(Clone, Debug)]
+pub struct Stars<'a> {
+    bytes: &'a [u8],
+    place: usize,
+}
+
+impl Iterator for Stars<'_> {
+    type Item = Star;
+
+    fn next(&mut self) -> Option<Star> {
+        let (one, next) = star(self.bytes, self.place).ok()??;
+        self.place = next;
+        Some(one)
+    }
+
+    fn size_hint(&self) -> (usize, Option<usize>) {
+        let left = (self.bytes.len() - self.place) / WIDTH;
+        (left, Some(left))
+    }
+}
+
+impl ExactSizeIterator for Stars<'_> {}
+
+impl FusedIterator for Stars<'_> {}
+
 /// The star at a place of a list and the place after it; none at the end. Refusals: 8.
 pub fn star(bytes: &[u8], place: usize) -> Result<Option<(Star, usize)>, Refusal> {
     Ok(ffi::star(bytes, place)?.map(|(number, asc, dec, next)| (Star { number, asc, dec }, next)))
+}
+
+/// Writes a star's record from a place of a slice on, and answers the place after it: stars written one after the other from place 0 on
+/// are a list, which ends at the last place answered. Refusals, which leave the slice unchanged: 9, then 8 for a place at which no record
+/// of a list begins (not a multiple of 12, or past the 5000th) and for no room.
+pub fn put_star(out: &mut [u8], place: usize, star: Star) -> Result<usize, Refusal> {
+    ffi::put_star(out, place, star.number, star.asc, star.dec)
 }
 
 /// The first star with a number, and its index. Refusals: 8, 10, 9.

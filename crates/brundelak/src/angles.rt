@@ -63,14 +63,14 @@ pub extern "C" fn brundelak_julian_cent(day: f64, out: &mut f64) -> u8
 pub extern "C" fn brundelak_rho_sin_cos_phi(
     lat: f64,
     height: f64,
-    first: &mut f64,
-    second: &mut f64,
+    rho_sin: &mut f64,
+    rho_cos: &mut f64,
 ) -> u8
-    ensures { λ n. ⌜ ToldTwo (rhoSinCosPhiRule (record { 0 = lat }) height) n (now (first .entry)) (now (second .entry)) (now (first .exit)) (now (second .exit)) ⌝ }
+    ensures { λ n. ⌜ ToldTwo (rhoSinCosPhiRule (record { 0 = lat }) height) n (now («rho_sin» .entry)) (now («rho_cos» .entry)) (now («rho_sin» .exit)) (now («rho_cos» .exit)) ⌝ }
 {
     give_two(
         helpers::earth::Earth::rho_sin_cos_phi(Rad(lat), height),
-        first,
-        second,
+        rho_sin,
+        rho_cos,
     )
 }

@@ -32,10 +32,10 @@ pub extern "C" fn brundelak_topocent_eq_coords(
     lat: f64,
     height: f64,
     sidereal: f64,
-    first: &mut f64,
-    second: &mut f64,
+    topocent_asc: &mut f64,
+    topocent_dec: &mut f64,
 ) -> u8
-    ensures { λ n. ⌜ ToldTwo (numbersOfPoint (topocentEqCoordsRule (record { asc = asc; dec = dec }) (record { 0 = parallax }) (record { long = long; lat = lat }) height (record { 0 = sidereal }))) n (now (first .entry)) (now (second .entry)) (now (first .exit)) (now (second .exit)) ⌝ }
+    ensures { λ n. ⌜ ToldTwo (numbersOfPoint (topocentEqCoordsRule (record { asc = asc; dec = dec }) (record { 0 = parallax }) (record { long = long; lat = lat }) height (record { 0 = sidereal }))) n (now («topocent_asc» .entry)) (now («topocent_dec» .entry)) (now («topocent_asc» .exit)) (now («topocent_dec» .exit)) ⌝ }
 {
     give_point(
         parallax::topocent_eq_coords(
@@ -48,8 +48,8 @@ pub extern "C" fn brundelak_topocent_eq_coords(
             height,
             Rad(sidereal),
         ),
-        first,
-        second,
+        topocent_asc,
+        topocent_dec,
     )
 }
 
@@ -65,11 +65,11 @@ pub extern "C" fn brundelak_topopcent_ecl_coords(
     sidereal: f64,
     oblq: f64,
     semidiameter: f64,
-    first: &mut f64,
-    second: &mut f64,
-    third: &mut f64,
+    topocent_long: &mut f64,
+    topocent_lat: &mut f64,
+    topocent_semidiameter: &mut f64,
 ) -> u8
-    ensures { λ n. ⌜ ToldThree (topopcentEclCoordsRule Crate (record { long = «ecl_long»; lat = «ecl_lat» }) (record { 0 = parallax }) (record { long = long; lat = lat }) height (record { 0 = sidereal }) (record { 0 = oblq }) (record { 0 = semidiameter })) n (now (first .entry)) (now (second .entry)) (now (third .entry)) (now (first .exit)) (now (second .exit)) (now (third .exit)) ⌝ }
+    ensures { λ n. ⌜ ToldThree (topopcentEclCoordsRule Crate (record { long = «ecl_long»; lat = «ecl_lat» }) (record { 0 = parallax }) (record { long = long; lat = lat }) height (record { 0 = sidereal }) (record { 0 = oblq }) (record { 0 = semidiameter })) n (now («topocent_long» .entry)) (now («topocent_lat» .entry)) (now («topocent_semidiameter» .entry)) (now («topocent_long» .exit)) (now («topocent_lat» .exit)) (now («topocent_semidiameter» .exit)) ⌝ }
 {
     give_three(
         parallax_ecl::topopcent_ecl_coords(
@@ -88,9 +88,9 @@ pub extern "C" fn brundelak_topopcent_ecl_coords(
             Rad(oblq),
             Rad(semidiameter),
         ),
-        first,
-        second,
-        third,
+        topocent_long,
+        topocent_lat,
+        topocent_semidiameter,
     )
 }
 

@@ -37,15 +37,15 @@ pub extern "C" fn brundelak_precess_eq_coords_published(
     old_dec: f64,
     day1: f64,
     day2: f64,
-    first: &mut f64,
-    second: &mut f64,
+    asc: &mut f64,
+    dec: &mut f64,
 ) -> u8
-    ensures { λ n. ⌜ ToldTwo (precessEqCoordsRule Published (record { 0 = «old_asc» }) (record { 0 = «old_dec» }) day1 day2) n (now (first .entry)) (now (second .entry)) (now (first .exit)) (now (second .exit)) ⌝ }
+    ensures { λ n. ⌜ ToldTwo (precessEqCoordsRule Published (record { 0 = «old_asc» }) (record { 0 = «old_dec» }) day1 day2) n (now (asc .entry)) (now (dec .entry)) (now (asc .exit)) (now (dec .exit)) ⌝ }
 {
     give_two(
         precess::precess_eq_coords(Edition::Published, Rad(old_asc), Rad(old_dec), day1, day2),
-        first,
-        second,
+        asc,
+        dec,
     )
 }
 
@@ -56,15 +56,15 @@ pub extern "C" fn brundelak_precess_eq_coords_fk5_published(
     old_dec: f64,
     day1: f64,
     day2: f64,
-    first: &mut f64,
-    second: &mut f64,
+    asc: &mut f64,
+    dec: &mut f64,
 ) -> u8
-    ensures { λ n. ⌜ ToldTwo (precessEqCoordsFK5Rule Published (record { 0 = «old_asc» }) (record { 0 = «old_dec» }) day1 day2) n (now (first .entry)) (now (second .entry)) (now (first .exit)) (now (second .exit)) ⌝ }
+    ensures { λ n. ⌜ ToldTwo (precessEqCoordsFK5Rule Published (record { 0 = «old_asc» }) (record { 0 = «old_dec» }) day1 day2) n (now (asc .entry)) (now (dec .entry)) (now (asc .exit)) (now (dec .exit)) ⌝ }
 {
     give_two(
         precess::precess_eq_coords_FK5(Edition::Published, Rad(old_asc), Rad(old_dec), day1, day2),
-        first,
-        second,
+        asc,
+        dec,
     )
 }
 
@@ -80,11 +80,11 @@ pub extern "C" fn brundelak_topopcent_ecl_coords_published(
     sidereal: f64,
     oblq: f64,
     semidiameter: f64,
-    first: &mut f64,
-    second: &mut f64,
-    third: &mut f64,
+    topocent_long: &mut f64,
+    topocent_lat: &mut f64,
+    topocent_semidiameter: &mut f64,
 ) -> u8
-    ensures { λ n. ⌜ ToldThree (topopcentEclCoordsRule Published (record { long = «ecl_long»; lat = «ecl_lat» }) (record { 0 = parallax }) (record { long = long; lat = lat }) height (record { 0 = sidereal }) (record { 0 = oblq }) (record { 0 = semidiameter })) n (now (first .entry)) (now (second .entry)) (now (third .entry)) (now (first .exit)) (now (second .exit)) (now (third .exit)) ⌝ }
+    ensures { λ n. ⌜ ToldThree (topopcentEclCoordsRule Published (record { long = «ecl_long»; lat = «ecl_lat» }) (record { 0 = parallax }) (record { long = long; lat = lat }) height (record { 0 = sidereal }) (record { 0 = oblq }) (record { 0 = semidiameter })) n (now («topocent_long» .entry)) (now («topocent_lat» .entry)) (now («topocent_semidiameter» .entry)) (now («topocent_long» .exit)) (now («topocent_lat» .exit)) (now («topocent_semidiameter» .exit)) ⌝ }
 {
     give_three(
         parallax_ecl::topopcent_ecl_coords(
@@ -103,27 +103,27 @@ pub extern "C" fn brundelak_topopcent_ecl_coords_published(
             Rad(oblq),
             Rad(semidiameter),
         ),
-        first,
-        second,
-        third,
+        topocent_long,
+        topocent_lat,
+        topocent_semidiameter,
     )
 }
 
 // A star's place from one day to another: precession, nutation, aberration. Refusals: 1; 2; 3; 14; 7; 4.
 #[no_mangle]
 pub extern "C" fn brundelak_chain_published(
-    asc: f64,
-    dec: f64,
+    old_asc: f64,
+    old_dec: f64,
     day1: f64,
     day2: f64,
-    first: &mut f64,
-    second: &mut f64,
+    asc: &mut f64,
+    dec: &mut f64,
 ) -> u8
-    ensures { λ n. ⌜ ToldTwo (chainRule Published (record { 0 = asc }) (record { 0 = dec }) day1 day2) n (now (first .entry)) (now (second .entry)) (now (first .exit)) (now (second .exit)) ⌝ }
+    ensures { λ n. ⌜ ToldTwo (chainRule Published (record { 0 = «old_asc» }) (record { 0 = «old_dec» }) day1 day2) n (now (asc .entry)) (now (dec .entry)) (now (asc .exit)) (now (dec .exit)) ⌝ }
 {
     give_two(
-        chain::chain(Edition::Published, Rad(asc), Rad(dec), day1, day2),
-        first,
-        second,
+        chain::chain(Edition::Published, Rad(old_asc), Rad(old_dec), day1, day2),
+        asc,
+        dec,
     )
 }

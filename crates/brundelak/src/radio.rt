@@ -2,12 +2,13 @@
 ghost use Rattle.list_radio.specs.rules.Reader.{openRule, starAtRule, acceptRule};
 ghost use Rattle.list_radio.specs.rules.Put.{headText, starText};
 ghost use Rattle.list_radio.specs.rules.Moves.{toList, toRadio};
-ghost use Rattle.brundelak.specs.rules.Radio.{ToldOpened, ToldSighted, ToldNumber, ToldPut};
+ghost use Rattle.brundelak.specs.rules.Put.{ToldNumber, ToldPut};
+ghost use Rattle.brundelak.specs.rules.Radio.{ToldOpened, ToldSighted};
+use lent::Written;
 use list::Star;
 use list_radio::Accepted;
 use list_radio::Opened;
 use list_radio::Sighted;
-use list_radio::Written;
 
 // How many stars, and the place of the first. Refusals: 13 (empty); 11; 12 or 13 (the count); 8.
 #[no_mangle]

@@ -24,15 +24,15 @@ pub extern "C" fn brundelak_annual_precess(
     asc: f64,
     dec: f64,
     day: f64,
-    first: &mut f64,
-    second: &mut f64,
+    precess_in_asc: &mut f64,
+    precess_in_dec: &mut f64,
 ) -> u8
-    ensures { λ n. ⌜ ToldTwo (annualPrecessRule (record { 0 = asc }) (record { 0 = dec }) day) n (now (first .entry)) (now (second .entry)) (now (first .exit)) (now (second .exit)) ⌝ }
+    ensures { λ n. ⌜ ToldTwo (annualPrecessRule (record { 0 = asc }) (record { 0 = dec }) day) n (now («precess_in_asc» .entry)) (now («precess_in_dec» .entry)) (now («precess_in_asc» .exit)) (now («precess_in_dec» .exit)) ⌝ }
 {
     give_two(
         precess::annual_precess(Rad(asc), Rad(dec), day),
-        first,
-        second,
+        precess_in_asc,
+        precess_in_dec,
     )
 }
 
@@ -43,15 +43,15 @@ pub extern "C" fn brundelak_precess_eq_coords(
     old_dec: f64,
     day1: f64,
     day2: f64,
-    first: &mut f64,
-    second: &mut f64,
+    asc: &mut f64,
+    dec: &mut f64,
 ) -> u8
-    ensures { λ n. ⌜ ToldTwo (precessEqCoordsRule Crate (record { 0 = «old_asc» }) (record { 0 = «old_dec» }) day1 day2) n (now (first .entry)) (now (second .entry)) (now (first .exit)) (now (second .exit)) ⌝ }
+    ensures { λ n. ⌜ ToldTwo (precessEqCoordsRule Crate (record { 0 = «old_asc» }) (record { 0 = «old_dec» }) day1 day2) n (now (asc .entry)) (now (dec .entry)) (now (asc .exit)) (now (dec .exit)) ⌝ }
 {
     give_two(
         precess::precess_eq_coords(Edition::Crate, Rad(old_asc), Rad(old_dec), day1, day2),
-        first,
-        second,
+        asc,
+        dec,
     )
 }
 
@@ -62,15 +62,15 @@ pub extern "C" fn brundelak_precess_eq_coords_fk5(
     old_dec: f64,
     day1: f64,
     day2: f64,
-    first: &mut f64,
-    second: &mut f64,
+    asc: &mut f64,
+    dec: &mut f64,
 ) -> u8
-    ensures { λ n. ⌜ ToldTwo (precessEqCoordsFK5Rule Crate (record { 0 = «old_asc» }) (record { 0 = «old_dec» }) day1 day2) n (now (first .entry)) (now (second .entry)) (now (first .exit)) (now (second .exit)) ⌝ }
+    ensures { λ n. ⌜ ToldTwo (precessEqCoordsFK5Rule Crate (record { 0 = «old_asc» }) (record { 0 = «old_dec» }) day1 day2) n (now (asc .entry)) (now (dec .entry)) (now (asc .exit)) (now (dec .exit)) ⌝ }
 {
     give_two(
         precess::precess_eq_coords_FK5(Edition::Crate, Rad(old_asc), Rad(old_dec), day1, day2),
-        first,
-        second,
+        asc,
+        dec,
     )
 }
 
@@ -81,15 +81,15 @@ pub extern "C" fn brundelak_precess_ecl_coords(
     old_lat: f64,
     day1: f64,
     day2: f64,
-    first: &mut f64,
-    second: &mut f64,
+    ecl_long: &mut f64,
+    ecl_lat: &mut f64,
 ) -> u8
-    ensures { λ n. ⌜ ToldTwo (precessEclCoordsRule (record { 0 = «old_long» }) (record { 0 = «old_lat» }) day1 day2) n (now (first .entry)) (now (second .entry)) (now (first .exit)) (now (second .exit)) ⌝ }
+    ensures { λ n. ⌜ ToldTwo (precessEclCoordsRule (record { 0 = «old_long» }) (record { 0 = «old_lat» }) day1 day2) n (now («ecl_long» .entry)) (now («ecl_lat» .entry)) (now («ecl_long» .exit)) (now («ecl_lat» .exit)) ⌝ }
 {
     give_two(
         precess_ecl::precess_ecl_coords(Rad(old_long), Rad(old_lat), day1, day2),
-        first,
-        second,
+        ecl_long,
+        ecl_lat,
     )
 }
 
@@ -101,11 +101,11 @@ pub extern "C" fn brundelak_precess_orb_elements(
     old_long_ascend_node: f64,
     day1: f64,
     day2: f64,
-    first: &mut f64,
-    second: &mut f64,
-    third: &mut f64,
+    inc: &mut f64,
+    arg_perih: &mut f64,
+    long_ascend_node: &mut f64,
 ) -> u8
-    ensures { λ n. ⌜ ToldThree (precessOrbElementsRule (record { 0 = «old_inc» }) (record { 0 = «old_arg_perih» }) (record { 0 = «old_long_ascend_node» }) day1 day2) n (now (first .entry)) (now (second .entry)) (now (third .entry)) (now (first .exit)) (now (second .exit)) (now (third .exit)) ⌝ }
+    ensures { λ n. ⌜ ToldThree (precessOrbElementsRule (record { 0 = «old_inc» }) (record { 0 = «old_arg_perih» }) (record { 0 = «old_long_ascend_node» }) day1 day2) n (now (inc .entry)) (now («arg_perih» .entry)) (now («long_ascend_node» .entry)) (now (inc .exit)) (now («arg_perih» .exit)) (now («long_ascend_node» .exit)) ⌝ }
 {
     give_three(
         precess_ecl::precess_orb_elements(
@@ -115,18 +115,18 @@ pub extern "C" fn brundelak_precess_orb_elements(
             day1,
             day2,
         ),
-        first,
-        second,
-        third,
+        inc,
+        arg_perih,
+        long_ascend_node,
     )
 }
 
 // Nutation in longitude and obliquity. Refusals: 1; 2.
 #[no_mangle]
-pub extern "C" fn brundelak_nutation(day: f64, first: &mut f64, second: &mut f64) -> u8
-    ensures { λ n. ⌜ ToldTwo (nutationRule day) n (now (first .entry)) (now (second .entry)) (now (first .exit)) (now (second .exit)) ⌝ }
+pub extern "C" fn brundelak_nutation(day: f64, nut_in_long: &mut f64, nut_in_oblq: &mut f64) -> u8
+    ensures { λ n. ⌜ ToldTwo (nutationRule day) n (now («nut_in_long» .entry)) (now («nut_in_oblq» .entry)) (now («nut_in_long» .exit)) (now («nut_in_oblq» .exit)) ⌝ }
 {
-    give_two(nutation::nutation(day), first, second)
+    give_two(nutation::nutation(day), nut_in_long, nut_in_oblq)
 }
 
 // Nutation in right ascension and declination. Refusals: 1; 3; 4.
@@ -137,10 +137,10 @@ pub extern "C" fn brundelak_nutation_in_eq_coords(
     nut_in_long: f64,
     nut_in_oblq: f64,
     tru_oblq: f64,
-    first: &mut f64,
-    second: &mut f64,
+    nut_in_asc: &mut f64,
+    nut_in_dec: &mut f64,
 ) -> u8
-    ensures { λ n. ⌜ ToldTwo (nutationInEqCoordsRule (record { asc = asc; dec = dec }) (record { 0 = «nut_in_long» }) (record { 0 = «nut_in_oblq» }) (record { 0 = «tru_oblq» })) n (now (first .entry)) (now (second .entry)) (now (first .exit)) (now (second .exit)) ⌝ }
+    ensures { λ n. ⌜ ToldTwo (nutationInEqCoordsRule (record { asc = asc; dec = dec }) (record { 0 = «nut_in_long» }) (record { 0 = «nut_in_oblq» }) (record { 0 = «tru_oblq» })) n (now («nut_in_asc» .entry)) (now («nut_in_dec» .entry)) (now («nut_in_asc» .exit)) (now («nut_in_dec» .exit)) ⌝ }
 {
     give_two(
         nutation::nutation_in_eq_coords(
@@ -149,8 +149,8 @@ pub extern "C" fn brundelak_nutation_in_eq_coords(
             Rad(nut_in_oblq),
             Rad(tru_oblq),
         ),
-        first,
-        second,
+        nut_in_asc,
+        nut_in_dec,
     )
 }
 
@@ -168,33 +168,33 @@ pub extern "C" fn brundelak_stell_aberr_in_eq_coords(
     asc: f64,
     dec: f64,
     day: f64,
-    first: &mut f64,
-    second: &mut f64,
+    aberr_in_asc: &mut f64,
+    aberr_in_dec: &mut f64,
 ) -> u8
-    ensures { λ n. ⌜ ToldTwo (stellAberrInEqCoordsRule (record { asc = asc; dec = dec }) day) n (now (first .entry)) (now (second .entry)) (now (first .exit)) (now (second .exit)) ⌝ }
+    ensures { λ n. ⌜ ToldTwo (stellAberrInEqCoordsRule (record { asc = asc; dec = dec }) day) n (now («aberr_in_asc» .entry)) (now («aberr_in_dec» .entry)) (now («aberr_in_asc» .exit)) (now («aberr_in_dec» .exit)) ⌝ }
 {
     give_two(
         aberr::stell_aberr_in_eq_coords(EqPoint { asc: asc, dec: dec }, day),
-        first,
-        second,
+        aberr_in_asc,
+        aberr_in_dec,
     )
 }
 
 // A star's place from one day to another: precession, nutation, aberration. Refusals: 1; 2; 3; 14; 7; 4.
 #[no_mangle]
 pub extern "C" fn brundelak_chain(
-    asc: f64,
-    dec: f64,
+    old_asc: f64,
+    old_dec: f64,
     day1: f64,
     day2: f64,
-    first: &mut f64,
-    second: &mut f64,
+    asc: &mut f64,
+    dec: &mut f64,
 ) -> u8
-    ensures { λ n. ⌜ ToldTwo (chainRule Crate (record { 0 = asc }) (record { 0 = dec }) day1 day2) n (now (first .entry)) (now (second .entry)) (now (first .exit)) (now (second .exit)) ⌝ }
+    ensures { λ n. ⌜ ToldTwo (chainRule Crate (record { 0 = «old_asc» }) (record { 0 = «old_dec» }) day1 day2) n (now (asc .entry)) (now (dec .entry)) (now (asc .exit)) (now (dec .exit)) ⌝ }
 {
     give_two(
-        chain::chain(Edition::Crate, Rad(asc), Rad(dec), day1, day2),
-        first,
-        second,
+        chain::chain(Edition::Crate, Rad(old_asc), Rad(old_dec), day1, day2),
+        asc,
+        dec,
     )
 }

@@ -1,11 +1,15 @@
-// The stored list: a star shown, find and the batch.
+// The stored list: a star shown, a star written, find and the batch.
 ghost use Rattle.edition.specs.declared.Edition.the-variants.{Crate, Published};
 ghost use Rattle.list.specs.rules.Find.{findRule};
 ghost use Rattle.list.specs.rules.Reader.{readRule};
+ghost use Rattle.list.specs.rules.Writer.{recordText};
+ghost use Rattle.brundelak.specs.rules.Put.{ToldPut};
 ghost use Rattle.brundelak.specs.rules.Stored.{ToldFound, ToldStar, ToldBatch, ToldRaise};
 use edition::Edition;
+use lent::Written;
 use list::Found;
 use list::Shown;
+use list::Star;
 use list_tally::Tally;
 
 // The first star with a number: its index and the record's other fields. Refusals: 8; 10; 9.
@@ -53,6 +57,28 @@ pub extern "C" fn brundelak_star(
         }
         Shown::End => 255,
         Shown::Refused(n) => n,
+    }
+}
+
+// A star's record from a place of the slice on, and the place after it. Refusals: 9; 8 (no record of a list begins there; no room).
+#[no_mangle]
+pub extern "C" fn brundelak_put_star(
+    out: &mut [u8],
+    place: usize,
+    number: u32,
+    asc: u32,
+    dec: i32,
+    next: &mut usize,
+) -> u8
+    ensures { λ n. ⌜ ToldPut (recordText place (record { number = number; asc = asc; dec = dec })) (now (out .entry)) place n (now (next .entry)) (now (out .exit)) (now (next .exit)) ⌝ }
+{
+    let star = Star { number, asc, dec };
+    match list::put_star(out, place, star) {
+        Written::To(after) => {
+            *next = after;
+            0
+        }
+        Written::Refused(n) => n,
     }
 }
 

@@ -1,2 +1,5 @@
 -- What theorems on writing into a lent slice speak of, and no promise mentions. Definitions only.
+pub mod Put
 pub mod Rows
+pub mod Code
+pub mod Wrong

@@ -1,3 +1,4 @@
 -- What a reader must believe of writing into a lent slice. Definitions only.
 pub mod Writing
+pub mod Put
 pub mod Rows

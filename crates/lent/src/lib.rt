@@ -1,9 +1,17 @@
-// Bytes written into a lent slice. What finds no place there is left out, so that no call asks anything.
+// Bytes written into a lent slice: what finds no place there is left out, so that no call asks anything. And what callers need to put a
+// text whole or not at all: whether it has room, and their answer.
 // Rules: specs/rules, in reading order in specs/rules.antt.
-ghost use Prim.Native.Nat.{min};
+ghost use Prim.Native.Nat.{_+_, min};
 ghost use mathlib.Core.Path.{_≡_};
 ghost use mathlib.Core.List.{[], _∷_};
+ghost use lib.Dec.{leb};
 ghost use Rattle.lent.specs.rules.Writing.{Wrote};
+
+// The place after what was written, or a refusal.
+pub enum Written {
+    To(usize),
+    Refused(u8),
+}
 
 // One byte from the place on, and the place after it.
 pub fn put_byte(out: &mut [u8], at: usize, b: u8) -> usize
@@ -34,4 +42,14 @@ pub fn put(out: &mut [u8], at: usize, src: &[u8]) -> usize
         i += 1;
     }
     place
+}
+
+// Whether so many bytes have room from the place on.
+pub fn has_room(len: usize, at: usize, size: usize) -> bool
+    ensures { λ r. ⌜ r ≡ leb (at + size) len ⌝ }
+{
+    if at > len {
+        return false;
+    }
+    size <= len - at
 }

@@ -3,5 +3,6 @@ pub mod Record
 pub mod Stars
 pub mod RoundTrips
 pub mod Reader
+pub mod Writer
 pub mod Answer
 pub mod Wrong

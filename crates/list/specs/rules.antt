@@ -2,4 +2,5 @@
 pub mod Record
 pub mod Stars
 pub mod Reader
+pub mod Writer
 pub mod Find

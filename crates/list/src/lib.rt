@@ -1,13 +1,16 @@
-// The stored list (section 7): record, reader and find. Above the record all speaks of a list of stars.
+// The stored list (section 7): record, reader, writer and find. Above the record all speaks of a list of stars.
 // Rules: specs/rules, in reading order in specs/rules.antt.
 ghost use mathlib.Core.Path.{_≡_};
 ghost use Prim.Native.Nat.{_+_, _≤_, _<_};
 ghost use lib.ListN.{length};
 ghost use Rattle.lent.specs.rules.Writing.{Wrote};
+ghost use Rattle.lent.specs.rules.Put.{Put};
 ghost use Rattle.list.specs.rules.Record.{width, wordAt, starAt, inRange, wordBytes, starBytes};
 ghost use Rattle.list.specs.rules.Stars.{isList, countOf, stars, nth};
 ghost use Rattle.list.specs.rules.Reader.{shownSight, readRule};
+ghost use Rattle.list.specs.rules.Writer.{isStart, recordText};
 ghost use Rattle.list.specs.rules.Find.{shownFound, indexOf, findRule};
+use lent::Written;
 
 // A star's record: its number, and its right ascension and declination in milliarcseconds.
 pub struct Star {
@@ -90,8 +93,8 @@ fn put_word(out: &mut [u8], at: usize, word: u32) -> usize
     lent::put_byte(out, c, (word / 16777216) as u8)
 }
 
-// A record's bytes from the place on, and the place after them.
-pub fn put_star(out: &mut [u8], at: usize, star: Star) -> usize
+// A record's bytes from the place on, whatever the place and in range or not, and the place after them.
+pub fn write_star(out: &mut [u8], at: usize, star: Star) -> usize
     ensures { λ r. ⌜ Wrote (now (out .entry)) at (starBytes star) (now (out .exit)) r ⌝ }
 {
     let a = put_word(out, at, star.number);
@@ -148,6 +151,33 @@ pub fn star_at(bytes: &[u8], place: usize) -> Shown
         return Shown::End;
     }
     Shown::Next(record_at(bytes, place), place + WIDTH)
+}
+
+// Whether a record of a list may begin there.
+fn is_start(place: usize) -> bool
+    ensures { λ r. ⌜ r ≡ isStart place ⌝ }
+{
+    if place < MOST_BYTES {
+        return place % WIDTH == 0;
+    }
+    false
+}
+
+// A star's record, from the place on.
+// Refusals: 9 for a star out of range, then 8 for a place at which no record of a list begins, and for no room.
+pub fn put_star(out: &mut [u8], place: usize, star: Star) -> Written
+    ensures { λ r. ⌜ Put (recordText place star) (now (out .entry)) place (now (out .exit)) r ⌝ }
+{
+    if !in_range(star) {
+        return Written::Refused(9);
+    }
+    if !is_start(place) {
+        return Written::Refused(8);
+    }
+    if !lent::has_room(out.len(), place, WIDTH) {
+        return Written::Refused(8);
+    }
+    Written::To(write_star(out, place, star))
 }
 
 // The index of the first star with the number, or how many stars there are where none has it.

@@ -2,19 +2,19 @@
 // Rules: specs/rules, in reading order in specs/rules.antt.
 ghost use mathlib.Core.Path.{_≡_};
 ghost use mathlib.Core.Bool.{true};
-ghost use Prim.Native.Nat.{_+_};
-ghost use lib.Dec.{leb};
 ghost use lib.ListN.{length, drop};
 ghost use Rattle.quantity.specs.rules.Answer.{with};
 ghost use Rattle.lent.specs.rules.Writing.{Wrote};
+ghost use Rattle.lent.specs.rules.Put.{shownWritten, Put};
 ghost use Rattle.list.specs.rules.Stars.{isList, stars, listBytes};
 ghost use Rattle.list_groups.specs.rules.Reading.{readAt};
 ghost use Rattle.list_groups.specs.rules.Several.{spellAll};
 ghost use Rattle.list_radio.specs.rules.Star.{starGroups, readStar};
 ghost use Rattle.list_radio.specs.rules.Radio.{headBytes, markRefusal, readCount, starsOf};
 ghost use Rattle.list_radio.specs.rules.Reader.{shownOpened, openRule, shownSighted, starAtRule, shownAccepted, acceptRule};
-ghost use Rattle.list_radio.specs.rules.Put.{shownWritten, Put, headText, starText};
+ghost use Rattle.list_radio.specs.rules.Put.{headText, starText};
 ghost use Rattle.list_radio.specs.rules.Moves.{toList, toRadio, starsUpto, sizeOf};
+use lent::Written;
 use list::Star;
 use list_groups::Read;
 
@@ -33,12 +33,6 @@ pub enum Sighted {
 // How many stars an accepted list has, or a refusal.
 pub enum Accepted {
     Stars(u32),
-    Refused(u8),
-}
-
-// The place after what was written, or a refusal.
-pub enum Written {
-    To(usize),
     Refused(u8),
 }
 
@@ -190,16 +184,6 @@ fn write_head(out: &mut [u8], at: usize, n: u32) -> usize
     list_groups::put_number(out, a, n)
 }
 
-// Whether so many bytes have room from the place on.
-fn has_room(len: usize, at: usize, size: usize) -> bool
-    ensures { λ r. ⌜ r ≡ leb (at + size) len ⌝ }
-{
-    if at > len {
-        return false;
-    }
-    size <= len - at
-}
-
 // The head of a list with so many stars, from the place on.
 // Refusals: 8 for a count above what a list may have, then 8 for no room.
 pub fn put_head(out: &mut [u8], place: usize, count: u32) -> Written
@@ -208,7 +192,7 @@ pub fn put_head(out: &mut [u8], place: usize, count: u32) -> Written
     if count > MOST_STARS {
         return Written::Refused(8);
     }
-    if !has_room(out.len(), place, 1 + list_groups::count(count)) {
+    if !lent::has_room(out.len(), place, 1 + list_groups::count(count)) {
         return Written::Refused(8);
     }
     Written::To(write_head(out, place, count))
@@ -222,7 +206,7 @@ pub fn put_star(out: &mut [u8], place: usize, star: Star) -> Written
     if !list::in_range(star) {
         return Written::Refused(9);
     }
-    if !has_room(out.len(), place, star_size(star)) {
+    if !lent::has_room(out.len(), place, star_size(star)) {
         return Written::Refused(8);
     }
     Written::To(write_star(out, place, star))
@@ -241,7 +225,7 @@ fn lay_stars(out: &mut [u8], bytes: &[u8], n: u32, first: usize) -> usize
                 return place;
             }
             Sighted::Star(star, next) => {
-                place = list::put_star(out, place, star);
+                place = list::write_star(out, place, star);
                 p = next;
             }
         }

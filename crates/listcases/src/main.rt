@@ -135,18 +135,18 @@ fn star(number: u32, asc: u32, dec: i32) -> Star {
 
 // Eight records: the ends of each range and the first counts past them; number 1 stands twice.
 fn records(bytes: &mut [u8]) {
-    let a = list::put_star(bytes, 0, star(1, 1296000000, 0));
-    let b = list::put_star(bytes, a, star(2, 1295999999, 324000000));
-    let c = list::put_star(bytes, b, star(3, 0, -324000000));
-    let d = list::put_star(bytes, c, star(4, 0, 324000001));
+    let a = list::write_star(bytes, 0, star(1, 1296000000, 0));
+    let b = list::write_star(bytes, a, star(2, 1295999999, 324000000));
+    let c = list::write_star(bytes, b, star(3, 0, -324000000));
+    let d = list::write_star(bytes, c, star(4, 0, 324000001));
     records_after(bytes, d);
 }
 
 fn records_after(bytes: &mut [u8], at: usize) {
-    let a = list::put_star(bytes, at, star(5, 0, -324000001));
-    let b = list::put_star(bytes, a, star(1, 0, 0));
-    let c = list::put_star(bytes, b, star(4294967295, 4294967295, -2147483648));
-    list::put_star(bytes, c, star(0, 3600000, -1));
+    let a = list::write_star(bytes, at, star(5, 0, -324000001));
+    let b = list::write_star(bytes, a, star(1, 0, 0));
+    let c = list::write_star(bytes, b, star(4294967295, 4294967295, -2147483648));
+    list::write_star(bytes, c, star(0, 3600000, -1));
 }
 
 // A status, the refusal, and the counts of 0 and of 10 after it.

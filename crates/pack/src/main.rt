@@ -1,5 +1,5 @@
 // Writes the radio form of the star list that stands on standard input; of a refused one, its refusal on standard error.
-use list_radio::Written;
+use lent::Written;
 
 // The line of a refusal.
 fn refuse(n: u8) {

@@ -1,7 +1,6 @@
 -- How the promises of the radio list reach the C caller. Assumes nothing.
 use Prim.Native.Nat.{ℕ}
 use mathlib.Core.Path.{_≡_, refl}
-use mathlib.Core.List.{List}
 use lib.IntN.{ℤ}
 use Rattle.quantity.specs.rules.Answer.{Answer}
 use Rattle.list.specs.declared.Star.{Star}
@@ -12,11 +11,9 @@ use Rattle.list_radio.specs.declared.Sighted.{Sighted}
 use Rattle.list_radio.specs.declared.Sighted.the-variants as sighted
 use Rattle.list_radio.specs.declared.Accepted.{Accepted}
 use Rattle.list_radio.specs.declared.Accepted.the-variants as accepted
-use Rattle.list_radio.specs.declared.Written.{Written}
-use Rattle.list_radio.specs.declared.Written.the-variants as written
 use Rattle.list_radio.specs.rules.Reader.{shownOpened, shownSighted, shownAccepted}
-use Rattle.list_radio.specs.rules.Put.{shownWritten, Put}
-use Rattle.brundelak.specs.rules.Radio.{ToldOpened, ToldSighted, ToldNumber, ToldPut}
+use Rattle.brundelak.specs.rules.Put.{ToldNumber}
+use Rattle.brundelak.specs.rules.Radio.{ToldOpened, ToldSighted}
 
 pub opened-told : {a : Answer (Placed ℕ)} {r : Opened} {stars first count place : ℕ} → shownOpened r ≡ a
     → r ≡ opened.Stars stars first → ToldOpened a 0 count place stars first
@@ -43,20 +40,3 @@ accepted-told p e = rw (← p, e) (record { answers = refl; leaves = refl })
 pub not-accepted-told : {a : Answer ℕ} {r : Accepted} {n count : ℕ} → shownAccepted r ≡ a → r ≡ accepted.Refused n
     → ToldNumber a n count count
 not-accepted-told p e = rw (← p, e) (record { answers = refl; leaves = refl })
-
--- of `put_head`, `put_star` and the movers
-written-told : {a : Answer ℕ} {r : Written} {after next : ℕ} → shownWritten r ≡ a → r ≡ written.To after
-    → ToldNumber a 0 next after
-written-told p e = rw (← p, e) (record { answers = refl; leaves = refl })
-
-not-written-told : {a : Answer ℕ} {r : Written} {n next : ℕ} → shownWritten r ≡ a → r ≡ written.Refused n
-    → ToldNumber a n next next
-not-written-told p e = rw (← p, e) (record { answers = refl; leaves = refl })
-
-pub put-told : {text : Answer (List ℕ)} {slice slice′ : List ℕ} {at next after : ℕ} {r : Written} → Put text slice at slice′ r
-    → r ≡ written.To after → ToldPut text slice at 0 next slice′ after
-put-told p e = record { place-after = written-told (p .answer) e; leaves-slice = p .slice }
-
-pub not-put-told : {text : Answer (List ℕ)} {slice slice′ : List ℕ} {at n next : ℕ} {r : Written} → Put text slice at slice′ r
-    → r ≡ written.Refused n → ToldPut text slice at n next slice′ next
-not-put-told p e = record { place-after = not-written-told (p .answer) e; leaves-slice = p .slice }

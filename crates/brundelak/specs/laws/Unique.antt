@@ -15,7 +15,8 @@ use Rattle.edition.specs.declared.Edition.{Edition}
 use Rattle.batch.specs.declared.Batched.{Batched}
 use Rattle.batch.specs.laws.Batch.{batch-fixes-all}
 use Rattle.brundelak.specs.rules.Stored.{ToldFound, ToldStar, ToldBatch, ToldRaise}
-use Rattle.brundelak.specs.rules.Radio.{ToldOpened, ToldSighted, ToldNumber, ToldPut}
+use Rattle.brundelak.specs.rules.Put.{ToldNumber, ToldPut}
+use Rattle.brundelak.specs.rules.Radio.{ToldOpened, ToldSighted}
 
 pub one-told-found : {a : Answer Entry} {n m index asc i i′ r r′ : ℕ} {dec d d′ : ℤ} → ToldFound a n index asc dec i r d
     → ToldFound a m index asc dec i′ r′ d′ → (n ≡ m) × ((i ≡ i′) × ((r ≡ r′) × (d ≡ d′)))
@@ -39,6 +40,15 @@ one-told-batch {counts = counts} t u =
     let f = batch-fixes-all (t .batch) (u .batch) in
     (t .answers ∙ ap (λ (b : Batched). b .refusal) (f .0) ∙ sym (u .answers), (t .leaves-counts ∙ ap (λ (b : Batched). cond (eqb (b .refusal) 0) (b .tally .counts) counts) (f .0) ∙ sym (u .leaves-counts), f .1))
 
+-- ---- a number, and a text put
+
+pub one-told-number : {a : Answer ℕ} {n m old k k′ : ℕ} → ToldNumber a n old k → ToldNumber a m old k′ → (n ≡ m) × (k ≡ k′)
+one-told-number t u = (t .answers ∙ sym (u .answers), t .leaves ∙ sym (u .leaves))
+
+pub one-told-put : {text : Answer (List ℕ)} {slice : List ℕ} {at n m next : ℕ} {s s′ : List ℕ} {k k′ : ℕ}
+    → ToldPut text slice at n next s k → ToldPut text slice at m next s′ k′ → (s ≡ s′) × ((n ≡ m) × (k ≡ k′))
+one-told-put t u = (t .leaves-slice ∙ sym (u .leaves-slice), one-told-number (t .place-after) (u .place-after))
+
 -- ---- the radio list
 
 pub one-told-opened : {a : Answer (Placed ℕ)} {n m count place c c′ p p′ : ℕ} → ToldOpened a n count place c p
@@ -51,11 +61,3 @@ pub one-told-sighted : {a : Answer (Placed Star)} {n m number asc next i i′ r 
     → (n ≡ m) × ((i ≡ i′) × ((r ≡ r′) × ((d ≡ d′) × (k ≡ k′))))
 one-told-sighted t u =
     (t .answers ∙ sym (u .answers), (t .leaves-number ∙ sym (u .leaves-number), (t .leaves-asc ∙ sym (u .leaves-asc), (t .leaves-dec ∙ sym (u .leaves-dec), t .leaves-next ∙ sym (u .leaves-next)))))
-
-pub one-told-number : {a : Answer ℕ} {n m old k k′ : ℕ} → ToldNumber a n old k → ToldNumber a m old k′ → (n ≡ m) × (k ≡ k′)
-one-told-number t u = (t .answers ∙ sym (u .answers), t .leaves ∙ sym (u .leaves))
-
--- of `put_head`, `put_star` and the movers
-pub one-told-put : {text : Answer (List ℕ)} {slice : List ℕ} {at n m next : ℕ} {s s′ : List ℕ} {k k′ : ℕ}
-    → ToldPut text slice at n next s k → ToldPut text slice at m next s′ k′ → (s ≡ s′) × ((n ≡ m) × (k ≡ k′))
-one-told-put t u = (t .leaves-slice ∙ sym (u .leaves-slice), one-told-number (t .place-after) (u .place-after))

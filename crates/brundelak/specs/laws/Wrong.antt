@@ -11,7 +11,11 @@ use Rattle.double.specs.laws.Apart.{apart}
 use Rattle.quantity.specs.rules.Answer.{answered}
 use Rattle.quantity.specs.rules.Refusal.{epoch}
 use Rattle.quantity.specs.notions.Computed.{computed}
+use Rattle.lent.specs.rules.Put.{roomFor}
 use Rattle.precess.specs.rules.Days.{daysRefusal}
+use Rattle.list.specs.rules.Stars.{nought}
+use Rattle.list.specs.rules.Writer.{recordText}
+use Rattle.list.specs.notions.Computed as list
 use Rattle.list_tally.specs.rules.Tally.{raiseRefusal, raiseRule, tallyOf, empty}
 use Rattle.list_groups.specs.rules.Fold.{folded}
 use Rattle.list_radio.specs.rules.Reader.{openRule, starAtRule, acceptRule}
@@ -22,7 +26,8 @@ use Rattle.edition.specs.declared.Edition.{Edition}
 use Rattle.batch.specs.declared.Batched.{Batched}
 use Rattle.batch.specs.rules.Batch.{batchRefusal}
 use Rattle.brundelak.specs.rules.Stored.{ToldFound, ToldBatch, ToldRaise}
-use Rattle.brundelak.specs.rules.Radio.{ToldOpened, ToldSighted, ToldNumber, ToldPut}
+use Rattle.brundelak.specs.rules.Put.{ToldNumber, ToldPut}
+use Rattle.brundelak.specs.rules.Radio.{ToldOpened, ToldSighted}
 
 -- star 7 has the right ascension 5, and 0 is left
 pub found-asc-lost-excluded : ¬ ToldFound (answered (record { index = 7; asc = 5; dec = pos 3 })) 0 0 0 (pos 0) 7 0 (pos 3)
@@ -38,6 +43,11 @@ batch-always-refused-by-eight-excluded edition wrong =
 pub another-status-counted-excluded : ¬ ToldRaise 3 (empty .counts) 0 (raiseRule empty 0 .tally .counts)
 unfolding raiseRule raiseRefusal tallyOf
 another-status-counted-excluded wrong = apart (λ (l : List ℕ). getD l 0 0) refl (wrong .leaves-counts)
+
+-- a slice of one byte has no room for a record, and that byte is written all the same
+pub byte-of-a-refused-record-written-excluded : ¬ ToldPut (recordText 0 nought) (9 ∷ []) 0 8 0 (0 ∷ []) 0
+unfolding list.computed roomFor
+byte-of-a-refused-record-written-excluded wrong = apart (λ (l : List ℕ). getD l 0 0) refl (wrong .leaves-slice)
 
 -- ---- the radio list
 

@@ -1,38 +1,39 @@
--- `list::put_star` meets its contract: its words, one after the other. Assumes nothing.
+-- `list::put_star` meets its contract: each test that leads to a return says which text there is, and whether it has room. Assumes nothing.
 use borrow.Author.Needs.{needs}
-use mathlib.Core.Path.{_≡_, ap, _∙_}
-use mathlib.Core.List.{List, [], _∷_, _++_, append-assoc, append-nil}
-use Prim.Native.Nat.{ℕ}
+use borrow.Author.Tests.{not-true, not-false}
+use mathlib.Core.Path.{sym, _∙_}
 use Rattle.double.specs.laws.Calls.{asks-nothing}
-use Rattle.list_words.specs.rules.Signed.{wordOf}
-use Rattle.list_words.specs.laws.Signed.{signed-word}
-use Rattle.lent.specs.laws.Writing.{after, same}
-use Rattle.list.specs.rules.Record.{wordBytes, wordsBytes, starBytes}
+use Rattle.lent.specs.laws.Put.{put-refused, tested-no-room, tested-puts}
+use Rattle.list.specs.laws.Record.{length-star}
+use Rattle.list.specs.laws.Writer.{out-of-range-first, no-start-next, record-text}
 use Rattle.list.proofs.put_star.Statement.{statement}
 use Rattle.list.proofs.put_star.Tie as tie
 
-joined : (a b c : List ℕ) → a ++ b ++ c ≡ a ++ (b ++ (c ++ []))
-joined a b c = simp (append-assoc, append-nil)
+returns : tie.Need-returns
+returns c = put-refused _ _ _ _ (out-of-range-first _ _ (sym (c .before .in-range .ensures) ∙ not-true _ (c .if1 .taken)))
+
+returns-2 : tie.Need-returns-2
+returns-2 c =
+    let ranged = c .before .before in
+    put-refused _ _ _ _
+    (no-start-next _ _ (sym (ranged .before .in-range .ensures) ∙ not-false _ (ranged .if1 .left)) (sym (c .before .is-start .ensures) ∙ not-true _ (c .if2 .taken)))
+
+returns-3 : tie.Need-returns-3
+returns-3 c =
+    let started = c .before .before in
+    let ranged = started .before .before in
+    tested-no-room _ _ _ _ (record-text _ _ (sym (ranged .before .in-range .ensures) ∙ not-false _ (ranged .if1 .left)) (sym (started .before .is-start .ensures) ∙ not-false _ (started .if2 .left))) _ (sym (length-star _)) _ (c .before .has-room .ensures) (not-true _ (c .if3 .taken))
 
 same-length : tie.Need-same-length
 same-length c = search needs
 
-returns : tie.Need-returns
-unfolding starBytes
-returns c =
-    let start = c .before .before .before .before .before .before .before .before .before .before .before .before .before .before .before in
-    let dec = c .before .before .before .word-of .ensures ∙ ap wordOf (signed-word (start .args .star .dec) (start .good .1 .1 .0 .1 .1 .1 .1 .0 .1)) in
-    same
-    (joined (wordBytes (start .args .star .number)) (wordBytes (start .args .star .asc)) _ ∙ ap (λ (n : ℕ). wordsBytes (start .args .star .number ∷ start .args .star .asc ∷ n ∷ [])) dec)
-    (after (after (c .before .before .before .before .before .before .before .before .before .before .before .before .put-word .ensures) (c .before .before .before .before .before .before .before .before .put-word2 .ensures)) (c .before .before .put-word3 .ensures))
+returns-4 : tie.Need-returns-4
+returns-4 c =
+    let test = c .before .before .before .before in
+    let started = test .before .before in
+    let ranged = started .before .before in
+    tested-puts _ _ _ _ (record-text _ _ (sym (ranged .before .in-range .ensures) ∙ not-false _ (ranged .if1 .left)) (sym (started .before .is-start .ensures) ∙ not-false _ (started .if2 .left))) _ (sym (length-star _)) _ (test .before .has-room .ensures) (not-false _ (test .if3 .left)) _ _
+    (c .before .before .write-star .ensures)
 
 pub put-star-spec : {M : Type 1} → statement M
-put-star-spec =
-    tie.close
-    (tie.spec
-    asks-nothing
-    asks-nothing
-    asks-nothing
-    asks-nothing
-    same-length
-    returns)
+put-star-spec = tie.close (tie.spec asks-nothing returns asks-nothing returns-2 asks-nothing returns-3 asks-nothing same-length returns-4)

@@ -11,14 +11,16 @@ use Rattle.double.specs.laws.Apart.{apart}
 use Rattle.quantity.specs.notions.Code.{ofAnswer}
 use Rattle.quantity.specs.notions.Varies.{Varies}
 use Rattle.lent.specs.rules.Rows.{upto}
+use Rattle.lent.specs.notions.Code.{ofBytes}
 use Rattle.list.specs.declared.Star.{Star}
 use Rattle.list.specs.rules.Record.{width, turn, inRange}
-use Rattle.list.specs.rules.Stars.{mostStars, isList, countOf}
+use Rattle.list.specs.rules.Stars.{mostStars, isList, countOf, nought}
 use Rattle.list.specs.rules.Reader.{readRule}
+use Rattle.list.specs.rules.Writer.{recordText}
 use Rattle.list.specs.rules.Find.{findRule}
 use Rattle.list.specs.notions.Code.{ofSight, ofEntry}
 use Rattle.list.specs.notions.Computed.{computed}
-use Rattle.list.specs.notions.Wrong.{wholeTurnInRange, oneStarTooMany, partRecordsCounted, endRefused, bigEndianRead, lastNumberFound, nineBeforeTen}
+use Rattle.list.specs.notions.Wrong.{wholeTurnInRange, oneStarTooMany, partRecordsCounted, endRefused, bigEndianRead, outOfRangePut, putWithinRecord, putPastTheLast, eightBeforeNine, lastNumberFound, nineBeforeTen}
 
 -- records of zeros, and the record of a star with the number 1
 abbrev zeros : ℕ → List ℕ
@@ -58,6 +60,28 @@ end-refused-excluded = apart (ofAnswer ofSight) refl
 pub big-endian-read-excluded : bigEndianRead star1 0 ≢ readRule star1 0
 unfolding computed
 big-endian-read-excluded = apart (ofAnswer ofSight) refl
+
+-- ---- the writer
+
+pub record-varies : Varies (recordText 0 nought) (recordText 0 (record { number = 7; asc = 0; dec = pos 0 }))
+unfolding computed
+record-varies = record { here = refl; there = refl; apart = apart (ofAnswer ofBytes) refl }
+
+pub out-of-range-put-excluded : outOfRangePut 0 onTurn ≢ recordText 0 onTurn
+unfolding computed
+out-of-range-put-excluded = apart (ofAnswer ofBytes) refl
+
+pub put-within-record-excluded : putWithinRecord 1 nought ≢ recordText 1 nought
+unfolding computed
+put-within-record-excluded = apart (ofAnswer ofBytes) refl
+
+pub put-past-the-last-excluded : putPastTheLast (width * mostStars) nought ≢ recordText (width * mostStars) nought
+unfolding computed
+put-past-the-last-excluded = apart (ofAnswer ofBytes) refl
+
+pub eight-before-nine-excluded : eightBeforeNine 1 onTurn ≢ recordText 1 onTurn
+unfolding computed
+eight-before-nine-excluded = apart (ofAnswer ofBytes) refl
 
 -- ---- find
 

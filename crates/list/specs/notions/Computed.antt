@@ -1,11 +1,12 @@
--- What a theorem opens that works rules out at stated inputs: the record, the list, reader and find.
+-- What a theorem opens that works rules out at stated inputs: the record, the list, reader, writer and find.
 use Prim.Native.Nat.{ℕ}
-use Rattle.list.specs.rules.Record.{wordAt, starAt, inRange}
+use Rattle.list.specs.rules.Record.{wordAt, starAt, inRange, wordBytes, starBytes}
 use Rattle.list.specs.rules.Stars.{isList, countOf, stars}
 use Rattle.list.specs.rules.Reader.{isPlace, readRule}
+use Rattle.list.specs.rules.Writer.{isStart, recordText}
 use Rattle.list.specs.rules.Find.{indexOf}
 
 -- a name for the line below it, which is what counts
 unfoldable pub computed : ℕ
-unfolding wordAt starAt inRange isList countOf stars isPlace readRule indexOf
+unfolding wordAt starAt inRange wordBytes starBytes isList countOf stars isPlace readRule isStart recordText indexOf
 computed = 0

@@ -8,9 +8,10 @@ use lib.ListN.{length, getD}
 use Rattle.quantity.specs.rules.Answer.{Answer, answered, refused}
 use Rattle.list_words.specs.rules.Signed.{signedOf}
 use Rattle.list.specs.declared.Star.{Star}
-use Rattle.list.specs.rules.Record.{width, starAt, turn, quarter}
+use Rattle.list.specs.rules.Record.{width, starAt, turn, quarter, inRange, starBytes}
 use Rattle.list.specs.rules.Stars.{mostStars, isList, stars, nth}
 use Rattle.list.specs.rules.Reader.{Sight, sight, none, isPlace}
+use Rattle.list.specs.rules.Writer.{isStart}
 use Rattle.list.specs.rules.Find.{Entry, indexOf, entry, entryAt}
 
 -- ---- a star, and a list
@@ -47,6 +48,26 @@ bigEndianRead =
     reading isPlace
     (λ (s : List ℕ) (at : ℕ).
     record { number = bigEndian s at; asc = bigEndian s (at + 4); dec = signedOf (bigEndian s (at + 8)) })
+
+-- ---- the writer
+
+abbrev pub outOfRangePut : ℕ → Star → Answer (List ℕ)
+outOfRangePut at r = cond (isStart at) (answered (starBytes r)) (refused 8)
+
+-- with another test of the place
+abbrev putting : (ℕ → Bool) → ℕ → Star → Answer (List ℕ)
+putting accepts at r = cond (inRange r) (cond (accepts at) (answered (starBytes r)) (refused 8)) (refused 9)
+
+abbrev pub putWithinRecord : ℕ → Star → Answer (List ℕ)
+putWithinRecord = putting (λ (at : ℕ). ltb at (width * mostStars))
+
+-- at the end of the longest list
+abbrev pub putPastTheLast : ℕ → Star → Answer (List ℕ)
+putPastTheLast = putting (λ (at : ℕ). leb at (width * mostStars) && eqb (at % width) 0)
+
+-- 8 for the place, before the star's own 9
+abbrev pub eightBeforeNine : ℕ → Star → Answer (List ℕ)
+eightBeforeNine at r = cond (isStart at) (cond (inRange r) (answered (starBytes r)) (refused 9)) (refused 8)
 
 -- ---- find
 

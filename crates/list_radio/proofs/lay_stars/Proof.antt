@@ -47,7 +47,7 @@ loop-again c =
     let star = c .before .before .before .before .before in
     on _ _ _ _ _ _ _ _ (star .before .before .before .before .loop .inv) _ _ _ _ (omega arith)
     (found readStar _ _ star-leaves-tail _ _ (sym (ap shownSighted (star .star .given .1)) ∙ star .before .before .star-from .ensures) .read-so)
-    (c .before .before .put-star .ensures)
+    (c .before .before .write-star .ensures)
 
 same-length-2 : tie.Need-same-length-2 Inv-loop μ-loop
 same-length-2 c = kept (c .before .loop .inv .wrote)

@@ -17,8 +17,8 @@ use Rattle.list_groups.specs.rules.Groups.{groups}
 use Rattle.list_groups.specs.laws.Length.{at-most-five}
 use Rattle.list_radio.specs.rules.Star.{starGroups}
 use Rattle.list_radio.specs.rules.Radio.{headBytes, radioBytes}
-use Rattle.list_radio.specs.rules.Put.{shownWritten}
-use Rattle.list_radio.specs.laws.Put.{put-refused, no-room, puts}
+use Rattle.lent.specs.rules.Put.{shownWritten}
+use Rattle.lent.specs.laws.Put.{put-refused, no-room, puts}
 use Rattle.list_radio.specs.laws.Moves.{no-list, no-size, Sized, sized, length-radio, fifteen-a-star}
 use Rattle.list_radio.proofs.list_to_radio.Statement.{statement}
 use Rattle.list_radio.proofs.list_to_radio.Tie as tie

@@ -9,7 +9,8 @@ use Rattle.double.specs.laws.Calls.{asks-nothing}
 use Rattle.list_groups.specs.rules.Groups.{groups}
 use Rattle.list_groups.specs.laws.Length.{at-most-five}
 use Rattle.list_radio.specs.rules.Radio.{headBytes}
-use Rattle.list_radio.specs.laws.Put.{put-refused, tested-no-room, tested-puts, head-text, no-head-text, length-head}
+use Rattle.lent.specs.laws.Put.{put-refused, tested-no-room, tested-puts}
+use Rattle.list_radio.specs.laws.Put.{head-text, no-head-text, length-head}
 use Rattle.list_radio.proofs.put_head.Statement.{statement}
 use Rattle.list_radio.proofs.put_head.Tie as tie
 

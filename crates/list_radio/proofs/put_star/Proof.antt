@@ -3,7 +3,8 @@ use borrow.Author.Needs.{needs}
 use borrow.Author.Tests.{not-true, not-false}
 use mathlib.Core.Path.{sym, _∙_}
 use Rattle.double.specs.laws.Calls.{asks-nothing}
-use Rattle.list_radio.specs.laws.Put.{put-refused, tested-no-room, tested-puts, star-text, no-star-text}
+use Rattle.lent.specs.laws.Put.{put-refused, tested-no-room, tested-puts}
+use Rattle.list_radio.specs.laws.Put.{star-text, no-star-text}
 use Rattle.list_radio.proofs.put_star.Statement.{statement}
 use Rattle.list_radio.proofs.put_star.Tie as tie
 

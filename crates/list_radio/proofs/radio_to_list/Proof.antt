@@ -5,7 +5,7 @@ use native.Mathlib.Omega.{arith}
 use Rattle.double.specs.laws.Calls.{asks-nothing}
 use Rattle.lent.specs.laws.Writing.{kept}
 use Rattle.list_radio.specs.rules.Reader.{shownOpened, shownAccepted}
-use Rattle.list_radio.specs.laws.Put.{put-refused, no-room, puts}
+use Rattle.lent.specs.laws.Put.{put-refused, no-room, puts}
 use Rattle.list_radio.specs.laws.Moves.{no-head, no-stars, AllRead, all-stars}
 use Rattle.list_radio.proofs.radio_to_list.Statement.{statement}
 use Rattle.list_radio.proofs.radio_to_list.Tie as tie

@@ -1,7 +1,7 @@
 -- Which refusal comes out first, in the request's order. Assumes nothing.
 use mathlib.Core.Path.{_≡_, refl, _∙_}
 use mathlib.Core.List.{List, [], _∷_}
-use Prim.Native.Nat.{ℕ, _+_, _<_}
+use Prim.Native.Nat.{ℕ, _<_}
 use native.Mathlib.Omega.{arith}
 use mathlib.Core.Bool.{false}
 use lib.ListN.{length}
@@ -17,7 +17,6 @@ use Rattle.list_radio.specs.notions.Order.{FirstByteRefused, CountRefuse
 use Rattle.list_radio.specs.rules.Star.{numberCount, starOf, readStar}
 use Rattle.list_radio.specs.rules.Radio.{mark, markRefusal, readCount, starsOf, radioStars}
 use Rattle.list_radio.specs.rules.Reader.{openRule, starAtRule, acceptRule}
-use Rattle.list_radio.specs.rules.Put.{roomFor}
 
 -- ---- the head
 
@@ -71,14 +70,3 @@ module _ (bs : List ℕ) (g : Got ℕ) (head : readCount bs ≡ answered g) wher
       → 0 < length (h .rest) → acceptRule (mark ∷ bs) ≡ refused 13
   unfolding starsOf
   bytes-over-are-thirteen h e over = whole ∙ rw (e, ne-eqb (length (h .rest)) 0 (λ z. omega arith))
-
--- ---- what is written
-
--- 8 for a short slice comes last: any other refusal is given, however short the slice
-pub own-refusal-first : (old : List ℕ) (at k : ℕ) → roomFor old at (refused k) ≡ refused k
-unfolding roomFor
-own-refusal-first old at k = refl
-
-pub short-slice-last : (old : List ℕ) (at : ℕ) (t : List ℕ) → length old < at + length t → roomFor old at (answered t) ≡ refused 8
-unfolding roomFor
-short-slice-last old at t h = rw (lt-leb (at + length t) (length old) h)

@@ -6,25 +6,25 @@ use Prim.Native.Nat.{ℕ, _+_, _*_, _%_, _≤_}
 use native.Mathlib.Omega.{arith}
 use lib.ListN.{length, take, drop}
 use lib.Seq.{take-at}
-use lib.Dec.{leb}
 use borrow.Author.Tests.{le-leb, eq-eqb}
 use Rattle.quantity.specs.rules.Answer.{Answer, answered, refused, with}
+use Rattle.lent.specs.declared.Written.the-variants.{To}
+use Rattle.lent.specs.rules.Put.{Put}
+use Rattle.lent.specs.laws.Put.{put-stands}
 use Rattle.lent.specs.laws.Flags.{both-hold}
 use Rattle.list.specs.declared.Star.{Star}
 use Rattle.list.specs.rules.Record.{width, inRange}
 use Rattle.list.specs.rules.Stars.{mostStars, isList, stars, listBytes, AllFitting, Bytes}
 use Rattle.list.specs.laws.Stars.{whole, length-stars, few}
 use Rattle.list.specs.laws.RoundTrips.{length-list, stars-back, bytes-back}
-use Rattle.quantity.specs.laws.Steps.{same-value, refused-not-answered, stepped, changed}
+use Rattle.quantity.specs.laws.Steps.{same-value, refused-not-answered, changed}
 use Rattle.list_groups.specs.notions.Spelt.{AllGood}
 use Rattle.list_radio.specs.notions.Good.{Good}
 use Rattle.list_radio.specs.notions.Moves.{ThereAndBack}
 use Rattle.list_radio.specs.rules.Radio.{radioBytes, radioStars}
 use Rattle.list_radio.specs.rules.Reader.{acceptRule}
-use Rattle.list_radio.specs.rules.Put.{roomFor, laid, Put}
 use Rattle.list_radio.specs.rules.Moves.{toList, allInRange, toRadio}
 use Rattle.list_radio.specs.laws.Radio.{radio-spelt-is-read, radio-read-was-spelt}
-use Rattle.list_radio.specs.declared.Written.the-variants.{To}
 
 -- ---- stars that either form can hold
 
@@ -109,22 +109,13 @@ record Text (text : Answer (List ℕ)) (new : List ℕ) (n : ℕ) : Type 0 where
   pub front : take n new ≡ t
 
 put-text : (text : Answer (List ℕ)) (old new : List ℕ) (n : ℕ) → Put text old 0 new (To n) → Text text new n
-unfolding roomFor
 put-text text old new n p =
-    let c = changed (roomFor old 0 text) (λ (t : List ℕ). 0 + length t) n (sym (p .answer)) in
-    let s = stepped text (λ (t : List ℕ). cond (leb (0 + length t) (length old)) (answered t) (refused 8)) (c .value) (c .first) in
-    let same : c .value ≡ s .value = kept (leb (0 + length (s .value)) (length old)) (s .value) (c .value) (s .next) in
+    let s = put-stands text old new 0 n p in
     record {
-      t = c .value;
-      is = s .first ∙ ap answered (sym same);
-      front =
-          ap (take n) (p .slice ∙ ap (laid old 0) (c .first))
-          ∙ take-at (c .value) (drop (0 + length (c .value)) old) n (let e = c .is in omega arith);
+      t = s .t;
+      is = s .is;
+      front = ap (take n) (s .slice) ∙ take-at (s .t) (drop (0 + length (s .t)) old) n (let e = s .after in omega arith);
     }
-  where
-    kept : (b : Bool) (t u : List ℕ) → cond b (answered t) (refused 8) ≡ answered u → u ≡ t
-    kept true t u h = cc
-    kept false t u h = absurd (refused-not-answered h)
 
 module _ (s old new : List ℕ) (n : ℕ) (old′ new′ : List ℕ) (m : ℕ) (y : Bytes s) where
   pub moved-to-radio-and-back : Put (toRadio s) old 0 new (To n) → Put (toList (take n new)) old′ 0 new′ (To m) → take m new′ ≡ s

@@ -1,22 +1,16 @@
--- What is shown of an answer loses nothing, so that each contract holds of one answer only; a writer's promise fixes the whole slice too.
--- Assumes nothing.
-use mathlib.Core.Path.{_≡_, sym, ap, _∙_}
-use mathlib.Core.List.{List}
+-- What is shown of an answer loses nothing, so that each contract holds of one answer only. Assumes nothing.
+use mathlib.Core.Path.{_≡_, ap}
 use Prim.Native.Nat.{ℕ}
-use Rattle.quantity.specs.rules.Answer.{Answer, answered}
-use Rattle.quantity.specs.laws.Answer.{unique}
+use Rattle.quantity.specs.rules.Answer.{answered}
 use Rattle.list.specs.declared.Star.{Star}
 use Rattle.list_groups.specs.rules.Reading.{Placed}
 use Rattle.list_radio.specs.rules.Reader.{shownOpened, shownSighted, shownAccepted}
-use Rattle.list_radio.specs.rules.Put.{shownWritten, Put}
 use Rattle.list_radio.specs.declared.Opened.{Opened}
 use Rattle.list_radio.specs.declared.Opened.the-variants as opened
 use Rattle.list_radio.specs.declared.Sighted.{Sighted}
 use Rattle.list_radio.specs.declared.Sighted.the-variants as sighted
 use Rattle.list_radio.specs.declared.Accepted.{Accepted}
 use Rattle.list_radio.specs.declared.Accepted.the-variants as accepted
-use Rattle.list_radio.specs.declared.Written.{Written}
-use Rattle.list_radio.specs.declared.Written.the-variants as written
 
 same-placed : {A : Type 0} (x y : Placed A) → answered x ≡ answered y → x ≡ y
 same-placed x y e = cc
@@ -39,14 +33,3 @@ accepted-loses-nothing (accepted.Stars m) (accepted.Stars n) e = cc
 accepted-loses-nothing (accepted.Stars m) (accepted.Refused n) e = cc
 accepted-loses-nothing (accepted.Refused m) (accepted.Stars n) e = cc
 accepted-loses-nothing (accepted.Refused m) (accepted.Refused n) e = cc
-
-pub written-loses-nothing : (r s : Written) → shownWritten r ≡ shownWritten s → r ≡ s
-written-loses-nothing (written.To m) (written.To n) e = cc
-written-loses-nothing (written.To m) (written.Refused n) e = cc
-written-loses-nothing (written.Refused m) (written.To n) e = cc
-written-loses-nothing (written.Refused m) (written.Refused n) e = cc
-
--- of `put_head`, `put_star` and the movers
-pub one-put : {text : Answer (List ℕ)} {old new new′ : List ℕ} {at : ℕ} {r s : Written} → Put text old at new r
-    → Put text old at new′ s → (new ≡ new′) × (r ≡ s)
-one-put {r = r} {s = s} p q = (p .slice ∙ sym (q .slice), unique shownWritten written-loses-nothing r s (p .answer) (q .answer))

@@ -9,17 +9,19 @@ use Rattle.double.specs.notions.Code.{ofNumber}
 use Rattle.double.specs.laws.Apart.{apart}
 use Rattle.quantity.specs.notions.Code.{ofAnswer}
 use Rattle.quantity.specs.notions.Varies.{Varies}
-use Rattle.quantity.specs.rules.Answer.{answered, refused, then}
+use Rattle.quantity.specs.rules.Answer.{then}
+use Rattle.lent.specs.rules.Put.{roomFor}
+use Rattle.lent.specs.notions.Code.{ofBytes}
 use Rattle.list.specs.declared.Star.{Star}
 use Rattle.list.specs.rules.Record.{turn}
 use Rattle.list_groups.specs.rules.Reading.{Got, Placed}
 use Rattle.list_radio.specs.rules.Star.{starGroups, readStar}
 use Rattle.list_radio.specs.rules.Radio.{radioBytes, markRefusal, readCount}
 use Rattle.list_radio.specs.rules.Reader.{openRule, starAtRule, acceptRule}
-use Rattle.list_radio.specs.rules.Put.{roomFor, laid, headText, starText}
+use Rattle.list_radio.specs.rules.Put.{headText, starText}
 use Rattle.list_radio.specs.rules.Moves.{toList, toRadio}
 use Rattle.list_radio.specs.notions.Computed.{computed}
-use Rattle.list_radio.specs.notions.Wrong.{emptyIsEleven, anyFirstByte, countAbove5000Taken, rangeUnchecked, nineBeforeTheLastNumber, ownPlace, byteOverTaken, acceptsAbove5000, twelveForBytesOver, ascensionFirst, declinationUnfolded, countLeftOut, bytesCounted, roomFromTheStart, eightBeforeNine, anyCountPut, anyStarPut, restCleared, refusedSliceCleared, movesOutOfRange, nineBeforeEight, starsTurnedRound}
+use Rattle.list_radio.specs.notions.Wrong.{emptyIsEleven, anyFirstByte, countAbove5000Taken, rangeUnchecked, nineBeforeTheLastNumber, ownPlace, byteOverTaken, acceptsAbove5000, twelveForBytesOver, ascensionFirst, declinationUnfolded, countLeftOut, bytesCounted, eightBeforeNine, anyCountPut, anyStarPut, movesOutOfRange, nineBeforeEight, starsTurnedRound}
 
 abbrev ofCount : Got ℕ → ℕ
 ofCount g = g .value
@@ -32,11 +34,6 @@ ofHead p = p .place + 65536 * p .value
 
 abbrev ofSighted : Placed Star → ℕ
 ofSighted p = p .place + 65536 * p .value .number
-
--- bytes as the digits of one number
-abbrev ofBytes : List ℕ → ℕ
-ofBytes [] = 1
-ofBytes (b ∷ bs) = b + 256 * ofBytes bs
 
 -- two stars; the first byte and a count of 5001; a star whose right ascension is a whole turn, and the same without its last number
 abbrev twoStars : List ℕ
@@ -147,21 +144,10 @@ pub any-star-put-excluded : anyStarPut onTurn ≢ starText onTurn
 unfolding computed
 any-star-put-excluded = apart (ofAnswer ofBytes) refl
 
--- a text of one byte from place 1 on, in a slice of one byte
-pub room-from-the-start-excluded : roomFromTheStart (0 ∷ []) 1 (answered (7 ∷ [])) ≢ roomFor (0 ∷ []) 1 (answered (7 ∷ []))
-unfolding computed then
-room-from-the-start-excluded = apart (ofAnswer ofBytes) refl
-
 -- a star out of range, in an empty slice
 pub eight-before-nine-excluded : eightBeforeNine [] 0 onTurn ≢ roomFor [] 0 (starText onTurn)
 unfolding computed
 eight-before-nine-excluded = apart (ofAnswer ofBytes) refl
-
-pub rest-cleared-excluded : restCleared (9 ∷ 9 ∷ []) 0 (answered (7 ∷ [])) ≢ laid (9 ∷ 9 ∷ []) 0 (answered (7 ∷ []))
-rest-cleared-excluded = apart ofBytes refl
-
-pub refused-slice-cleared-excluded : refusedSliceCleared (9 ∷ 9 ∷ []) 0 (refused 13) ≢ laid (9 ∷ 9 ∷ []) 0 (refused 13)
-refused-slice-cleared-excluded = apart ofBytes refl
 
 -- ---- the moves
 

@@ -1,7 +1,7 @@
 -- What a theorem opens that works rules out at stated inputs: the radio list, over numbers in groups and the range of a star.
 use Prim.Native.Nat.{ℕ}
+use Rattle.lent.specs.rules.Put.{roomFor}
 use Rattle.list.specs.notions.Computed as list
-use Rattle.list.specs.rules.Record.{wordBytes, starBytes}
 use Rattle.list_groups.specs.rules.Groups.{groups}
 use Rattle.list_groups.specs.rules.Reading.{readNumber, readAt}
 use Rattle.list_groups.specs.rules.Several.{readAll}
@@ -9,10 +9,10 @@ use Rattle.list_groups.specs.rules.Fold.{folded, unfolded}
 use Rattle.list_radio.specs.rules.Star.{starGroups, readStar}
 use Rattle.list_radio.specs.rules.Radio.{headBytes, radioBytes, markRefusal, readCount, starsOf, radioStars}
 use Rattle.list_radio.specs.rules.Reader.{openRule, starAtRule, acceptRule}
-use Rattle.list_radio.specs.rules.Put.{roomFor, headText, starText}
+use Rattle.list_radio.specs.rules.Put.{headText, starText}
 use Rattle.list_radio.specs.rules.Moves.{toList, toRadio}
 
 -- a name for the line below it, which is what counts
 unfoldable pub computed : ℕ
-unfolding list.computed wordBytes starBytes groups readNumber readAt readAll folded unfolded starGroups readStar headBytes radioBytes markRefusal readCount starsOf radioStars openRule starAtRule acceptRule roomFor headText starText toList toRadio
+unfolding list.computed groups readNumber readAt readAll folded unfolded starGroups readStar headBytes radioBytes markRefusal readCount starsOf radioStars openRule starAtRule acceptRule roomFor headText starText toList toRadio
 computed = 0

@@ -3,7 +3,7 @@ use Prim.Native.Nat.{ℕ, _+_}
 use mathlib.Core.Bool.{cond}
 use mathlib.Core.List.{List, [], _∷_, _++_, reverse}
 use lib.Dec.{eqb, ltb, leb}
-use lib.ListN.{length, take, drop}
+use lib.ListN.{length, drop}
 use Rattle.quantity.specs.rules.Answer.{Answer, answered, refused, unless, with, then}
 use Rattle.list_words.specs.rules.Signed.{wordOf}
 use Rattle.list.specs.declared.Star.{Star}
@@ -85,10 +85,6 @@ bytesCounted rs = headBytes (length (spellAll starGroups rs)) ++ spellAll starGr
 
 -- ---- a text put
 
--- the room of the whole slice, whatever the place
-abbrev pub roomFromTheStart : List ℕ → ℕ → Answer (List ℕ) → Answer (List ℕ)
-roomFromTheStart old at text = then text (λ (t : List ℕ). cond (leb (length t) (length old)) (answered t) (refused 8))
-
 -- 8 before the star's own 9
 abbrev pub eightBeforeNine : List ℕ → ℕ → Star → Answer (List ℕ)
 eightBeforeNine old at r = cond (leb (at + length (starGroups r)) (length old)) (starText r) (refused 8)
@@ -98,20 +94,6 @@ anyCountPut n = answered (headBytes n)
 
 abbrev pub anyStarPut : Star → Answer (List ℕ)
 anyStarPut r = answered (starGroups r)
-
--- the rest of the slice cleared
-abbrev cleared : List ℕ → List ℕ
-cleared [] = []
-cleared (b ∷ bs) = 0 ∷ cleared bs
-
-abbrev pub restCleared : List ℕ → ℕ → Answer (List ℕ) → List ℕ
-restCleared old at (answered t) = take at old ++ t ++ cleared (drop (at + length t) old)
-restCleared old at (refused n) = old
-
--- a slice that was touched before the refusal
-abbrev pub refusedSliceCleared : List ℕ → ℕ → Answer (List ℕ) → List ℕ
-refusedSliceCleared old at (answered t) = take at old ++ t ++ drop (at + length t) old
-refusedSliceCleared old at (refused n) = cleared old
 
 -- ---- the moves
 

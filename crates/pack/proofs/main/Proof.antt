@@ -3,7 +3,7 @@ use borrow.Author.Needs.{needs}
 use mathlib.Core.Path.{sym}
 use lib.Seq.{length-take-le}
 use Rattle.double.specs.laws.Calls.{asks-nothing}
-use Rattle.list_radio.specs.laws.Put.{place-inside}
+use Rattle.lent.specs.laws.Put.{place-inside}
 use Rattle.pack.proofs.main.Statement.{statement}
 use Rattle.pack.proofs.main.Tie as tie
 

@@ -2,7 +2,7 @@
 use borrow.Author.Needs.{needs}
 use mir.Facts.{toZ-ofZ}
 use Rattle.double.specs.laws.Calls.{asks-nothing}
-use Rattle.brundelak.specs.laws.Radio.{put-told, not-put-told}
+use Rattle.brundelak.specs.laws.Put.{put-told, not-put-told}
 use Rattle.brundelak.proofs.radio.brundelak_radio_put_star.Statement.{statement}
 use Rattle.brundelak.proofs.radio.brundelak_radio_put_star.Tie as tie
 

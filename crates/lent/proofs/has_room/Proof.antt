@@ -1,12 +1,12 @@
--- `list_radio::has_room` meets its contract. Assumes nothing.
+-- `lent::has_room` meets its contract. Assumes nothing.
 use mathlib.Core.Path.{_≡_, refl, sym}
 use mathlib.Core.Bool.{Bool, true, false}
 use Prim.Native.Nat.{ℕ, _+_, _-_, _≤_, _<_}
 use native.Mathlib.Omega.{arith}
 use lib.Dec.{leb}
 use borrow.Author.Tests.{lt-leb, le-leb, leb-true, leb-false}
-use Rattle.list_radio.proofs.has_room.Statement.{statement}
-use Rattle.list_radio.proofs.has_room.Tie as tie
+use Rattle.lent.proofs.has_room.Statement.{statement}
+use Rattle.lent.proofs.has_room.Tie as tie
 
 moved : (at size len : ℕ) → at ≤ len → leb size (len - at) ≡ leb (at + size) len
 moved at size len h = go (leb size (len - at)) refl
