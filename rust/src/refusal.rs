@@ -45,10 +45,16 @@ pub enum Refusal {
 }
 
 impl Refusal {
-    /// The status as a result: 0 is no refusal.
-    pub(crate) fn from_status(status: u8) -> Result<(), Refusal> {
-        Err(match status {
-            0 => return Ok(()),
+    /// The refusal that a number stands for, as a status of a batch has it; none for 0, which is no refusal.
+    ///
+    /// ```
+    /// use brundelak::Refusal;
+    /// assert_eq!(Refusal::from_number(14), Some(Refusal::NoDirection));
+    /// assert_eq!(Refusal::from_number(0), None);
+    /// ```
+    pub fn from_number(number: u8) -> Option<Refusal> {
+        Some(match number {
+            0 => return None,
             1 => Refusal::NotFinite,
             2 => Refusal::Day,
             3 => Refusal::Angle,
@@ -67,6 +73,11 @@ impl Refusal {
             16 => Refusal::NeverSets,
             n => Refusal::Other(n),
         })
+    }
+
+    /// A status as a result.
+    pub(crate) fn from_status(status: u8) -> Result<(), Refusal> {
+        Refusal::from_number(status).map_or(Ok(()), Err)
     }
 
     /// The refusal's number.
@@ -91,11 +102,10 @@ impl Refusal {
             Refusal::Other(n) => n,
         }
     }
-}
 
-impl fmt::Display for Refusal {
-    fn fmt(&self, f: &mut fmt::Formatter<'_>) -> fmt::Result {
-        let why = match self {
+    /// What it means, as a sentence for people: that of `brundelak_sentence` in C.
+    pub fn sentence(self) -> &'static str {
+        match self {
             Refusal::NotFinite => "an argument is NaN or infinite",
             Refusal::Day => "a day is more than 730500 days from 2451545.0",
             Refusal::Angle => "an angle is too large, or a latitude or declination exceeds a quarter turn",
@@ -113,8 +123,13 @@ impl fmt::Display for Refusal {
             Refusal::NeverRises => "the star never rises: it stays below the standard altitude",
             Refusal::NeverSets => "the star never sets: it stays above the standard altitude",
             Refusal::Other(_) => "the call was refused",
-        };
-        write!(f, "refused by {}: {}", self.number(), why)
+        }
+    }
+}
+
+impl fmt::Display for Refusal {
+    fn fmt(&self, f: &mut fmt::Formatter<'_>) -> fmt::Result {
+        write!(f, "refused by {}: {}", self.number(), self.sentence())
     }
 }
 

@@ -1,0 +1,103 @@
+//! The stored list through the crate: read by an iterator, written star by star, and reduced to results.
+use brundelak::list::{self, Star};
+use brundelak::{angle, batch, chain, Edition, Refusal};
+
+/// Star 9's right ascension is a whole turn, so that its record is out of range.
+const STARS: [Star; 3] = [
+    Star { number: 7, asc: 0, dec: 0 },
+    Star { number: 9, asc: 1296000000, dec: 0 },
+    Star { number: 7, asc: 3600000, dec: -3600000 },
+];
+const LIST: [u8; 36] = [
+    7, 0, 0, 0, 0, 0, 0, 0, 0, 0, 0, 0, //
+    9, 0, 0, 0, 0x00, 0x64, 0x3F, 0x4D, 0, 0, 0, 0, //
+    7, 0, 0, 0, 0x80, 0xEE, 0x36, 0x00, 0x80, 0x11, 0xC9, 0xFF,
+];
+
+#[test]
+fn every_star_is_shown_in_order() {
+    let mut stars = list::stars(&LIST).unwrap();
+    for (i, &star) in STARS.iter().enumerate() {
+        assert_eq!(stars.len(), 3 - i);
+        assert_eq!(stars.next(), Some(star));
+    }
+    assert_eq!((stars.len(), stars.next(), stars.next()), (0, None, None));
+    assert_eq!(list::stars(&[]).unwrap().count(), 0);
+    assert_eq!(list::stars(&[0; 60000]).unwrap().count(), 5000);
+}
+
+#[test]
+fn bytes_that_are_no_list_have_no_stars() {
+    for len in [1, 11, 13, 35, 60012] {
+        assert_eq!(list::stars(&vec![0; len]).err(), Some(Refusal::List), "{} bytes", len);
+    }
+}
+
+#[test]
+fn stars_that_are_written_are_read_back() {
+    let (mut out, mut end) = ([0xA5; 30], 0);
+    for &star in &[STARS[0], STARS[2]] {
+        end = list::put_star(&mut out, end, star).unwrap();
+    }
+    assert_eq!((end, &out[24..]), (24, &[0xA5; 6][..]));
+    assert_eq!(out[..24], [&LIST[..12], &LIST[24..]].concat()[..]);
+    assert!(list::stars(&out[..end]).unwrap().eq([STARS[0], STARS[2]]));
+    // One is written over, and no other byte.
+    assert_eq!(list::put_star(&mut out, 0, STARS[2]), Ok(12));
+    assert_eq!((&out[..12], &out[12..24], &out[24..]), (&LIST[24..], &LIST[24..], &[0xA5; 6][..]));
+}
+
+#[test]
+fn a_star_that_is_not_written_leaves_every_byte() {
+    let mut out = vec![0xA5; 60024];
+    let refused = [
+        (60024, 0, STARS[1], Refusal::Record),
+        (60024, 1, STARS[1], Refusal::Record),
+        (60024, 0, Star { dec: 324000001, ..STARS[0] }, Refusal::Record),
+        (60024, 0, Star { dec: i32::MIN, ..STARS[0] }, Refusal::Record),
+        (60024, 1, STARS[0], Refusal::List),
+        (60024, 60000, STARS[0], Refusal::List),
+        (60024, usize::MAX - 3, STARS[0], Refusal::List),
+        (11, 0, STARS[0], Refusal::List),
+        (35, 24, STARS[0], Refusal::List),
+        (0, 0, STARS[0], Refusal::List),
+    ];
+    for (len, place, star, refusal) in refused {
+        assert_eq!(list::put_star(&mut out[..len], place, star), Err(refusal), "{} of {}", place, len);
+    }
+    assert!(out.iter().all(|&b| b == 0xA5));
+    // The last place of the longest list.
+    assert_eq!(list::put_star(&mut out, 59988, STARS[0]), Ok(60000));
+}
+
+#[test]
+fn each_star_is_its_place_or_its_refusal() {
+    let (day1, day2) = (2415020.5, 2462088.69);
+    for edition in [Edition::Crate, Edition::Published] {
+        let reduced = batch::reduced_by(edition, &LIST, day1, day2).unwrap();
+        let radians = |count: f64| angle::to_radians(count / 3600000.0).unwrap();
+        let by_chain = |star: &Star| chain::chain_by(edition, radians(star.asc.into()), radians(star.dec.into()), day1, day2);
+        assert_eq!(reduced, [by_chain(&STARS[0]), Err(Refusal::Record), by_chain(&STARS[2])]);
+        assert!(reduced[0].is_ok() && reduced[2].is_ok());
+    }
+    assert_eq!(batch::reduced(&LIST, day1, day2), batch::reduced_by(Edition::Crate, &LIST, day1, day2));
+    assert_ne!(batch::reduced(&LIST, day1, day2), batch::reduced_by(Edition::Published, &LIST, day1, day2));
+    assert_eq!(batch::reduced(&[], day1, day2), Ok(vec![]));
+}
+
+#[test]
+fn a_refused_batch_has_no_results() {
+    assert_eq!(batch::reduced(&LIST[1..], f64::NAN, 0.0), Err(Refusal::NotFinite));
+    assert_eq!(batch::reduced(&LIST[1..], 2451545.0, 0.0), Err(Refusal::Day));
+    assert_eq!(batch::reduced(&LIST[1..], 2451545.0, 2451545.0), Err(Refusal::List));
+    assert_eq!(batch::reduced(&[0; 60012], 2451545.0, 2451545.0), Err(Refusal::List));
+}
+
+#[test]
+fn what_a_batch_left_is_read_without_memory() {
+    let (mut status, mut asc, mut dec) = ([0; 3], [0.0; 3], [0.0; 3]);
+    batch::batch(&LIST, 2451545.0, 2462088.69, &mut status, &mut asc, &mut dec).unwrap();
+    let reduced = batch::reduced(&LIST, 2451545.0, 2462088.69).unwrap();
+    assert!(batch::places(&status, &asc, &dec).eq(reduced.iter().copied()));
+    assert!(batch::places(&status[..2], &asc, &dec).eq(reduced[..2].iter().copied()));
+}

@@ -1,0 +1,29 @@
+//! Refusals by their numbers and in words.
+use brundelak::{coords, Refusal};
+
+#[test]
+fn every_number_comes_back() {
+    assert_eq!(Refusal::from_number(0), None);
+    for number in 1..=255 {
+        assert_eq!(Refusal::from_number(number).map(Refusal::number), Some(number));
+    }
+}
+
+#[test]
+fn the_numbers_of_the_table_have_names_and_sentences_of_their_own() {
+    let mut sentences: Vec<&str> = (1..=16).map(|n| Refusal::from_number(n).unwrap().sentence()).collect();
+    let unnamed = Refusal::Other(17).sentence();
+    assert!((1..=16).all(|n| Refusal::from_number(n) != Some(Refusal::Other(n))));
+    assert!((17..=255).all(|n| Refusal::from_number(n) == Some(Refusal::Other(n))));
+    assert!(!sentences.contains(&unnamed));
+    sentences.sort();
+    sentences.dedup();
+    assert_eq!(sentences.len(), 16);
+}
+
+#[test]
+fn a_refusal_says_its_number_and_its_sentence() {
+    let steep = coords::az_frm_eq(0.5, 1.5705, 0.9).unwrap_err();
+    assert_eq!(steep, Refusal::Steep);
+    assert_eq!(steep.to_string(), format!("refused by 4: {}", steep.sentence()));
+}
