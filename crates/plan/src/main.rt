@@ -42,13 +42,20 @@ fn no_angle(name: &[u8]) {
     );
 }
 
+// Writes the text, or says that it could not.
+fn write(text: &[u8]) {
+    if !io::write_all(1, text) {
+        io::write_all(2, b"not written in full\n");
+    }
+}
+
 // The plan of the list.
 fn print(day1: f64, day2: f64, sidereal: Deg, long: Deg, lat: Deg, alt: Deg) {
     let mut input = [0u8; list::READ];
     let n = io::read_full(0, &mut input);
     let mut out = [0u8; text_plan::ROOM];
     let k = text_plan::put_plan(&mut out, &input[..n], day1, day2, sidereal, long, lat, alt);
-    io::write_all(1, &out[..k]);
+    write(&out[..k]);
 }
 
 // With both days read.

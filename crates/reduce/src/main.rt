@@ -1,5 +1,6 @@
 // Prints the star list that stands on standard input, reduced from the day of the first argument to that of the second, in the edition
-// that the third names: the crate's where there is none.
+// that the third names: the crate's where there is none. Where `--table` stands before them it is a table for people.
+ghost use Prim.Native.Nat.{_≤_};
 use edition::Edition;
 use text_day::Day;
 
@@ -44,49 +45,74 @@ fn complain(which: &[u8]) {
     );
 }
 
+// Whether the first argument asks for a table.
+fn table_asked() -> bool {
+    let mut text = [0u8; 64];
+    let n = os::arg(1, &mut text);
+    if os::errno() != 0 {
+        return false;
+    }
+    text_word::is_word(&text[..n], b"--table")
+}
+
+// Writes the text, or says that it could not.
+fn write(text: &[u8]) {
+    if !io::write_all(1, text) {
+        io::write_all(2, b"not written in full\n");
+    }
+}
+
 // The report of the list.
-fn print(edition: Edition, day1: f64, day2: f64) {
+fn print_lines(edition: Edition, day1: f64, day2: f64) {
     let mut input = [0u8; list::READ];
     let n = io::read_full(0, &mut input);
     let mut out = [0u8; text_report::ROOM];
     let k = text_report::put_report(&mut out, edition, &input[..n], day1, day2);
-    io::write_all(1, &out[..k]);
+    write(&out[..k]);
 }
 
-// With both days read.
-fn with_days(day1: f64, day2: f64) {
-    match edition_of(3) {
-        Named::Is(edition) => {
-            print(edition, day1, day2);
-        }
-        Named::Unclear => {
-            io::write_all(
-                2,
-                b"third argument: the edition is published, or not named\n",
-            );
-        }
+// The table of the list.
+fn print_table(edition: Edition, day1: f64, day2: f64) {
+    let mut input = [0u8; list::READ];
+    let n = io::read_full(0, &mut input);
+    let mut out = [0u8; text_table::ROOM];
+    let k = text_table::put_table(&mut out, edition, &input[..n], day1, day2);
+    write(&out[..k]);
+}
+
+// With the days and the edition read.
+fn print(table: bool, edition: Edition, day1: f64, day2: f64) {
+    if table {
+        print_table(edition, day1, day2);
+    } else {
+        print_lines(edition, day1, day2);
     }
 }
 
-// With the first day read.
-fn with_first(day1: f64) {
-    match day_of(2) {
-        Day::Is(day2) => {
-            with_days(day1, day2);
-        }
-        Day::Unclear => {
-            complain(b"second");
-        }
-    }
+// How many arguments stand before the days.
+fn before_days(table: bool) -> usize
+    ensures { λ r. ⌜ r ≤ 1 ⌝ }
+{
+    if table { 1 } else { 0 }
 }
 
 fn main() {
-    match day_of(1) {
-        Day::Is(day1) => {
-            with_first(day1);
-        }
-        Day::Unclear => {
-            complain(b"first");
-        }
-    }
+    let table = table_asked();
+    let before = before_days(table);
+    let Day::Is(day1) = day_of(before + 1) else {
+        complain(b"first");
+        return;
+    };
+    let Day::Is(day2) = day_of(before + 2) else {
+        complain(b"second");
+        return;
+    };
+    let Named::Is(edition) = edition_of(before + 3) else {
+        io::write_all(
+            2,
+            b"third argument: the edition is published, or not named\n",
+        );
+        return;
+    };
+    print(table, edition, day1, day2);
 }

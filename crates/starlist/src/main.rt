@@ -1,13 +1,20 @@
 // Prints the sheet of the star list that stands on standard input.
 use text_sheet::Written;
 
+// Writes the text, or says that it could not.
+fn write(text: &[u8]) {
+    if !io::write_all(1, text) {
+        io::write_all(2, b"not written in full\n");
+    }
+}
+
 fn main() {
     let mut input = [0u8; list::READ];
     let n = io::read_full(0, &mut input);
     let mut out = [0u8; text_sheet::ROOM];
     match text_sheet::render(&input[..n], &mut out) {
         Written::Bytes(k) => {
-            io::write_all(1, &out[..k]);
+            write(&out[..k]);
         }
         Written::Refused(_) => {}
     }

@@ -1,4 +1,5 @@
 -- What is proved of a star's line, for callers to cite. Theorems only.
 pub mod Constants
+pub mod Nearest
 pub mod Room
 pub mod Wrong

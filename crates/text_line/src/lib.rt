@@ -10,7 +10,7 @@ use quantity::Rad;
 // ---- an angle
 
 // Radians as degrees.
-fn to_degrees(x: Rad) -> Deg
+pub fn to_degrees(x: Rad) -> Deg
     ensures { λ r. ⌜ r ≡ toDegrees x ⌝ }
 {
     Deg(x.0 * 57.29577951308232)
@@ -24,7 +24,7 @@ fn milliarcseconds(x: Deg) -> f64
 }
 
 // The nearest whole number, a half going up.
-fn nearest_whole(y: f64) -> u64
+pub fn nearest_whole(y: f64) -> u64
     ensures { λ r. ⌜ r ≡ nearestWhole y ⌝ }
 {
     let w = double::whole_part(y);
@@ -37,7 +37,7 @@ fn nearest_whole(y: f64) -> u64
 }
 
 // Whether a minus sign stands before n.
-fn has_minus(y: f64, n: u64) -> bool
+pub fn has_minus(y: f64, n: u64) -> bool
     ensures { λ r. ⌜ r ≡ hasMinus y n ⌝ }
 {
     if y < 0.0 {

@@ -117,7 +117,7 @@ fn put_tally(out: &mut [u8], at: usize, tally: Tally) -> usize
 }
 
 // The edition in a line, where it is the published one.
-fn put_edition(out: &mut [u8], edition: Edition) -> usize
+pub fn put_edition(out: &mut [u8], edition: Edition) -> usize
     ensures { λ r. ⌜ Wrote (now (out .entry)) 0 (editionText edition) (now (out .exit)) r ⌝ }
 {
     match edition {

@@ -4,7 +4,7 @@
 ghost use mathlib.Core.Path.{_≡_};
 ghost use Rattle.lent.specs.rules.Writing.{Wrote};
 ghost use Rattle.quantity.specs.rules.Answer.{shownThree};
-ghost use Rattle.text_time.specs.rules.Time.{secondsOf, twoDigits, timeText};
+ghost use Rattle.text_time.specs.rules.Time.{secondsOf, twoDigits, clockText, timeText};
 ghost use Rattle.text_time.specs.rules.Line.{timeThen, timesText, whyText, outcomeText, planLine};
 use quantity::Three;
 
@@ -18,7 +18,7 @@ fn seconds_of(x: f64) -> u64
 }
 
 // Each `put_` writes its text from the place on, and answers the place after it. This one: a number of two digits.
-fn put_two(out: &mut [u8], at: usize, n: u64) -> usize
+pub fn put_two(out: &mut [u8], at: usize, n: u64) -> usize
     ensures { λ r. ⌜ Wrote (now (out .entry)) at (twoDigits n) (now (out .exit)) r ⌝ }
 {
     if n < 10 {
@@ -28,16 +28,22 @@ fn put_two(out: &mut [u8], at: usize, n: u64) -> usize
     text_number::put_decimal(out, at, n)
 }
 
-// A fraction of a day in hours, minutes and seconds.
-fn put_time(out: &mut [u8], at: usize, x: f64) -> usize
-    ensures { λ r. ⌜ Wrote (now (out .entry)) at (timeText x) (now (out .exit)) r ⌝ }
+// So many seconds in hours, minutes and seconds.
+pub fn put_clock(out: &mut [u8], at: usize, n: u64) -> usize
+    ensures { λ r. ⌜ Wrote (now (out .entry)) at (clockText n) (now (out .exit)) r ⌝ }
 {
-    let n = seconds_of(x);
     let a = put_two(out, at, n / 3600);
     let b = lent::put_byte(out, a, b':');
     let c = put_two(out, b, n / 60 % 60);
     let d = lent::put_byte(out, c, b':');
     put_two(out, d, n % 60)
+}
+
+// A fraction of a day likewise.
+fn put_time(out: &mut [u8], at: usize, x: f64) -> usize
+    ensures { λ r. ⌜ Wrote (now (out .entry)) at (timeText x) (now (out .exit)) r ⌝ }
+{
+    put_clock(out, at, seconds_of(x))
 }
 
 // ---- a star

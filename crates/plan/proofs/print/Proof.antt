@@ -22,8 +22,8 @@ slice-aggregate-put-plan-2 c = search needs
 array-share-prefix-out : tie.Need-array-share-prefix-out
 array-share-prefix-out c = inside (c .before .put-plan .ensures)
 
-slice-aggregate-write-all : tie.Need-slice-aggregate-write-all
-slice-aggregate-write-all c = sym (length-take-le _ _ (array-share-prefix-out (c .before)))
+slice-aggregate-write : tie.Need-slice-aggregate-write
+slice-aggregate-write c = sym (length-take-le _ _ (array-share-prefix-out (c .before)))
 
 returns : tie.Need-returns
 returns c = search needs
@@ -39,6 +39,6 @@ print-spec =
     slice-aggregate-put-plan-2
     asks-nothing
     array-share-prefix-out
-    slice-aggregate-write-all
+    slice-aggregate-write
     asks-nothing
     returns)

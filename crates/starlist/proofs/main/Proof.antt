@@ -28,8 +28,8 @@ enum-known-k c = search needs
 array-share-prefix-out : tie.Need-array-share-prefix-out
 array-share-prefix-out c = subst (λ (w : Written). bytesOf w ≤ length (c .before .before .before .before .render .last .1 .0)) (c .before .k .given .1) (c .before .before .before .before .render .ensures .1 .1)
 
-slice-aggregate-write-all : tie.Need-slice-aggregate-write-all
-slice-aggregate-write-all c = sym (length-take-le _ _ (array-share-prefix-out (c .before)))
+slice-aggregate-write : tie.Need-slice-aggregate-write
+slice-aggregate-write c = sym (length-take-le _ _ (array-share-prefix-out (c .before)))
 
 enum-told : tie.Need-enum-told
 enum-told c = search needs
@@ -52,7 +52,7 @@ main-spec =
     asks-nothing
     enum-known-k
     array-share-prefix-out
-    slice-aggregate-write-all
+    slice-aggregate-write
     asks-nothing
     enum-told
     returns

@@ -40,7 +40,7 @@ tally-short t =
     let short = texts-short 21 (highestStatus + 1) (countAt (t .counts)) (λ (k : ℕ). count-short _) in
     omega (arith, length-append tallyWord (counts ++ end), length-append counts end, short)
 
-edition-short : (edition : Edition) → length (editionText edition) ≤ 18
+pub edition-short : (edition : Edition) → length (editionText edition) ≤ 18
 unfolding editionText
 edition-short Crate = omega arith
 edition-short Published = omega arith

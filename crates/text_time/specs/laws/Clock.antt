@@ -1,5 +1,6 @@
--- A time up to the end of a day has eight bytes, two digits to each part; and what the parts say is the seconds. Assumes nothing.
-use Prim.Native.Nat.{ℕ, suc, _+_, _*_, _/_, _%_, _≤_, _<_}
+-- A clock below a hundred hours, as a time up to the end of a day is, has eight bytes, two digits to each part; and what the parts say is
+-- the seconds. Assumes nothing.
+use Prim.Native.Nat.{ℕ, suc, _+_, _*_, _/_, _%_, _<_}
 use mathlib.Core.Path.{_≡_, refl}
 use mathlib.Core.Bool.{Bool, true, false, cond}
 use mathlib.Core.List.{[], _∷_, _++_}
@@ -17,7 +18,7 @@ use Rattle.text_time.specs.notions.Computed.{computed}
 use Rattle.text_time.specs.laws.Seconds.{seconds-at-most}
 
 -- a number below 10 has one digit
-one-digit : (f n : ℕ) → n < 10 → length (decimalIn (suc f) n) ≡ 1
+pub one-digit : (f n : ℕ) → n < 10 → length (decimalIn (suc f) n) ≡ 1
 unfolding decimalIn
 one-digit f n h = rw (lt-ltb n 10 h)
 
@@ -32,7 +33,7 @@ two-digits n h = by-case (ltb n 10) refl
     by-case false e =
         omega (arith, length-append (decimalIn 19 (n / 10)) ((digit0 + n % 10) ∷ []), one-digit 18 (n / 10) (omega arith), ltb-false n 10 e)
 
-pub clock-eight-bytes : (n : ℕ) → n ≤ 86400 → length (clockText n) ≡ 8
+pub clock-eight-bytes : (n : ℕ) → n < 360000 → length (clockText n) ≡ 8
 unfolding clockText
 clock-eight-bytes n h =
     let s = twoDigits (n % 60) in
@@ -47,7 +48,7 @@ clock-eight-bytes n h =
     )
 
 pub time-eight-bytes : (x : Float) → Between zero one x → length (timeText x) ≡ 8
-time-eight-bytes x day = clock-eight-bytes (secondsOf x) (seconds-at-most x day)
+time-eight-bytes x day = clock-eight-bytes (secondsOf x) (let h = seconds-at-most x day in omega arith)
 
 -- hours, minutes and seconds
 pub clock-says-seconds : (n : ℕ) → n / 3600 * 3600 + n / 60 % 60 * 60 + n % 60 ≡ n

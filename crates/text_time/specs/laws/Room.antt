@@ -23,22 +23,26 @@ any-two-short n = by-case (ltb n 10)
     by-case true = omega (arith, any-decimal-short n)
     by-case false = omega (arith, any-decimal-short n)
 
-time-short : (x : Float) (end : ℕ) → length (timeThen x end) ≤ 28
-unfolding timeThen clockText
-time-short x end =
-    let n = secondsOf x in
+pub clock-short : (n : ℕ) → length (clockText n) ≤ 27
+unfolding clockText
+clock-short n =
     let s = twoDigits (n % 60) in
     let m = twoDigits (n / 60 % 60) in
     let h = twoDigits (n / 3600) in
     omega (
       arith,
-      length-append (h ++ (colon ∷ (m ++ (colon ∷ s)))) (end ∷ []),
       length-append h (colon ∷ (m ++ (colon ∷ s))),
       length-append m (colon ∷ s),
       any-two-short (n / 3600),
       two-digits (n / 60 % 60) (omega arith),
       two-digits (n % 60) (omega arith),
     )
+
+time-short : (x : Float) (end : ℕ) → length (timeThen x end) ≤ 28
+unfolding timeThen
+time-short x end =
+    let n = secondsOf x in
+    omega (arith, length-append (clockText n) (end ∷ []), clock-short n)
 
 why-short : (n : ℕ) → length (whyText n) ≤ 29
 unfolding whyText

@@ -1,0 +1,16 @@
+-- Wrong variants are excluded: each differs from the rule at the input stated. Assumes nothing.
+use mathlib.Core.Path.{refl}
+use std.Logic.{_≢_}
+use Rattle.double.specs.laws.Apart.{apart}
+use Rattle.text_number.specs.notions.Code.{ofText}
+use Rattle.text_refusal.specs.rules.Refusal.{refusalText}
+use Rattle.text_refusal.specs.notions.Computed.{computed}
+use Rattle.text_refusal.specs.notions.Wrong.{wordsLost, wordsOfAnother}
+
+pub words-lost-excluded : wordsLost 9 ≢ refusalText 9
+unfolding computed
+words-lost-excluded = apart ofText refl
+
+pub words-of-another-excluded : wordsOfAnother 8 ≢ refusalText 8
+unfolding computed
+words-of-another-excluded = apart ofText refl

@@ -1,0 +1,82 @@
+-- A number below 2^32 fills its column of ten, and a row has 145 bytes at most. Assumes nothing.
+use Prim.Native.Nat.{ℕ, _+_, _-_, _/_, _%_, _≤_, _<_}
+use mathlib.Core.Path.{_≡_}
+use mathlib.Core.Bool.{Bool, true, false, cond}
+use mathlib.Core.List.{List, [], _∷_, _++_}
+use native.Mathlib.Omega.{arith}
+use lib.Dec.{eqb}
+use lib.ListN.{length, length-append, take}
+use lib.Seq.{length-take-le}
+use Rattle.double.specs.rules.Sign.{size}
+use Rattle.quantity.specs.declared.Rad.{Rad}
+use Rattle.text_number.specs.rules.Bytes.{ascii, lineEnd, point}
+use Rattle.text_number.specs.rules.Number.{decimalText}
+use Rattle.text_number.specs.laws.Number.{decimal-short, any-decimal-short}
+use Rattle.text_line.specs.rules.Angle.{toDegrees, nearestWhole, hasMinus}
+use Rattle.text_time.specs.rules.Time.{twoDigits, clockText}
+use Rattle.text_time.specs.laws.Clock.{two-digits}
+use Rattle.text_time.specs.laws.Room.{clock-short}
+use Rattle.text_refusal.specs.rules.Refusal.{refusalText}
+use Rattle.text_refusal.specs.laws.Room.{refusal-short}
+use Rattle.text_row.specs.rules.Place.{hoursText, hundredths, arcText, degreesText}
+use Rattle.text_row.specs.rules.Row.{columnText, placeText, rowOf}
+use Rattle.text_row.specs.laws.Place.{hours-twelve-bytes}
+
+column-length : (n : ℕ) → length (columnText n) ≡ (10 - length (decimalText n)) + length (decimalText n)
+unfolding columnText
+column-length n =
+    let k = 10 - length (decimalText n) in
+    omega (arith, length-append (take k (ascii "          ")) (decimalText n), length-take-le k (ascii "          ") (omega arith))
+
+pub column-ten-bytes : (n : ℕ) → n < 4294967296 → length (columnText n) ≡ 10
+column-ten-bytes n h = omega (arith, column-length n, decimal-short n h)
+
+arc-short : (minus : Bool) (n : ℕ) → length (arcText minus n) ≤ 31
+unfolding arcText
+arc-short minus n =
+    omega (
+      arith,
+      length-append (clockText (n / 100)) (point ∷ twoDigits (n % 100)),
+      clock-short (n / 100),
+      two-digits (n % 100) (omega arith),
+    )
+
+degrees-short : (x : Rad) → length (degreesText x) ≤ 31
+unfolding degreesText
+degrees-short x =
+    let y = hundredths (toDegrees x) in
+    arc-short (hasMinus y (nearestWhole (size y))) (nearestWhole (size y))
+
+place-short : (asc dec : Rad) → length (placeText asc dec) ≤ 49
+unfolding placeText
+place-short asc dec =
+    let end : List ℕ = lineEnd ∷ [] in
+    omega (
+      arith,
+      length-append (hoursText asc) (ascii "     " ++ (degreesText dec ++ end)),
+      length-append (degreesText dec) end,
+      hours-twelve-bytes asc,
+      degrees-short dec,
+    )
+
+pub row-short : (number status : ℕ) (asc dec : Rad) → length (rowOf number status asc dec) ≤ 145
+unfolding rowOf
+row-short number status asc dec = by-case (eqb status 0)
+  where
+    by-case : (b : Bool) → length (columnText number ++ (ascii "  " ++ cond b (placeText asc dec) (refusalText status))) ≤ 145
+    by-case true =
+        omega (
+          arith,
+          length-append (columnText number) (ascii "  " ++ placeText asc dec),
+          column-length number,
+          any-decimal-short number,
+          place-short asc dec,
+        )
+    by-case false =
+        omega (
+          arith,
+          length-append (columnText number) (ascii "  " ++ refusalText status),
+          column-length number,
+          any-decimal-short number,
+          refusal-short status,
+        )

@@ -1,0 +1,126 @@
+// A star's row of the table that `reduce --table` prints: its number, then its right ascension in hours and its declination in degrees,
+// or its refusal in words.
+// Rules: specs/rules, in reading order in specs/rules.antt.
+ghost use Prim.Native.Nat.{_-_};
+ghost use mathlib.Core.Path.{_≡_};
+ghost use Rattle.lent.specs.rules.Writing.{Wrote};
+ghost use Rattle.text_row.specs.rules.Place.{milliseconds, millisecondsOf, threeDigits, hoursText, hundredths, signOf, arcText, degreesText};
+ghost use Rattle.text_row.specs.rules.Row.{columnText, placeText, rowOf};
+use helpers::angle;
+use quantity::Deg;
+use quantity::Rad;
+
+// ---- a right ascension
+
+// Degrees in milliseconds of time.
+fn milliseconds(x: Deg) -> f64
+    ensures { λ r. ⌜ r ≡ milliseconds x ⌝ }
+{
+    x.0 * 240000.0
+}
+
+// A right ascension in whole milliseconds of time, below 24 hours.
+fn milliseconds_of(x: Rad) -> u64
+    ensures { λ r. ⌜ r ≡ millisecondsOf x ⌝ }
+{
+    let y = milliseconds(text_line::to_degrees(angle::within_two_PI(x)));
+    text_line::nearest_whole(y) % 86400000
+}
+
+// Each `put_` writes its text from the place on, and answers the place after it. This one: a number of three digits.
+fn put_three(out: &mut [u8], at: usize, n: u64) -> usize
+    ensures { λ r. ⌜ Wrote (now (out .entry)) at (threeDigits n) (now (out .exit)) r ⌝ }
+{
+    if n < 100 {
+        let a = lent::put_byte(out, at, b'0');
+        return text_time::put_two(out, a, n);
+    }
+    text_number::put_decimal(out, at, n)
+}
+
+// A right ascension in hours, minutes and seconds.
+fn put_hours(out: &mut [u8], at: usize, x: Rad) -> usize
+    ensures { λ r. ⌜ Wrote (now (out .entry)) at (hoursText x) (now (out .exit)) r ⌝ }
+{
+    let n = milliseconds_of(x);
+    let a = text_time::put_clock(out, at, n / 1000);
+    let b = lent::put_byte(out, a, b'.');
+    put_three(out, b, n % 1000)
+}
+
+// ---- a declination
+
+// Degrees in hundredths of a second of arc.
+fn hundredths(x: Deg) -> f64
+    ensures { λ r. ⌜ r ≡ hundredths x ⌝ }
+{
+    x.0 * 360000.0
+}
+
+// The sign that is shown.
+fn sign(minus: bool) -> u8
+    ensures { λ r. ⌜ r ≡ signOf minus ⌝ }
+{
+    if minus { b'-' } else { b'+' }
+}
+
+// A sign and so many hundredths of a second, in degrees, minutes and seconds.
+fn put_arc(out: &mut [u8], at: usize, minus: bool, n: u64) -> usize
+    ensures { λ r. ⌜ Wrote (now (out .entry)) at (arcText minus n) (now (out .exit)) r ⌝ }
+{
+    let a = lent::put_byte(out, at, sign(minus));
+    let b = text_time::put_clock(out, a, n / 100);
+    let c = lent::put_byte(out, b, b'.');
+    text_time::put_two(out, c, n % 100)
+}
+
+// A declination in degrees, minutes and seconds.
+fn put_degrees(out: &mut [u8], at: usize, x: Rad) -> usize
+    ensures { λ r. ⌜ Wrote (now (out .entry)) at (degreesText x) (now (out .exit)) r ⌝ }
+{
+    let y = hundredths(text_line::to_degrees(x));
+    let n = text_line::nearest_whole(double::size(y));
+    put_arc(out, at, text_line::has_minus(y, n), n)
+}
+
+// ---- a star
+
+// How many of ten columns are left.
+fn left_of_ten(k: usize) -> usize
+    ensures { λ r. ⌜ r ≡ 10 - k ⌝ }
+{
+    if k < 10 { 10 - k } else { 0 }
+}
+
+// A number at the right of a column of ten.
+fn put_column(out: &mut [u8], at: usize, n: u32) -> usize
+    ensures { λ r. ⌜ Wrote (now (out .entry)) at (columnText n) (now (out .exit)) r ⌝ }
+{
+    let mut digits = [0u8; 20];
+    let spaces = [b' '; 10];
+    let k = left_of_ten(text_number::put_decimal(&mut digits, 0, n as u64));
+    let a = lent::put(out, at, &spaces[..k]);
+    text_number::put_decimal(out, a, n as u64)
+}
+
+// Both angles.
+fn put_place(out: &mut [u8], at: usize, asc: Rad, dec: Rad) -> usize
+    ensures { λ r. ⌜ Wrote (now (out .entry)) at (placeText asc dec) (now (out .exit)) r ⌝ }
+{
+    let a = put_hours(out, at, asc);
+    let b = lent::put(out, a, b"     ");
+    let c = put_degrees(out, b, dec);
+    lent::put_byte(out, c, b'\n')
+}
+
+// A star's row.
+pub fn put_row(out: &mut [u8], at: usize, number: u32, status: u8, asc: Rad, dec: Rad) -> usize
+    ensures { λ r. ⌜ Wrote (now (out .entry)) at (rowOf number status asc dec) (now (out .exit)) r ⌝ }
+{
+    let a = put_column(out, at, number);
+    let b = lent::put(out, a, b"  ");
+    if status == 0 {
+        return put_place(out, b, asc, dec);
+    }
+    text_refusal::put_refusal(out, b, status)
+}
