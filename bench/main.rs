@@ -1,12 +1,15 @@
 //! bench NAME port|rust N: N calls of a function, of the port through its C boundary or of the supplied text with Rust's own library
 //! functions, on the same random sights.
 //! bench stars LIST N: the first N stars of a list from J2000 to a night by the supplied text's chain, star by star.
+//! Either with `time` for N: the nanoseconds of a call, the median of seven rounds.
 //! As many sights, or stars, are made ready whatever N is, so that the difference of two counts is the calls' own.
 extern crate astro_own as own;
 
 use own::{aberr, coords, nutation, precess};
 
 extern "C" {
+    /// The processor's time of this process, in millionths of a second.
+    fn clock() -> i64;
     fn brundelak_az_frm_eq(hour_angle: f64, dec: f64, lat: f64, out: *mut f64) -> u8;
     fn brundelak_alt_frm_eq(hour_angle: f64, dec: f64, lat: f64, out: *mut f64) -> u8;
     fn brundelak_precess_eq_coords(asc: f64, dec: f64, day1: f64, day2: f64, a: *mut f64, b: *mut f64) -> u8;
@@ -110,13 +113,34 @@ fn sights() -> Vec<Sight> {
         .collect()
 }
 
+/// The nanoseconds of a call.
+fn timed(ready: &[Sight], call: fn(&Sight) -> f64) -> f64 {
+    let round = || {
+        let begun = unsafe { clock() };
+        let mut total = 0.0;
+        let times = 1 + 20000 / ready.len();
+        for _ in 0..times {
+            total += ready.iter().map(call).sum::<f64>();
+        }
+        assert!(total == total);
+        1000.0 * unsafe { clock() - begun } as f64 / (times * ready.len()) as f64
+    };
+    let mut figures: Vec<f64> = (0..7).map(|_| round()).collect();
+    figures.sort_by(|a, b| a.partial_cmp(b).unwrap());
+    figures[3]
+}
+
 fn main() {
     let args: Vec<String> = std::env::args().collect();
-    let n: usize = args[3].parse().unwrap();
     let (ready, call) = match args[1].as_str() {
         "stars" => (stars(&args[2]), chain as fn(&Sight) -> f64),
         name => (sights(), work(name, &args[2])),
     };
+    if args[3] == "time" {
+        println!("{:.1}", timed(&ready, call));
+        return;
+    }
+    let n: usize = args[3].parse().unwrap();
     let total: f64 = ready[..n].iter().map(call).sum();
     println!("{}", total);
 }

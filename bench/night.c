@@ -1,6 +1,7 @@
 /* night WHAT LIST STARS NIGHTS: the first stars of a list from J2000 to each of some nights, by the batch, by the chain star by star, or
  * by another library where it is compiled in. Whatever the counts, the same list is read and as many places are added up, so that the
  * difference of two counts is the work's own.
+ * night WHAT LIST time: the nanoseconds of a star, the night's own taken off: the median of seven rounds.
  * night WHAT LIST apart: the widest distance of its places from the chain's, in seconds of arc, over all stars of the first night. */
 #include <math.h>
 #include <stdint.h>
@@ -8,6 +9,7 @@
 #include <stdlib.h>
 #include <string.h>
 #include "brundelak.h"
+#include "clock.h"
 #ifdef WITH_ERFA
 #include <erfa.h>
 #endif
@@ -124,6 +126,22 @@ static double widest(void (*work)(size_t, double))
     return wide;
 }
 
+/* The nanoseconds of a star. */
+static double timed(void (*work)(size_t, double))
+{
+    enum { ROUNDS = 7 };
+    double figures[ROUNDS];
+    work(ROOM, FIRST_NIGHT);
+    for (size_t k = 0; k < ROUNDS; k++) {
+        double begun = nanoseconds();
+        work(ROOM, FIRST_NIGHT);
+        double stars = nanoseconds();
+        work(0, FIRST_NIGHT);
+        figures[k] = ((stars - begun) - (nanoseconds() - stars)) / ROOM;
+    }
+    return median(figures, ROUNDS);
+}
+
 int main(int argc, char **argv)
 {
     FILE *list = argc == 4 || argc == 5 ? fopen(argv[2], "rb") : NULL;
@@ -140,6 +158,10 @@ int main(int argc, char **argv)
     for (size_t w = 0; w < sizeof works / sizeof *works; w++) {
         if (strcmp(works[w].name, argv[1]) != 0)
             continue;
+        if (strcmp(argv[3], "time") == 0) {
+            printf("%.1f\n", timed(works[w].work));
+            return 0;
+        }
         if (strcmp(argv[3], "apart") == 0) {
             printf("%.3f\n", widest(works[w].work));
             return 0;
