@@ -4,6 +4,7 @@ pub mod Range
 pub mod Grid
 pub mod Greatest
 pub mod Count
+pub mod WholeDigits
 pub mod Computed
 pub mod Code
 pub mod Stated

@@ -12,7 +12,7 @@ use Rattle.double.specs.rules.Whole.{wholePart, fromWhole}
 use Rattle.double.specs.rules.Pattern.{patternOf}
 use Rattle.double.specs.notions.Computed.{computed}
 use Rattle.double.specs.notions.Greatest.{greatest}
-use Rattle.double.specs.notions.Wrong.{bearsMinusBelowZero, negatedUnless, sizeOfBelowZero, sizeBelowZero, finiteToInfinity, wholePartCapped, fromLowBits, patternOfSize, belowGreatest}
+use Rattle.double.specs.notions.Wrong.{bearsMinusBelowZero, negatedUnless, sizeOfBelowZero, sizeBelowZero, finiteToInfinity, wholePartCapped, wholePartOfWritten, fromLowBits, patternOfSize, belowGreatest}
 use Rattle.double.specs.notions.Stated.{minusZero}
 use Rattle.double.specs.notions.Code.{ofFlag, ofFloat, ofNumber}
 use Rattle.double.specs.laws.Apart.{apart}
@@ -41,6 +41,10 @@ infinity-is-finite-excluded = apart ofFlag refl
 pub cap-one-less-excluded : wholePartCapped (fromWhole (2 ^ 64)) ≢ wholePart (fromWhole (2 ^ 64))
 unfolding computed
 cap-one-less-excluded = apart ofNumber refl
+
+pub leading-digit-lost-excluded : wholePartOfWritten one ≢ wholePart one
+unfolding computed
+leading-digit-lost-excluded = apart ofNumber refl
 
 pub large-numbers-cut-excluded : fromLowBits (2 ^ 63) ≢ fromWhole (2 ^ 63)
 unfolding computed

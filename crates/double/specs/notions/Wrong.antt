@@ -1,5 +1,5 @@
 -- Wrong variants of the functions on doubles.
-use Prim.Native.Nat.{ℕ, _-_, _%_, _^_}
+use Prim.Native.Nat.{ℕ, _-_, _/_, _%_, _^_}
 use mathlib.Core.Bool.{Bool, false, cond}
 use lib.Ieee.{Float, inf, neg, le, lt}
 use Rattle.double.specs.rules.Operations.{bits, zero}
@@ -29,6 +29,10 @@ finiteToInfinity x = le (size x) (inf false)
 -- one less where the number is too large
 abbrev pub wholePartCapped : Float → ℕ
 wholePartCapped x = cond (lt x (fromWhole (2 ^ 64))) (wholePart x) (2 ^ 64 - 2)
+
+-- the leading digit, which a pattern does not write, left out
+abbrev pub wholePartOfWritten : Float → ℕ
+wholePartOfWritten x = patternOf x % 2 ^ 52 / 2 ^ (1075 - patternOf x / 2 ^ 52)
 
 -- the top bit lost
 abbrev pub fromLowBits : ℕ → Float
