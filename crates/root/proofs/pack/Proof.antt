@@ -1,8 +1,9 @@
--- `root::pack` meets its contract: d and f stand for a number in `Normal` form. Assumes nothing.
+-- `root::pack` meets its contract: p stands for a number in `Normal` form. Assumes nothing.
 use borrow.Author.Needs.{needs}
 use mathlib.Core.Path.{_≡_, ap, _∙_}
-use Prim.Native.Nat.{ℕ, _+_, _-_, _*_, _/_, _%_, _^_}
+use Prim.Native.Nat.{ℕ, _+_, _*_, _/_, _%_, _^_}
 use native.Mathlib.Omega.{arith}
+use Rattle.double.specs.laws.Patterns.{pattern-no-nan}
 use Rattle.root.specs.rules.Whole.{wholeRoot}
 use Rattle.root.specs.notions.Steps.{Normal}
 use Rattle.root.specs.laws.Normal.{normal, pattern-is}
@@ -10,30 +11,53 @@ use Rattle.root.specs.laws.Nearest.{root-digits-most}
 use Rattle.root.proofs.pack.Statement.{statement}
 use Rattle.root.proofs.pack.Tie as tie
 
-form : (c : tie.Start) → Normal (c .args .d * 2 ^ (c .args .f + 52)) (c .args .d * 2 ^ (c .args .f % 2)) (c .args .f / 2 - 1)
-form c = normal (c .args .d) (c .args .f) (c .pre .0) (c .pre .1) (c .pre .2) (c .pre .3)
+form : (c : tie.Start)
+    → Normal ((2 ^ 52 + c .args .p % 2 ^ 52) * 2 ^ (c .args .p / 2 ^ 52 + 54)) ((2 ^ 52 + c .args .p % 2 ^ 52) * 2 ^ (c .args .p / 2 ^ 52 % 2))
+    (c .args .p / 2 ^ 52 / 2)
+form c = normal (2 ^ 52 + c .args .p % 2 ^ 52) (c .args .p / 2 ^ 52) (omega arith) (omega arith) (omega arith)
 
-found : (c : tie.After-digits) → c .digits .result ≡ wholeRoot 54 (c .before .args .d * 2 ^ (c .before .args .f % 2) * 2 ^ 54)
-found c = c .digits .ensures ∙ ap (λ (d : ℕ). wholeRoot 54 (d * 2 ^ 54)) (omega (arith, form (c .before) .most))
+found : (c : tie.After-rounded-root)
+    → c .rounded-root .result
+    ≡ (wholeRoot 54 ((2 ^ 52 + c .before .before .before .args .p % 2 ^ 52) * 2 ^ (c .before .before .before .args .p / 2 ^ 52 % 2) * 2 ^ 54) + 1) / 2
+found c = c .rounded-root .ensures ∙ ap (λ (d : ℕ). (wholeRoot 54 (d * 2 ^ 54) + 1) / 2) (omega (arith, form (c .before .before .before) .most))
 
-sub-result : tie.Need-sub-result
-sub-result c = search needs
+add-z : tie.Need-add-z
+add-z c = search needs
 
-shl-digits : tie.Need-shl-digits
-shl-digits c = search needs
+add-m : tie.Need-add-m
+add-m c = search needs
 
-digits-requires : tie.Need-digits-requires
-digits-requires c κs = omega (arith, form c .least, form c .most)
+float-from-bits-guess : tie.Need-float-from-bits-guess
+float-from-bits-guess c = pattern-no-nan _ (omega arith)
+
+guess-requires : tie.Need-guess-requires
+guess-requires c κs = search needs
+
+pattern-requires : tie.Need-pattern-requires
+pattern-requires c κs = search needs
+
+shl-rounded-root : tie.Need-shl-rounded-root
+shl-rounded-root c = search needs
+
+rounded-root-requires : tie.Need-rounded-root-requires
+rounded-root-requires c κs = omega (arith, form (c .before .before) .least, form (c .before .before) .most)
 
 add-result : tie.Need-add-result
-add-result c = omega (arith, found c, root-digits-most (form (c .before)))
-
-add-result-2 : tie.Need-add-result-2
-add-result-2 c = omega arith
+add-result c = omega (arith, found c, root-digits-most (form (c .before .before .before)))
 
 returns : tie.Need-returns
-returns c = rw (pattern-is (form (c .before))) (omega (arith, found c, root-digits-most (form (c .before))))
+returns c = rw (pattern-is (form (c .before .before .before))) (omega (arith, found c, root-digits-most (form (c .before .before .before))))
 
 pub pack-spec : {M : Type 1} → statement M
 pack-spec =
-    tie.close (tie.spec sub-result shl-digits digits-requires add-result add-result-2 returns)
+    tie.close
+    (tie.spec
+    add-z
+    add-m
+    float-from-bits-guess
+    guess-requires
+    pattern-requires
+    shl-rounded-root
+    rounded-root-requires
+    add-result
+    returns)

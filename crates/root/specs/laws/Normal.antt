@@ -23,19 +23,19 @@ use Rattle.root.specs.notions.Steps.{Normal}
 
 -- ---- the exponent's half: an odd two goes to the digits
 
-pub normal : (d f : ℕ) → 2 ^ 52 ≤ d → d < 2 ^ 53 → 972 ≤ f → f < 3070 → Normal (d * 2 ^ (f + 52)) (d * 2 ^ (f % 2)) (f / 2 - 1)
-normal d f lo hi l h =
-    let k = f / 2 - 1 in
-    let once : 2 ^ (f % 2) ≤ 2 ^ 1 = pow-mono {i = f % 2} {j = 1} (omega arith) in
-    let least : d * 1 ≤ d * 2 ^ (f % 2) = mul-le-mul-left d (pow-pos (f % 2)) in
-    let most : d * 2 ^ (f % 2) ≤ d * 2 = mul-le-mul-left d once in
+pub normal : (d e : ℕ) → 2 ^ 52 ≤ d → d < 2 ^ 53 → e < 3068 → Normal (d * 2 ^ (e + 54)) (d * 2 ^ (e % 2)) (e / 2)
+normal d e lo hi h =
+    let k = e / 2 in
+    let once : 2 ^ (e % 2) ≤ 2 ^ 1 = pow-mono {i = e % 2} {j = 1} (omega arith) in
+    let least : d * 1 ≤ d * 2 ^ (e % 2) = mul-le-mul-left d (pow-pos (e % 2)) in
+    let most : d * 2 ^ (e % 2) ≤ d * 2 = mul-le-mul-left d once in
     record {
       is =
           ap (λ (x : ℕ). d * 2 ^ x) (omega arith)
-          ∙ ap (λ (x : ℕ). d * x) (pow-add 2 (f % 2) (54 + 2 * k))
-          ∙ sym (mul-assoc d (2 ^ (f % 2)) (2 ^ (54 + 2 * k)))
-          ∙ ap (λ (x : ℕ). d * 2 ^ (f % 2) * x) (pow-add 2 54 (2 * k))
-          ∙ sym (mul-assoc (d * 2 ^ (f % 2)) (2 ^ 54) (2 ^ (2 * k)));
+          ∙ ap (λ (x : ℕ). d * x) (pow-add 2 (e % 2) (54 + 2 * k))
+          ∙ sym (mul-assoc d (2 ^ (e % 2)) (2 ^ (54 + 2 * k)))
+          ∙ ap (λ (x : ℕ). d * 2 ^ (e % 2) * x) (pow-add 2 54 (2 * k))
+          ∙ sym (mul-assoc (d * 2 ^ (e % 2)) (2 ^ 54) (2 ^ (2 * k)));
       least = omega arith;
       most = omega arith;
       room = omega arith;
@@ -43,9 +43,9 @@ normal d f lo hi l h =
 
 -- ---- what the digits and the exponent of a pattern b stand for
 
-pub low-square : (b z : ℕ) → b < 2 ^ 52 → Raised b z → b * 2 ^ (z - 11) * 2 ^ (1024 - (z - 11) + 52) ≡ twiceRootSquared (bits b)
+pub low-square : (b z : ℕ) → b < 2 ^ 52 → Raised b z → b * 2 ^ (z - 11) * 2 ^ (1022 - (z - 11) + 54) ≡ twiceRootSquared (bits b)
 low-square b z h r =
-    join b (z - 11) (1024 - (z - 11) + 52) 1076 (omega (arith, r .few)) ∙ ap (λ (x : ℕ). 2 ^ 1076 * x) (sym (count-low b h))
+    join b (z - 11) (1022 - (z - 11) + 54) 1076 (omega (arith, r .few)) ∙ ap (λ (x : ℕ). 2 ^ 1076 * x) (sym (count-low b h))
   where
     join : (d i j k : ℕ) → i + j ≡ k → d * 2 ^ i * 2 ^ j ≡ 2 ^ k * d
     join d i j k e =
@@ -53,7 +53,7 @@ low-square b z h r =
         ∙ mul-comm d (2 ^ k)
 
 pub high-square : (b : ℕ) → 2 ^ 52 ≤ b → b < 2047 * 2 ^ 52
-    → (2 ^ 52 + b % 2 ^ 52) * 2 ^ (b / 2 ^ 52 + 1023 + 52) ≡ twiceRootSquared (bits b)
+    → (2 ^ 52 + b % 2 ^ 52) * 2 ^ (b / 2 ^ 52 + 1021 + 54) ≡ twiceRootSquared (bits b)
 high-square b l h =
     let x = b / 2 ^ 52 in
     let d = 2 ^ 52 + b % 2 ^ 52 in
@@ -62,8 +62,16 @@ high-square b l h =
     ∙ mul-left-comm d (2 ^ 1076) (2 ^ (x - 1))
     ∙ ap (λ (y : ℕ). 2 ^ 1076 * y) (sym (count-high b l h))
   where
-    split : (x : ℕ) → 0 < x → x + 1023 + 52 ≡ 1076 + (x - 1)
+    split : (x : ℕ) → 0 < x → x + 1021 + 54 ≡ 1076 + (x - 1)
     split x n = omega arith
+
+-- digits and exponent in one number, as code hands them on: the digits' leading one is not in it
+pub handed-on : (p d e : ℕ) {r : ℕ} → r ≡ rootPattern ((2 ^ 52 + p % 2 ^ 52) * 2 ^ (p / 2 ^ 52 + 54)) → p + 2 ^ 52 ≡ e * 2 ^ 52 + d
+    → 2 ^ 52 ≤ d → d < 2 ^ 53 → r ≡ rootPattern (d * 2 ^ (e + 54))
+handed-on p d e is parts lo hi =
+    let digits : 2 ^ 52 + p % 2 ^ 52 ≡ d = omega arith in
+    let field : p / 2 ^ 52 ≡ e = omega arith in
+    rw (digits, field) at is
 
 -- every finite double above zero has the form
 has-normal : (b : ℕ) → 0 < b → b < 2047 * 2 ^ 52 → (d : ℕ) × (e : ℕ) × Normal (twiceRootSquared (bits b)) d e
@@ -73,10 +81,10 @@ has-normal b p h = go (less-or-not b (2 ^ 52))
     go (inl l) =
         let z = leadingZeros 64 b in
         let r : Raised b z = raised b p (omega arith) in
-        let n = normal (b * 2 ^ (z - 11)) (1024 - (z - 11)) (r .least) (r .most) (omega arith) (omega arith) in
+        let n = normal (b * 2 ^ (z - 11)) (1022 - (z - 11)) (r .least) (r .most) (omega arith) in
         (_, _, rw (low-square b z l r) at n)
     go (inr l) =
-        let n = normal (2 ^ 52 + b % 2 ^ 52) (b / 2 ^ 52 + 1023) (omega arith) (omega arith) (omega arith) (omega arith) in
+        let n = normal (2 ^ 52 + b % 2 ^ 52) (b / 2 ^ 52 + 1021) (omega arith) (omega arith) (omega arith) in
         (_, _, rw (high-square b l h) at n)
 
 pub above-zero-normal : (x : Float) → IsAboveZero x → (d : ℕ) × (e : ℕ) × Normal (twiceRootSquared x) d e

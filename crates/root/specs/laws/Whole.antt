@@ -1,5 +1,5 @@
 -- `wholeRoot` finds the whole part of a root; there is one only; its digits can be found several at once. Assumes nothing.
-use mathlib.Core.Path.{_≡_, refl}
+use mathlib.Core.Path.{_≡_, refl, subst}
 use mathlib.Core.Bool.{Bool, true, false, cond}
 use Prim.Native.Nat.{ℕ, zero, suc, _+_, _-_, _*_, _/_, _%_, _^_, _≤_, _<_}
 use native.Mathlib.Nat.{le-trans, le-of-eq, lt-of-lt-of-le, lt-of-le-of-lt, lt-of-mul-lt-mul-left, le-antisymm, le-div-iff-mul-le, div-lt-iff-lt-mul, div-add-mod}
@@ -43,6 +43,26 @@ whole-root-most {n} {s} m r h = square-lt-back s m (lt-of-le-of-lt (r .under) h)
 
 pub whole-root-only : {n s t : ℕ} → IsWholeRoot n s → IsWholeRoot n t → s ≡ t
 whole-root-only {s = s} {t = t} p q = le-antisymm (whole-root-least s q (p .under)) (whole-root-least t p (q .under))
+
+-- ---- a root rounded to nearest
+
+-- r² − r < n ≤ r² + r: then n's root is less than a half from r, and the whole part of twice that root tells r
+rounded-half : {n s : ℕ} (r : ℕ) → IsWholeRoot (4 * n) s → r * r < n + r → n ≤ r * r + r → r ≡ (s + 1) / 2
+rounded-half {n} {s} zero w lo hi = omega arith
+rounded-half {n} {s} (suc r) w lo hi =
+    let least : 2 * r + 1 ≤ s = whole-root-least (2 * r + 1) w (omega arith) in
+    let most : s < 2 * r + 3 = whole-root-most (2 * r + 3) w (omega arith) in
+    omega arith
+
+pub rounded-is : (d r : ℕ) → d < 2 ^ 54 → r * r < d * 2 ^ 52 + r → d * 2 ^ 52 ≤ r * r + r → r ≡ (wholeRoot 54 (d * 2 ^ 54) + 1) / 2
+rounded-is d r h lo hi =
+    let four : d * 2 ^ 54 ≡ 4 * (d * 2 ^ 52) = omega arith in
+    rounded-half r (subst (λ (n : ℕ). IsWholeRoot n (wholeRoot 54 (d * 2 ^ 54))) four (whole-root 54 (d * 2 ^ 54) (omega arith))) lo hi
+
+-- what is left of d·2^52 without the square of a·2^26 + b
+pub rest-is : (d a b u v rest : ℕ) → u + a * a ≡ d → v + 2 * (a * b) ≡ u * 2 ^ 26 → rest + b * b ≡ v * 2 ^ 26
+    → (a * 2 ^ 26 + b) * (a * 2 ^ 26 + b) + rest ≡ d * 2 ^ 52
+rest-is d a b u v rest first second third = omega arith
 
 -- ---- several digits at once
 

@@ -65,7 +65,7 @@ oddTwoLost = packed (λ (w : ℕ). places w * 2 ^ 52 + (wholeRoot 54 (w / 2 ^ (s
 abbrev pub subnormalExponent : Float → Answer Float
 subnormalExponent x = packed (λ (w : ℕ). rootPattern (cond (lt x (bits 0x0010000000000000)) (w / 2) w)) x
 
--- ---- the digits, as code takes them: the first 27, and 27 more at once
+-- ---- the digits, as code takes them by division: the first 27, and 27 more at once
 
 abbrev taken : (ℕ → ℕ) → (ℕ → ℕ → ℕ → ℕ) → ℕ → ℕ
 taken first mend n =
