@@ -362,9 +362,21 @@ pub fn compare(n: u64) -> (u64, u64) {
             compare_batch(&PUBLISHED, &bytes, lens, both, &mut published, &mut published_statuses);
         }
     }
-    // A star that comes to the pole, where there is no direction.
-    let pole = Record { number: 7, asc: 90561088, dec: -247842964 }.bytes();
-    compare_batch(&CRATE, &pole, [1; 3], (3178490.5, 1770538.0069913559), &mut batches, &mut statuses);
+    // A star that comes to the pole, where there is no direction; beside it a good one, one that comes too near to the pole, and one out of
+    // range, as any neighbours in lists of one to four.
+    let pole = Record { number: 7, asc: 90561088, dec: -247842964 };
+    let kinds = [
+        pole,
+        Record { number: 8, asc: 3600000, dec: -3600000 },
+        Record { number: 9, asc: 90561088, dec: -247842964 + 3600 },
+        Record { number: 10, asc: 1296000000, dec: 0 },
+    ];
+    for stars in 1..5 {
+        for order in 0..4usize.pow(stars) {
+            let bytes: Vec<u8> = (0..stars).flat_map(|k| kinds[order / 4usize.pow(k) % 4].bytes()).collect();
+            compare_batch(&CRATE, &bytes, [stars as usize; 3], (3178490.5, 1770538.0069913559), &mut batches, &mut statuses);
+        }
+    }
     // The longest list, and one star more.
     let full: Vec<u8> = (0..5001).flat_map(|_| record(&mut r, 5000, 2415020.5, 2462088.69).bytes()).collect();
     for &len in [60000, 60012].iter() {

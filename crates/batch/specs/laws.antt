@@ -4,4 +4,5 @@ pub mod Known
 pub mod InRange
 pub mod Star
 pub mod Batch
+pub mod Kept
 pub mod Wrong

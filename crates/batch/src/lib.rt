@@ -1,19 +1,27 @@
 // The batch (section 7): every star's status and two angles into memory that the caller lends, and the tally of the statuses.
 // Rules: specs/rules, in reading order in specs/rules.antt.
+ghost use Prim.Native.Nat.{_<_};
 ghost use mathlib.Core.Path.{_≡_};
+ghost use mathlib.Core.Bool.{cond};
+ghost use lib.Dec.{eqb};
 ghost use lib.IntN.{pos};
-ghost use Rattle.quantity.specs.rules.Answer.{shownTwo, statusOf};
-ghost use Rattle.batch.specs.rules.Star.{degreesOf, ascOf, decOf, reduceStar, firstOf, secondOf};
+ghost use lib.ListN.{length};
+ghost use Rattle.double.specs.rules.Operations.{zero};
+ghost use Rattle.quantity.specs.rules.Answer.{answered, pair, unless, firstPlace, secondPlace};
+ghost use Rattle.list.specs.rules.Record.{inRange};
+ghost use Rattle.list.specs.rules.Stars.{mostStars};
+ghost use Rattle.batch.specs.rules.Star.{degreesOf, ascOf, decOf, reduceStar};
 ghost use Rattle.batch.specs.rules.Batch.{batchRefusal};
 ghost use Rattle.batch.specs.rules.Batch.{Batch as Batch·Batch};
+ghost use Rattle.batch.specs.notions.Kept.{Kept};
 use chain::Night;
 use edition::Edition;
 use helpers::angle;
 use list::Star;
 use list_tally::Tally;
 use quantity::Deg;
+use quantity::Places;
 use quantity::Rad;
-use quantity::Two;
 
 // The refusal number, where 0 is none, beside the tally of every star's status.
 pub struct Batched {
@@ -51,43 +59,32 @@ fn dec_of(star: Star) -> Rad
     angle::radians(dec_degrees(star))
 }
 
-// A star's place under a night. Refusals: 9 for a record out of range; then 14, 7 and 4, since the angles of one in range are near enough.
-pub fn reduce_star(star: Star, night: Night) -> Two
-    ensures { λ r. ⌜ shownTwo r ≡ reduceStar star night ⌝ }
+// A refusal number of a star's place, or 9 where the star's record is out of range.
+fn ranged(star: Star, no: u8) -> u8
+    ensures { λ r. ⌜ r ≡ cond (inRange star) no 9 ⌝ }
 {
-    if list::in_range(star) {
-        return chain::reduced_in(asc_of(star), dec_of(star), night);
-    }
-    Two::Refused(9)
+    if list::in_range(star) { no } else { 9 }
 }
 
-// The status that is stored of an answer.
-fn status_of(a: Two) -> u8
-    ensures { λ r. ⌜ r ≡ statusOf (shownTwo a) ⌝ }
+// Two stars' places under a night, side by side. Refusals of each: 9 for a record out of range; then 14, 7 and 4, since the angles of
+// one in range are near enough.
+fn reduce_two(first: Star, second: Star, night: Night) -> Places
+    ensures { λ r. ⌜ (firstPlace r ≡ reduceStar first night) × (secondPlace r ≡ reduceStar second night) ⌝ }
 {
-    match a {
-        Two::Are(_, _) => 0,
-        Two::Refused(n) => n,
-    }
-}
-
-// The first angle that is stored of an answer.
-fn first_of(a: Two) -> f64
-    ensures { λ r. ⌜ r ≡ firstOf (shownTwo a) ⌝ }
-{
-    match a {
-        Two::Are(x, _) => x,
-        Two::Refused(_) => 0.0,
-    }
-}
-
-// The second.
-fn second_of(a: Two) -> f64
-    ensures { λ r. ⌜ r ≡ secondOf (shownTwo a) ⌝ }
-{
-    match a {
-        Two::Are(_, y) => y,
-        Two::Refused(_) => 0.0,
+    let p = chain::reduced_two(
+        asc_of(first),
+        dec_of(first),
+        asc_of(second),
+        dec_of(second),
+        night,
+    );
+    Places {
+        first_asc: p.first_asc,
+        second_asc: p.second_asc,
+        first_dec: p.first_dec,
+        second_dec: p.second_dec,
+        first_refusal: ranged(first, p.first_refusal),
+        second_refusal: ranged(second, p.second_refusal),
     }
 }
 
@@ -117,7 +114,38 @@ fn batch_refusal(bytes: &[u8], day1: f64, day2: f64, status: usize, asc: usize, 
     0
 }
 
-// Every star of the list from the first day to the second: its status, 0 or its refusal, and its two angles, 0.0 and 0.0 where
+// What is stored of an angle: 0.0 where its place is refused.
+fn kept(no: u8, x: f64) -> f64
+    ensures { λ r. ⌜ r ≡ cond (eqb no 0) x zero ⌝ }
+{
+    if no == 0 { x } else { 0.0 }
+}
+
+// One star's status and angles at its place in what is lent, and the tally raised by the status.
+fn keep(
+    status: &mut [u8],
+    asc: &mut [f64],
+    dec: &mut [f64],
+    i: usize,
+    no: u8,
+    a: f64,
+    d: f64,
+    tally: Tally,
+) -> Tally
+    requires { ⌜ i < mostStars ⌝ }
+    requires { ⌜ i < length (now status) ⌝ }
+    requires { ⌜ i < length (now asc) ⌝ }
+    requires { ⌜ i < length (now dec) ⌝ }
+    ensures { λ r. ⌜ Kept i (unless no (answered (pair a d))) tally (now (status .entry)) (now (asc .entry)) (now (dec .entry)) r (now (status .exit)) (now (asc .exit)) (now (dec .exit)) ⌝ }
+{
+    status[i] = no;
+    asc[i] = kept(no, a);
+    dec[i] = kept(no, d);
+    let raised = tally.raise(no);
+    raised.tally
+}
+
+// Every star of the list from the first day to the second, two at a time, the last of an odd count beside itself: its status, 0 or its refusal, and its two angles, 0.0 and 0.0 where
 // it is refused. Places past the stars stay. Refusals of the call, which changes nothing lent: 1; 2; then 8.
 pub fn batch(
     edition: Edition,
@@ -138,15 +166,44 @@ pub fn batch(
     let night = chain::night_of(edition, day1, day2);
     let n = list::count(bytes);
     let mut i = 0;
-    while i < n {
-        let a = reduce_star(list::nth(bytes, i), night);
-        let s = status_of(a);
-        status[i] = s;
-        asc[i] = first_of(a);
-        dec[i] = second_of(a);
-        let raised = tally.raise(s);
-        tally = raised.tally;
-        i += 1;
+    while i + 1 < n {
+        let j = i + 1;
+        let p = reduce_two(list::nth(bytes, i), list::nth(bytes, j), night);
+        tally = keep(
+            status,
+            asc,
+            dec,
+            i,
+            p.first_refusal,
+            p.first_asc,
+            p.first_dec,
+            tally,
+        );
+        tally = keep(
+            status,
+            asc,
+            dec,
+            j,
+            p.second_refusal,
+            p.second_asc,
+            p.second_dec,
+            tally,
+        );
+        i = j + 1;
+    }
+    if i < n {
+        let star = list::nth(bytes, i);
+        let p = reduce_two(star, star, night);
+        tally = keep(
+            status,
+            asc,
+            dec,
+            i,
+            p.first_refusal,
+            p.first_asc,
+            p.first_dec,
+            tally,
+        );
     }
     Batched { refusal: 0, tally }
 }

@@ -1,19 +1,24 @@
 // The chain (section 7): a star's place from one day to another by precession, nutation and aberration. Angles are in radians.
 // What the two days fix is a night, worked out once for a whole list. Rules: specs/rules, in reading order in specs/rules.antt.
 ghost use mathlib.Core.Path.{_≡_};
-ghost use Rattle.quantity.specs.rules.Answer.{shownTwo};
+ghost use mathlib.Core.Bool.{cond};
+ghost use lib.Dec.{eqb};
+ghost use Rattle.quantity.specs.rules.Answer.{shownTwo, answered, pair, firstPlace, secondPlace};
+ghost use Rattle.quantity.specs.rules.Refusal.{lower};
 ghost use Rattle.precess.specs.rules.Days.{placeRefusal};
 ghost use Rattle.chain.specs.rules.Obliquity.{meanObliquity, meanObliquityOf, trueObliquity};
 ghost use Rattle.chain.specs.rules.Chain.{pointRefusal, anglesRefusal, chainRule};
-ghost use Rattle.chain.specs.rules.Night.{nightFrom, nightOf, moved, reducedAt, reducedIn};
+ghost use Rattle.chain.specs.rules.Night.{nightFrom, nightOf, moved, movedUnder, reducedAt, reducedIn};
 use aberr_args::Velocity;
 use edition::Edition;
+use elementary::Direction;
 use helpers::angle;
 use helpers::time;
 use nutation_args::Nutations;
 use precess::EqTurns;
 use quantity::Deg;
 use quantity::EqPoint;
+use quantity::Places;
 use quantity::Rad;
 use quantity::Shift;
 use quantity::Two;
@@ -119,10 +124,26 @@ fn point_refusal(p: EqPoint) -> u8
 }
 
 // A precessed point with its nutation and its aberration added, in that order.
-fn moved(p: EqPoint, n: Shift, a: Shift) -> Two
-    ensures { λ r. ⌜ shownTwo r ≡ moved p n a ⌝ }
+fn moved(p: EqPoint, n: Shift, a: Shift) -> EqPoint
+    ensures { λ r. ⌜ answered (pair (r .asc) (r .dec)) ≡ moved p n a ⌝ }
 {
-    Two::Are((p.asc + n.asc.0) + a.asc.0, (p.dec + n.dec.0) + a.dec.0)
+    EqPoint {
+        asc: (p.asc + n.asc.0) + a.asc.0,
+        dec: (p.dec + n.dec.0) + a.dec.0,
+    }
+}
+
+// A precessed point moved under a night, from its direction.
+fn moved_under(p: EqPoint, d: Direction, night: Night) -> EqPoint
+    ensures { λ r. ⌜ answered (pair (r .asc) (r .dec)) ≡ movedUnder p d night ⌝ }
+{
+    let nutations = night.nutation;
+    let velocity = night.velocity;
+    moved(
+        p,
+        nutation::nutation_at(d, nutations, night.sin_oblq, night.cos_oblq),
+        aberr::aberr_at(d, velocity),
+    )
 }
 
 // A precessed point under a night. Refusals: 4.
@@ -133,14 +154,8 @@ fn reduced_at(p: EqPoint, night: Night) -> Two
     if no != 0 {
         return Two::Refused(no);
     }
-    let d = elementary::toward(p);
-    let nutations = night.nutation;
-    let velocity = night.velocity;
-    moved(
-        p,
-        nutation::nutation_at(d, nutations, night.sin_oblq, night.cos_oblq),
-        aberr::aberr_at(d, velocity),
-    )
+    let m = moved_under(p, elementary::toward(p), night);
+    Two::Are(m.asc, m.dec)
 }
 
 // A star's place under a night, of a place that is not refused. Refusals: 14; 7; 4.
@@ -151,6 +166,56 @@ pub fn reduced_in(asc: Rad, dec: Rad, night: Night) -> Two
     match precess::turned_in(asc, dec, turns) {
         Two::Are(a, d) => reduced_at(EqPoint { asc: a, dec: d }, night),
         Two::Refused(n) => Two::Refused(n),
+    }
+}
+
+// ---- two stars side by side under a night: both are worked out to the end, whatever is refused
+
+// The refusal of a star whose place was refused by a number, or else whose precessed point or whose night may be.
+fn next_refusal(no: u8, p: EqPoint, night_refusal: u8) -> u8
+    ensures { λ r. ⌜ r ≡ cond (eqb no 0) (lower (pointRefusal p) «night_refusal») no ⌝ }
+{
+    if no != 0 {
+        return no;
+    }
+    quantity::lower(point_refusal(p), night_refusal)
+}
+
+// Two stars' places under a night, side by side, of places that are not refused. Refusals of each: 14; 7; 4.
+pub fn reduced_two(
+    first_asc: Rad,
+    first_dec: Rad,
+    second_asc: Rad,
+    second_dec: Rad,
+    night: Night,
+) -> Places
+    ensures { λ r. ⌜ (firstPlace r ≡ reducedIn «first_asc» «first_dec» night) × (secondPlace r ≡ reducedIn «second_asc» «second_dec» night) ⌝ }
+{
+    let turns = night.turns;
+    let night_refusal = night.refusal;
+    let t = precess::turned_two(first_asc, first_dec, second_asc, second_dec, turns);
+    let p = EqPoint {
+        asc: t.first_asc,
+        dec: t.first_dec,
+    };
+    let q = EqPoint {
+        asc: t.second_asc,
+        dec: t.second_dec,
+    };
+    let first_no = next_refusal(t.first_refusal, p, night_refusal);
+    let second_no = next_refusal(t.second_refusal, q, night_refusal);
+    let both = elementary::towards(p, q);
+    let d = both.first;
+    let e = both.second;
+    let m = moved_under(p, d, night);
+    let n = moved_under(q, e, night);
+    Places {
+        first_asc: m.asc,
+        second_asc: n.asc,
+        first_dec: m.dec,
+        second_dec: n.dec,
+        first_refusal: first_no,
+        second_refusal: second_no,
     }
 }
 

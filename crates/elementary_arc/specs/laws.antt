@@ -2,5 +2,6 @@
 pub mod Constants
 pub mod Mirror
 pub mod Arctangent
+pub mod Level
 pub mod Arcsine
 pub mod Wrong

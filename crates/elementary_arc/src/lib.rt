@@ -4,7 +4,9 @@ ghost use mathlib.Core.Path.{_≡_};
 ghost use Rattle.quantity.specs.rules.Answer.{shownRadians};
 ghost use Rattle.elementary_arc.specs.rules.Series.{arctangentSeries};
 ghost use Rattle.elementary_arc.specs.rules.Arctangent.{atn, base, turned, arctangentOf, bothZero, arctangentIn, arctangentRefusal, arctangentRule};
+ghost use Rattle.elementary_arc.specs.rules.Level.{lesserOver, reduced, baseFrom, signed, arctangentsOf};
 ghost use Rattle.elementary_arc.specs.rules.Arcsine.{arcsineIn, arcsineRule};
+use double::Lanes;
 use quantity::HALF;
 use quantity::PI;
 use quantity::QUARTER;
@@ -109,19 +111,25 @@ fn turned(minus: bool, b: f64) -> f64
     if minus { PI - b } else { b }
 }
 
+// Base's size and y's sign.
+fn signed(y: f64, x: f64, b: f64) -> f64
+    ensures { λ r. ⌜ r ≡ signed y x b ⌝ }
+{
+    double::negated_if(
+        double::bears_minus(y),
+        double::size(turned(double::bears_minus(x), b)),
+    )
+}
+
 // The arctangent of (y, x), which are not both zero: the angle from the second axis, with y's sign.
 fn arctangent_of(y: f64, x: f64) -> Rad
     ensures { λ r. ⌜ r ≡ arctangentOf y x ⌝ }
 {
-    let b = turned(
-        double::bears_minus(x),
-        base(double::size(y), double::size(x)),
-    );
-    Rad(double::negated_if(double::bears_minus(y), double::size(b)))
+    Rad(signed(y, x, base(double::size(y), double::size(x))))
 }
 
 // Whether y and x are zero, of either sign.
-fn both_zero(y: f64, x: f64) -> bool
+pub fn both_zero(y: f64, x: f64) -> bool
     ensures { λ r. ⌜ r ≡ bothZero y x ⌝ }
 {
     if y == 0.0 { x == 0.0 } else { false }
@@ -136,6 +144,50 @@ pub fn arctangent_in(y: f64, x: f64) -> Radians
     }
     Radians::Are(arctangent_of(y, x))
 }
+
+// ---- two arctangents side by side: nothing branches, so that the compiler works on both at once
+
+// The lesser of two sizes over the greater.
+fn lesser_over(y: f64, x: f64) -> f64
+    ensures { λ r. ⌜ r ≡ lesserOver y x ⌝ }
+{
+    double::either(y <= x, y, x) / double::either(y <= x, x, y)
+}
+
+// What the series is taken of for Atn(v). Over 1 v is itself.
+fn reduced(v: f64) -> f64
+    ensures { λ r. ⌜ r ≡ reduced v ⌝ }
+{
+    double::either(v <= 0.4142, v, v - 1.0) / double::either(v <= 0.4142, 1.0, v + 1.0)
+}
+
+// The base of two sizes, from the lesser over the greater and the series.
+fn base_from(y: f64, x: f64, v: f64, a: f64) -> f64
+    ensures { λ r. ⌜ r ≡ baseFrom y x v a ⌝ }
+{
+    let t = double::either(v <= 0.4142, a, QUARTER + a);
+    double::either(y <= x, t, HALF - t)
+}
+
+// The arctangents of (y, x) and of (z, w), each what it is alone. Refusals are left to callers, which test for two zeros.
+pub fn arctangents_of(y: f64, x: f64, z: f64, w: f64) -> Lanes
+    ensures { λ r. ⌜ r ≡ arctangentsOf y x z w ⌝ }
+{
+    let up = double::size(y);
+    let across = double::size(x);
+    let up2 = double::size(z);
+    let across2 = double::size(w);
+    let v = lesser_over(up, across);
+    let v2 = lesser_over(up2, across2);
+    let a = arctangent_series(reduced(v));
+    let a2 = arctangent_series(reduced(v2));
+    Lanes {
+        first: signed(y, x, base_from(up, across, v, a)),
+        second: signed(z, w, base_from(up2, across2, v2, a2)),
+    }
+}
+
+// ---- called alone
 
 // Refusals of the arctangent's arguments: 1.
 fn arctangent_refusal(y: f64, x: f64) -> u8

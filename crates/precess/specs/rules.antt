@@ -3,4 +3,5 @@ pub mod Numbers
 pub mod Days
 pub mod Annual
 pub mod Equatorial
+pub mod Arcs
 pub mod Fk4

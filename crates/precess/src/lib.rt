@@ -2,10 +2,11 @@
 // Precession of the ecliptic, its places and orbits, stands in precess_ecl.
 // Rules: specs/rules, in reading order in specs/rules.antt.
 ghost use mathlib.Core.Path.{_≡_};
-ghost use Rattle.quantity.specs.rules.Answer.{shownTwo};
+ghost use Rattle.quantity.specs.rules.Answer.{shownTwo, firstPlace, secondPlace};
 ghost use Rattle.precess.specs.rules.Days.{spanOf, daysRefusal, placeRefusal};
 ghost use Rattle.precess.specs.rules.Annual.{annualM, annualN, annualAt, annualIn, annualRefusal, annualPrecessRule};
-ghost use Rattle.precess.specs.rules.Equatorial.{eqXi, eqZeta, eqTheta, turnsOf, eqTurnsOf, placed, turnedIn, precessEqCoordsRule};
+ghost use Rattle.precess.specs.rules.Equatorial.{eqXi, eqZeta, eqTheta, turnsOf, eqTurnsOf, arcsOf, placed, turnedIn, precessEqCoordsRule};
+ghost use Rattle.precess.specs.rules.Arcs.{arcsRefusal, squareOf};
 ghost use Rattle.precess.specs.rules.Fk4.{fk4Century, fk4Span, fk4Xi, fk4Zeta, fk4Theta, degreesAsRadians, fk4Angle, fk4TurnsOf, precessEqCoordsFK5Rule};
 use edition::Edition;
 use elementary::Direction;
@@ -14,6 +15,7 @@ use helpers::angle;
 use helpers::time;
 use quantity::Deg;
 use quantity::EqPoint;
+use quantity::Places;
 use quantity::Rad;
 use quantity::Two;
 
@@ -173,20 +175,37 @@ pub fn eq_turns(edition: Edition, day1: f64, day2: f64) -> EqTurns
     )
 }
 
-// A place after the turns, from the direction of its right ascension with xi added and its declination. Refusals: 14; 7.
-fn placed(d: Direction, turns: EqTurns) -> Two
-    ensures { λ r. ⌜ shownTwo r ≡ placed d turns ⌝ }
+// What the arcs of a place are taken of: its right ascension is the arctangent of (up, across), its declination the arcsine of height.
+struct Arcs {
+    up: f64,
+    across: f64,
+    height: f64,
+}
+
+// The arcs of a place after the turns, from the direction of its right ascension with xi added and its declination.
+fn arcs_of(d: Direction, turns: EqTurns) -> Arcs
+    ensures { λ r. ⌜ r ≡ arcsOf d turns ⌝ }
 {
     let sa = d.sin_asc;
     let ca = d.cos_asc;
     let sd = d.sin_dec;
     let cd = d.cos_dec;
+    Arcs {
+        up: cd * sa,
+        across: turns.cosine * cd * ca - turns.sine * sd,
+        height: turns.sine * cd * ca + turns.cosine * sd,
+    }
+}
+
+// A place after the turns. Refusals: 14; 7.
+fn placed(d: Direction, turns: EqTurns) -> Two
+    ensures { λ r. ⌜ shownTwo r ≡ placed d turns ⌝ }
+{
+    let zeta = turns.zeta;
+    let a = arcs_of(d, turns);
     quantity::both(
-        quantity::plus(
-            elementary_arc::arctangent_in(cd * sa, turns.cosine * cd * ca - turns.sine * sd),
-            turns.zeta,
-        ),
-        elementary_arc::arcsine_in(turns.sine * cd * ca + turns.cosine * sd),
+        quantity::plus(elementary_arc::arctangent_in(a.up, a.across), zeta),
+        elementary_arc::arcsine_in(a.height),
     )
 }
 
@@ -199,6 +218,73 @@ pub fn turned_in(asc: Rad, dec: Rad, turns: EqTurns) -> Two
         dec: dec.0,
     };
     placed(elementary::toward(p), turns)
+}
+
+// Refusals of arcs: 14; 7; and 1 of a NaN.
+fn arcs_refusal(a: Arcs) -> u8
+    ensures { λ r. ⌜ r ≡ arcsRefusal a ⌝ }
+{
+    let height = a.height;
+    if elementary_arc::both_zero(a.up, a.across) {
+        return 14;
+    }
+    let size = double::size(height);
+    if size <= 1.0 {
+        return 0;
+    }
+    if 1.0 < size { 7 } else { 1 }
+}
+
+// What the root is taken of for an arcsine.
+fn square(s: f64) -> f64
+    ensures { λ r. ⌜ r ≡ squareOf s ⌝ }
+{
+    (1.0 - s) * (1.0 + s)
+}
+
+// Two places after the turns, side by side: both roots first, for both declinations wait for them. Refusals of each: 14; 7.
+fn placed_two(d: Direction, e: Direction, turns: EqTurns) -> Places
+    ensures { λ r. ⌜ (firstPlace r ≡ placed d turns) × (secondPlace r ≡ placed e turns) ⌝ }
+{
+    let zeta = turns.zeta;
+    let a = arcs_of(d, turns);
+    let b = arcs_of(e, turns);
+    let root = root::root_of(square(a.height));
+    let root2 = root::root_of(square(b.height));
+    let ascs = elementary_arc::arctangents_of(a.up, a.across, b.up, b.across);
+    let decs = elementary_arc::arctangents_of(a.height, root, b.height, root2);
+    Places {
+        first_asc: ascs.first + zeta.0,
+        second_asc: ascs.second + zeta.0,
+        first_dec: decs.first,
+        second_dec: decs.second,
+        first_refusal: arcs_refusal(a),
+        second_refusal: arcs_refusal(b),
+    }
+}
+
+// Two places under the turns of a night, side by side, of arguments that are not refused. Refusals of each: 14; 7.
+pub fn turned_two(
+    first_asc: Rad,
+    first_dec: Rad,
+    second_asc: Rad,
+    second_dec: Rad,
+    turns: EqTurns,
+) -> Places
+    ensures { λ r. ⌜ (firstPlace r ≡ turnedIn «first_asc» «first_dec» turns) × (secondPlace r ≡ turnedIn «second_asc» «second_dec» turns) ⌝ }
+{
+    let p = EqPoint {
+        asc: first_asc.0 + turns.xi.0,
+        dec: first_dec.0,
+    };
+    let q = EqPoint {
+        asc: second_asc.0 + turns.xi.0,
+        dec: second_dec.0,
+    };
+    let both = elementary::towards(p, q);
+    let d = both.first;
+    let e = both.second;
+    placed_two(d, e, turns)
 }
 
 // Equatorial coordinates reduced from the first day to the second. Refusals: 1; 2; 3; then 14; 7.

@@ -1,53 +1,19 @@
--- `batch::batch` meets its contract: after i turns the first i places hold the first i stars' values, and the tally is that of their
--- statuses. Assumes nothing.
+-- `batch::batch` meets its contract: before each turn the stars so far are stored and counted, and a turn does two more. Assumes nothing.
 use borrow.Author.Needs.{needs}
-use borrow.Author.Tests.{eq-eqb, ne-eqb}
+use borrow.Author.Tests.{ne-eqb}
 use mathlib.Core.Path.{_≡_, sym, ap, _∙_}
-use mathlib.Core.List.{List, _++_, map}
-use Prim.Native.Nat.{ℕ, _-_, _≤_, _<_}
+use Prim.Native.Nat.{_+_, _-_, _≤_, _<_}
 use native.Mathlib.Omega.{arith}
-use lib.ListN.{length, take, drop}
 use Rattle.double.specs.laws.Calls.{asks-nothing}
-use Rattle.quantity.specs.rules.Answer.{Answer, Pair, shownTwo, statusOf}
-use Rattle.lent.specs.notions.Rows.{Row}
-use Rattle.lent.specs.laws.Rows.{start, store, finish}
-use Rattle.chain.specs.declared.Night.{Night}
-use Rattle.list.specs.declared.Star.{Star}
-use Rattle.list.specs.rules.Stars.{mostStars, countOf, stars, nth}
-use Rattle.list.specs.laws.Stars.{few}
-use Rattle.list_tally.specs.rules.Status.{highestStatus}
-use Rattle.list_tally.specs.rules.Tally.{tallyOf}
-use Rattle.batch.specs.rules.Star.{reduceStar, firstOf, secondOf}
-use Rattle.batch.specs.rules.Batch.{answersOf}
-use Rattle.batch.specs.laws.Known.{known-under}
-use Rattle.batch.specs.laws.Star.{answers-under-a-night}
-use Rattle.batch.specs.notions.Accepted.{Accepted}
-use Rattle.batch.specs.laws.Batch.{accepted, how-many, value, raised-at, raised-all}
+use Rattle.list.specs.rules.Stars.{countOf}
+use Rattle.batch.specs.notions.Kept.{under, Begun, Upto}
+use Rattle.batch.specs.laws.Kept.{few-stars, none-kept, places-there, one-kept, all-kept}
 use Rattle.batch.proofs.batch.Statement.{statement}
 use Rattle.batch.proofs.batch.Tie as tie
 
--- what the stars are answered under the night
-abbrev under : Night → Star → Answer Pair
-under night star = reduceStar star night
-
-abbrev answers : Night → List ℕ → List (Answer Pair)
-answers night s = map (under night) (stars s)
-
-abbrev statuses : Night → List ℕ → List ℕ
-statuses night s = map statusOf (answers night s)
-
--- their values over a slice's front
-abbrev laid : {A : Type 0} → (Answer Pair → A) → List A → List (Answer Pair) → List A
-laid f old l = map f l ++ drop (length (map f l)) old
-
 abbrev Inv-loop : tie.InvT-loop
 Inv-loop bytes day1 day2 status₀ asc₀ dec₀ why tally₀ night n i₀ status asc dec tally i =
-    (i ≤ n)
-    × ((n ≡ countOf bytes)
-    × ((tally ≡ tallyOf (take i (statuses night bytes)))
-    × (Row (statuses night bytes) status₀ status n i
-    × (Row (map firstOf (answers night bytes)) asc₀ asc n i
-    × Row (map secondOf (answers night bytes)) dec₀ dec n i))))
+    (i ≤ n) × ((n ≡ countOf bytes) × Upto night bytes status₀ asc₀ dec₀ i tally status asc dec)
 
 abbrev μ-loop : tie.MeasureT-loop
 μ-loop bytes day1 day2 status₀ asc₀ dec₀ why tally₀ night n i₀ status asc dec tally i = n - i
@@ -68,117 +34,125 @@ module _ (c : tie.After-count Inv-loop μ-loop) where
   abbrev begin : tie.Start Inv-loop μ-loop
   begin = c .before .before .before .before .before .before .before .before .before
 
-  allowed : Accepted (begin .args .bytes .now) (begin .args .day1) (begin .args .day2) (length (begin .args .status .now)) (length (begin .args .asc .now)) (length (begin .args .dec .now))
-  allowed = accepted _ _ _ _ _ _ (sym (c .before .before .before .before .batch-refusal .ensures) ∙ c .before .before .if1 .left)
-
-  abbrev night : Night
-  night = c .before .night-of .result
-
-  -- a value for each star
-  all : {A : Type 0} (f : Answer Pair → A) → length (map f (answers night (begin .args .bytes .now))) ≡ c .count .result
-  all f = how-many f (under night) (begin .args .bytes .now) ∙ sym (c .count .ensures)
-
-  -- each status is one that the tally knows
-  known : (star : Star) → statusOf (reduceStar star night) ≤ highestStatus
-  known star = rw (c .before .night-of .ensures) (known-under (begin .args .edition) star (begin .args .day1) (begin .args .day2))
-
-  -- what the night answers is what the batch promises
-  promised : answers night (begin .args .bytes .now) ≡ answersOf (begin .args .edition) (begin .args .bytes .now) (begin .args .day1) (begin .args .day2)
-  promised =
-      ap (λ (n : Night). answers n (begin .args .bytes .now)) (c .before .night-of .ensures)
-      ∙ answers-under-a-night (begin .args .edition) _ _ _ (allowed .days)
+  begun : Begun (begin .args .edition) (begin .args .bytes .now) (begin .args .day1) (begin .args .day2) (begin .args .status .now) (begin .args .asc .now) (begin .args .dec .now) (c .before .night-of .result)
+  begun = record { none = sym (c .before .before .before .before .batch-refusal .ensures) ∙ c .before .before .if1 .left; night-is = c .before .night-of .ensures }
 
 loop-holds : tie.Need-loop-holds Inv-loop μ-loop
-loop-holds c =
-    let n = c .count .ensures in
-    let a = allowed c in
-    (search needs, (n, (c .before .before .before .new .ensures, (start _ _ _ (all c statusOf) (rw n (a .statuses)), (start _ _ _ (all c firstOf) (rw n (a .ascs)), start _ _ _ (all c secondOf) (rw n (a .decs)))))))
+loop-holds c = (search needs, (c .count .ensures, none-kept (begun c) _ (c .before .before .before .new .ensures)))
 
--- in a turn i is an index of the list
-small : (c : tie.In-loop Inv-loop μ-loop) → c .before .loop .i < mostStars
-small c = omega (arith, c .loop-test .taken, c .before .loop .inv .1 .0, few _ (allowed (c .before .before) .list))
+add-loop : tie.Need-add-loop Inv-loop μ-loop
+add-loop c = omega (arith, c .loop .inv .0, c .loop .inv .1 .0, few-stars (begun (c .before)))
 
-slice-write-status : tie.Need-slice-write-status Inv-loop μ-loop
-slice-write-status c = search needs
+-- in a turn both stars are there
+module _ (c : tie.In-loop Inv-loop μ-loop) where
+  both-there : c .before .loop .i + 1 < countOf (begin (c .before .before) .args .bytes .now)
+  both-there = omega (arith, c .loop-test .taken, c .before .loop .inv .1 .0)
 
-mul-asc : tie.Need-mul-asc Inv-loop μ-loop
-mul-asc c = record { fits = omega (arith, small (c .before .before .before .before)) }
+add-j : tie.Need-add-j Inv-loop μ-loop
+add-j c = omega (arith, both-there c, few-stars (begun (c .before .before)))
 
-slice-write-asc : tie.Need-slice-write-asc Inv-loop μ-loop
-slice-write-asc c = search needs
+keep-requires : tie.Need-keep-requires Inv-loop μ-loop
+keep-requires c κs =
+    let turn = c .before .before .before .before .before .before in
+    places-there (begun (turn .before .before)) (turn .before .loop .inv .1 .1) _ (omega (arith, both-there turn))
 
-mul-dec : tie.Need-mul-dec Inv-loop μ-loop
-mul-dec c = record { fits = omega (arith, small (c .before .before .before .before .before)) }
+-- the first of the two is stored
+module _ (c : tie.After-keep Inv-loop μ-loop) where
+  abbrev in-turn : tie.In-loop Inv-loop μ-loop
+  in-turn = c .before .before .before .before .before .before .before
 
-slice-write-dec : tie.Need-slice-write-dec Inv-loop μ-loop
-slice-write-dec c = search needs
+  abbrev before-turn : tie.After-count Inv-loop μ-loop
+  before-turn = in-turn .before .before
+
+  first-stored : Upto (before-turn .before .night-of .result) (begin before-turn .args .bytes .now) (begin before-turn .args .status .now) (begin before-turn .args .asc .now) (begin before-turn .args .dec .now) (in-turn .before .loop .i + 1) (c .keep .result) (c .keep .last .0) (c .keep .last .1 .0) (c .keep .last .1 .1 .0)
+  first-stored =
+      let at-two = c .before .before .before .before in
+      one-kept (begun before-turn) (in-turn .before .loop .inv .1 .1) (omega (arith, both-there in-turn))
+      (at-two .reduce-two .ensures .0 ∙ ap (under (before-turn .before .night-of .result)) (at-two .before .before .nth .ensures))
+      (c .keep .ensures)
+
+keep-requires-2 : tie.Need-keep-requires-2 Inv-loop μ-loop
+keep-requires-2 c κs =
+    let at-first = c .before .before .before .before .before .before .before .before .before in
+    places-there (begun (before-turn at-first)) (first-stored at-first) _ (both-there (in-turn at-first))
 
 add-i : tie.Need-add-i Inv-loop μ-loop
-add-i c = search needs
+add-i c =
+    let at-second = c .before .before .before .before .before .before in
+    let at-first = at-second .before .before .before .before .before .before .before .before .before .before in
+    omega (arith, both-there (in-turn at-first), few-stars (begun (before-turn at-first)))
 
 loop-less : tie.Need-loop-less Inv-loop μ-loop
 loop-less c = search needs
 
--- what a star was answered
-star-answer : (c : tie.After-reduce-star Inv-loop μ-loop)
-    → shownTwo (c .reduce-star .result) ≡ reduceStar (nth (begin (c .before .before .before .before) .args .bytes .now) (c .before .before .before .loop .i)) (night (c .before .before .before .before))
-star-answer c = c .reduce-star .ensures ∙ ap (under (night (c .before .before .before .before))) (c .before .nth .ensures)
-
 loop-again : tie.Need-loop-again Inv-loop μ-loop
 loop-again c =
-    let at-second = c .before .before in
-    let at-first = at-second .before in
-    let at-status = at-first .before in
-    let at-star = at-status .before in
-    let turn = at-star .before .before in
-    let counted = turn .before .before in
-    let s = begin counted .args .bytes .now in
-    let by = under (night counted) in
-    let i = turn .before .loop .i in
-    let inv = turn .before .loop .inv .1 in
-    let a = star-answer at-star in
-    let status = at-status .status-of .ensures ∙ ap statusOf a in (
+    let at-second = c .before .before .before .before .before .before in
+    let at-first = at-second .before .before .before .before .before .before .before .before .before .before in
+    let at-two = at-first .before .before .before .before in (
       search needs,
       (
-        inv .0,
-        (
-          raised-at by (known counted) s (allowed counted .list) i (rw (inv .0) at (turn .loop-test .taken)) _ _ _ (inv .1 .0) status (c .before .raise .ensures),
-          (
-            store _ _ _ (all counted statusOf) _ i _ _ (turn .loop-test .taken) (inv .1 .1 .0) (status ∙ value statusOf by s i),
-            (
-              store _ _ _ (all counted firstOf) _ i _ _ (turn .loop-test .taken) (inv .1 .1 .1 .0) (at-first .first-of .ensures ∙ ap firstOf a ∙ value firstOf by s i),
-              store _ _ _ (all counted secondOf) _ i _ _ (turn .loop-test .taken) (inv .1 .1 .1 .1) (at-second .second-of .ensures ∙ ap secondOf a ∙ value secondOf by s i),
-            ),
-          ),
-        ),
+        in-turn at-first .before .loop .inv .1 .0,
+        one-kept (begun (before-turn at-first)) (first-stored at-first) (both-there (in-turn at-first))
+            (at-two .reduce-two .ensures .1 ∙ ap (under (before-turn at-first .before .night-of .result)) (at-two .before .nth2 .ensures))
+            (at-second .keep2 .ensures),
       ),
     )
 
+-- one star is left
+module _ (c : tie.Then2 Inv-loop μ-loop) where
+  last-there : c .before .before .loop .i < countOf (begin (c .before .before .before) .args .bytes .now)
+  last-there = omega (arith, c .if2 .taken, c .before .before .loop .inv .1 .0)
+
+keep-requires-3 : tie.Need-keep-requires-3 Inv-loop μ-loop
+keep-requires-3 c κs =
+    let left = c .before .before .before .before .before in
+    places-there (begun (left .before .before .before)) (left .before .before .loop .inv .1 .1) _ (last-there left)
+
+-- and then stored
+module _ (c : tie.After-keep3 Inv-loop μ-loop) where
+  abbrev with-one-left : tie.Then2 Inv-loop μ-loop
+  with-one-left = c .before .before .before .before .before .before
+
+  abbrev before-last : tie.After-count Inv-loop μ-loop
+  before-last = with-one-left .before .before .before
+
+  last-stored : Upto (before-last .before .night-of .result) (begin before-last .args .bytes .now) (begin before-last .args .status .now) (begin before-last .args .asc .now) (begin before-last .args .dec .now) (with-one-left .before .before .loop .i + 1) (c .keep3 .result) (c .keep3 .last .0) (c .keep3 .last .1 .0) (c .keep3 .last .1 .1 .0)
+  last-stored =
+      let at-two = c .before .before .before .before in
+      one-kept (begun before-last) (with-one-left .before .before .loop .inv .1 .1) (last-there with-one-left)
+      (at-two .reduce-two2 .ensures .0 ∙ ap (under (before-last .before .night-of .result)) (at-two .before .nth3 .ensures))
+      (c .keep3 .ensures)
+
 same-length : tie.Need-same-length Inv-loop μ-loop
-same-length c = c .before .loop .inv .1 .1 .1 .0 .long
+same-length c = last-stored (c .before .before .before .before .before .before) .statuses .long
 
 same-length-2 : tie.Need-same-length-2 Inv-loop μ-loop
-same-length-2 c = c .before .loop .inv .1 .1 .1 .1 .0 .long
+same-length-2 c = last-stored (c .before .before .before .before .before .before) .ascs .long
 
 same-length-3 : tie.Need-same-length-3 Inv-loop μ-loop
-same-length-3 c = c .before .loop .inv .1 .1 .1 .1 .1 .long
+same-length-3 c = last-stored (c .before .before .before .before .before .before) .decs .long
 
 returns-2 : tie.Need-returns-2 Inv-loop μ-loop
 returns-2 c =
-    let counted = c .before .before in
-    let s = begin counted .args .bytes .now in
-    let none = sym (counted .before .before .before .before .batch-refusal .ensures) ∙ counted .before .before .if1 .left in
-    let goes = eq-eqb _ 0 none in
-    let inv = c .before .loop .inv in
-    let end : c .before .loop .i ≡ counted .count .result = omega (arith, inv .0, c .loop-test .left) in
-    let every = raised-all (under (night counted)) (known counted) s _ (end ∙ counted .count .ensures) in
-    let p = promised counted in
-    record {
-      answer = simp goes (λ j. record { refusal = sym none j; tally = (inv .1 .1 .0 ∙ ap tallyOf (every ∙ ap (map statusOf) p)) j });
-      statuses = simp goes (finish _ _ _ (all counted statusOf) _ _ end (inv .1 .1 .1 .0) ∙ ap (laid statusOf _) p);
-      ascs = simp goes (finish _ _ _ (all counted firstOf) _ _ end (inv .1 .1 .1 .1 .0) ∙ ap (laid firstOf _) p);
-      decs = simp goes (finish _ _ _ (all counted secondOf) _ _ end (inv .1 .1 .1 .1 .1) ∙ ap (laid secondOf _) p);
-    }
+    let at-last = c .before .before .before .before .before .before in
+    let left = with-one-left at-last in
+    all-kept (begun (before-last at-last)) (last-stored at-last)
+    (omega (arith, left .before .loop-test .left, last-there left, left .before .before .loop .inv .1 .0))
+
+same-length-4 : tie.Need-same-length-4 Inv-loop μ-loop
+same-length-4 c = c .before .before .loop .inv .1 .1 .statuses .long
+
+same-length-5 : tie.Need-same-length-5 Inv-loop μ-loop
+same-length-5 c = c .before .before .loop .inv .1 .1 .ascs .long
+
+same-length-6 : tie.Need-same-length-6 Inv-loop μ-loop
+same-length-6 c = c .before .before .loop .inv .1 .1 .decs .long
+
+returns-3 : tie.Need-returns-3 Inv-loop μ-loop
+returns-3 c =
+    let inv = c .before .before .loop .inv in
+    all-kept (begun (c .before .before .before)) (inv .1 .1) (omega (arith, c .if2 .left, inv .0, inv .1 .0))
 
 pub batch-spec : {M : Type 1} → statement M
 batch-spec =
@@ -192,21 +166,24 @@ batch-spec =
     asks-nothing
     asks-nothing
     loop-holds
+    add-loop
+    add-j
     asks-nothing
     asks-nothing
     asks-nothing
-    slice-write-status
-    asks-nothing
-    mul-asc
-    slice-write-asc
-    asks-nothing
-    mul-dec
-    slice-write-dec
-    asks-nothing
+    keep-requires
+    keep-requires-2
     add-i
     loop-less
     loop-again
+    asks-nothing
+    asks-nothing
+    keep-requires-3
     same-length
     same-length-2
     same-length-3
-    returns-2)
+    returns-2
+    same-length-4
+    same-length-5
+    same-length-6
+    returns-3)

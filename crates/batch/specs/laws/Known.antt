@@ -17,7 +17,7 @@ use Rattle.elementary_arc.specs.rules.Arcsine.{arcsineIn}
 use Rattle.precess.specs.declared.EqTurns.{EqTurns}
 use Rattle.precess.specs.rules.Equatorial.{placed, turnedIn}
 use Rattle.chain.specs.declared.Night.{Night}
-use Rattle.chain.specs.rules.Night.{nightFrom, nightOf, moved, reducedAt, reducedIn}
+use Rattle.chain.specs.rules.Night.{nightFrom, nightOf, moved, movedUnder, reducedAt, reducedIn}
 use Rattle.list_tally.specs.rules.Status.{highestStatus}
 use Rattle.list.specs.declared.Star.{Star}
 use Rattle.list.specs.rules.Record.{inRange}
@@ -101,7 +101,7 @@ known-night edition day1 day2 = known-lower _ _ (known-angle _) (known-lower _ _
 
 module _ (night : Night) (h : night .refusal ≤ highestStatus) where
   known-at : (p : EqPoint) → statusOf (reducedAt p night) ≤ highestStatus
-  unfolding reducedAt moved
+  unfolding reducedAt movedUnder moved
   known-at p = known-unless _ _ (known-lower _ _ (known-lower _ _ (known-angle _) (known-steep _)) h) (omega arith)
 
   known-in : (asc dec : Rad) → statusOf (reducedIn asc dec night) ≤ highestStatus

@@ -14,10 +14,8 @@ unfolding reducedAt
 returns-2 c =
     let c1 = c .before in
     let c2 = c1 .before in
-    let c5 = c2 .before .before .before in
-    let c6 = c5 .before in
-    let c7 = c6 .before in
-    goes-on (rw (c7 .before .point-refusal .ensures) at (c7 .lower .ensures)) (c6 .if1 .left) (rw (c1 .aberr-at .ensures, c2 .nutation-at .ensures, c5 .toward .ensures) at (c .moved .ensures))
+    let c3 = c2 .before in
+    goes-on (rw (c3 .before .point-refusal .ensures) at (c3 .lower .ensures)) (c2 .if1 .left) (rw (c1 .toward .ensures) at (c .moved-under .ensures))
 
 pub reduced-at-spec : {M : Type 1} → statement M
-reduced-at-spec = tie.close (tie.spec asks-nothing asks-nothing returns asks-nothing asks-nothing asks-nothing asks-nothing returns-2)
+reduced-at-spec = tie.close (tie.spec asks-nothing asks-nothing returns asks-nothing asks-nothing returns-2)

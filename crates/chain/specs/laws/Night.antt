@@ -17,7 +17,7 @@ use Rattle.nutation.specs.rules.Point.{nutationInEqCoordsRule, nutationInEqCoor
 use Rattle.aberr.specs.rules.Star.{stellAberrInEqCoordsRule, stellAberrInEqCoordsIn}
 use Rattle.chain.specs.rules.Obliquity.{meanObliquityOf, trueObliquity}
 use Rattle.chain.specs.rules.Chain.{point, sum, fromPoint, chainRule, pointRefusal, anglesRefusal}
-use Rattle.chain.specs.rules.Night.{nightFrom, nightOf, moved, reducedAt, reducedIn}
+use Rattle.chain.specs.rules.Night.{nightFrom, nightOf, moved, movedUnder, reducedAt, reducedIn}
 
 unless-none : {A : Type 0} (n : ℕ) (a : Answer A) → n ≡ 0 → unless n a ≡ a
 unless-none n a e = rw e
@@ -46,7 +46,7 @@ module _ (edition : Edition) (asc dec : Rad) (day1 day2 : Float) where
 
   -- at a precessed point, the second day being accepted
   at-point : (p : Pair) → dayRefusal day2 ≡ 0 → fromPoint p nutations day2 ≡ reducedAt (point p) (nightOf edition day1 day2)
-  unfolding nutationInEqCoordsRule stellAberrInEqCoordsRule nutationInEqCoordsIn stellAberrInEqCoordsIn reducedAt moved nightOf nightFrom
+  unfolding nutationInEqCoordsRule stellAberrInEqCoordsRule nutationInEqCoordsIn stellAberrInEqCoordsIn reducedAt movedUnder moved nightOf nightFrom
   at-point p ok =
       two-steps (pointRefusal (point p)) (anglesRefusal (nutationOf day2) oblq) (dayRefusal day2)
       (pair (nutationInEqCoordsIn (point p) (rad (first nutations)) (rad (second nutations)) oblq .asc .0)

@@ -7,6 +7,7 @@ use Rattle.quantity.specs.declared.Shift.{Shift}
 use Rattle.quantity.specs.rules.Answer.{Answer, answered, Pair, pair, unless, then}
 use Rattle.quantity.specs.rules.Refusal.{lower}
 use Rattle.edition.specs.declared.Edition.{Edition}
+use Rattle.elementary.specs.declared.Direction.{Direction}
 use Rattle.elementary.specs.rules.Sine.{sineOf, cosineOf}
 use Rattle.elementary.specs.rules.Direction.{directionOf}
 use Rattle.precess.specs.declared.EqTurns.{EqTurns}
@@ -33,10 +34,12 @@ nightOf edition day1 day2 =
 unfoldable pub moved : EqPoint → Shift → Shift → Answer Pair
 moved p n a = answered (pair ((p .asc ⊕ n .asc .0) ⊕ a .asc .0) ((p .dec ⊕ n .dec .0) ⊕ a .dec .0))
 
+-- from its direction
+unfoldable pub movedUnder : EqPoint → Direction → Night → Answer Pair
+movedUnder p d night = moved p (nutationAt d (night .nutation) (night .«sin_oblq») (night .«cos_oblq»)) (aberrAt d (night .velocity))
+
 unfoldable pub reducedAt : EqPoint → Night → Answer Pair
-reducedAt p night =
-    unless (lower (pointRefusal p) (night .refusal))
-    (moved p (nutationAt (directionOf p) (night .nutation) (night .«sin_oblq») (night .«cos_oblq»)) (aberrAt (directionOf p) (night .velocity)))
+reducedAt p night = unless (lower (pointRefusal p) (night .refusal)) (movedUnder p (directionOf p) night)
 
 unfoldable pub reducedIn : Rad → Rad → Night → Answer Pair
 reducedIn asc dec night = then (turnedIn asc dec (night .turns)) (λ (p : Pair). reducedAt (point p) night)

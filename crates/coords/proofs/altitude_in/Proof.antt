@@ -1,17 +1,16 @@
 -- `coords::altitude_in` meets its contract. Assumes nothing.
 use Rattle.double.specs.laws.Calls.{asks-nothing}
-use Rattle.elementary.specs.rules.Sine.{turnOf}
+use Rattle.elementary.specs.rules.Sine.{turnsOf}
 use Rattle.coords.specs.rules.Horizon.{altitudeIn}
 use Rattle.coords.proofs.altitude_in.Statement.{statement}
 use Rattle.coords.proofs.altitude_in.Tie as tie
 
 returns : tie.Need-returns
-unfolding altitudeIn turnOf
+unfolding altitudeIn turnsOf
 returns c =
-    let c6 = c .before .before .before .before .before .before in
-    let c7 = c6 .before in
-    let c8 = c7 .before in
-    rw (c8 .turn-of .ensures, c7 .turn-of2 .ensures, c6 .turn-of3 .ensures) at (c .arcsine-in .ensures)
+    let c1 = c .before in
+    let c2 = c1 .before in
+    rw (c1 .cosine .ensures, c2 .turns-of .ensures, c2 .before .fold .ensures) at (c .arcsine-in .ensures)
 
 pub altitude-in-spec : {M : Type 1} → statement M
 altitude-in-spec = tie.close (tie.spec asks-nothing asks-nothing asks-nothing asks-nothing returns)

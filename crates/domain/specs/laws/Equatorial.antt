@@ -23,7 +23,7 @@ use Rattle.helpers.specs.rules.Time.{centuryOf}
 use Rattle.precess.specs.declared.EqTurns.{EqTurns}
 use Rattle.precess.specs.rules.Numbers.{n2306·2181, n1·39656, n0·000139, n0·30188, n0·000344, n0·017998, n1·09468, n0·000066, n0·018203, n0·000217, n2004·3109, n0·8533, n0·42665, n0·041833, n2304·25, n1·396, n0·302, n0·018, n0·791, n0·001, n2004·682, n0·853, n0·426, n0·042}
 use Rattle.precess.specs.rules.Days.{spanOf, daysRefusal, placeRefusal}
-use Rattle.precess.specs.rules.Equatorial.{eqXi, eqZeta, eqTheta, turnsOf, eqTurnsOf, placed, turnedIn, precessEqCoordsRule}
+use Rattle.precess.specs.rules.Equatorial.{eqXi, eqZeta, eqTheta, turnsOf, eqTurnsOf, arcsOf, placed, turnedIn, precessEqCoordsRule}
 use Rattle.precess.specs.rules.Fk4.{fk4Century, fk4Span, fk4Xi, fk4Zeta, fk4Theta, degreesAsRadians, fk4Angle, fk4TurnsOf, precessEqCoordsFK5Rule}
 use Rattle.domain_accepted.specs.laws.Accepted.{angle-between, latitude-sine, latitude-cosine}
 use Rattle.domain_accepted.specs.notions.Outcome.{Outcome, SevenOrFourteen}
@@ -156,7 +156,7 @@ module _ (asc dec : Rad) (turns : EqTurns) (A : angleRefusal asc ≡ 0) (D : lat
   turned-far = near-far (asc .0 ⊕ turns .xi .0) turned-within
 
   pub turned-outcome : Outcome IsPlace SevenOrFourteen (turnedIn asc dec turns)
-  unfolding turnedIn directionOf placed plus isFinite le neg add sub mul ofBits round
+  unfolding turnedIn directionOf placed arcsOf plus isFinite le neg add sub mul ofBits round
   turned-outcome =
       let a = rad (asc .0 ⊕ turns .xi .0) in
       let sa = known (near-sine a turned-within) in

@@ -9,12 +9,12 @@ use lib.IntN.{ℤ, pos, negsuc}
 use lib.Dec.{T, leb, ltb, eqb, eqb→eq}
 use borrow.Author.Tests.{lt-ltb}
 use lib.Pow.{pow-add, pow-pos}
-use lib.Ieee.{Float, nan, inf, fin, Format, binary64, prec, emax, low, up, down, round, neg, sum, add, sub, fits, lt, ofBits}
+use lib.Ieee.{Float, nan, inf, fin, Format, binary64, prec, emax, low, up, down, round, neg, sum, add, sub, div, fits, lt, ofBits}
 use lib.Ieee.Fits.{and-l, up-pos, down-pos, round-fits}
 use lib.Ieee.Exact.{HasValue}
 use lib.Ieee.Scale.{round-same}
 use Rattle.double.specs.rules.Operations as operations
-use Rattle.double.specs.rules.Operations.{_⊖_}
+use Rattle.double.specs.rules.Operations.{_⊖_, _⊘_}
 use Rattle.double.specs.rules.Sign.{size, isFinite}
 use Rattle.double.specs.rules.Order.{Plus, Between}
 use Rattle.double.specs.laws.Order.{le→below}
@@ -132,6 +132,15 @@ round-value (fin t m e) s a c p F h =
     round-same binary64 s a c (m * up e) (down e) p (down-pos e) (sym (h .1))
     ∙ ap (λ (u : Bool). round binary64 u (m * up e) (down e)) (sym (h .0))
     ∙ round-own binary64 t m e F
+
+-- so over one it is itself
+pub over-one : (x : Float) → T (fits binary64 x) → x ⊘ operations.one ≡ x
+unfolding div ofBits
+over-one nan F = refl
+over-one (inf true) F = refl
+over-one (inf false) F = refl
+over-one (fin true m e) F = simp (mul-one, one-mul) (round-own binary64 true m e F)
+over-one (fin false m e) F = simp (mul-one, one-mul) (round-own binary64 false m e F)
 
 -- what lies from a double to itself is that double
 pub squeezed : (c x : Float) → T (fits binary64 c) → T (fits binary64 x) → Plus c → Plus x → Between c c x → x ≡ c

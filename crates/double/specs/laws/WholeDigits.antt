@@ -1,41 +1,53 @@
--- The whole part of a double from 1 up to 2^53 is its 53 digits without those that stand after the point. Assumes nothing.
+-- The whole part of a double from 1/2 up to 2^53 is its 53 digits without those that stand after the point. Assumes nothing.
 use mathlib.Core.Path.{_≡_, refl, sym, ap, _∙_}
 use mathlib.Core.Logic.{_⊎_, inl, inr}
-use mathlib.Core.Bool.{true, false, true≢false}
+use mathlib.Core.Bool.{Bool, true, false, not}
 use Prim.Native.Nat.{ℕ, _+_, _-_, _*_, _/_, _%_, _^_, _≤_, _<_, min}
 use native.Mathlib.Nat.{lt-of-le-of-lt, mul-assoc, mul-le-mul-right, mul-lt-mul-of-pos-right}
-use native.Mathlib.Nat.{lt-of-mul-lt-mul-right, le-of-mul-le-mul-right, div-lt-iff-lt-mul}
+use native.Mathlib.Nat.{lt-of-mul-lt-mul-right, le-of-mul-le-mul-right, div-lt-iff-lt-mul, div-eq-of-lt}
 use native.Mathlib.Omega.{arith}
 use lib.IntN.{ℤ}
-use lib.Dec.{T}
+use lib.Dec.{T, ltb, T-not, not-T}
 use lib.Pow.{pow-add, pow-pos}
 use borrow.Author.Tests.{ltb-true, ltb-false}
-use lib.Ieee.{Float, nan, inf, fin, binary64, fits, up, down, lt, toUnsigned, ofBits, toBits}
+use lib.Ieee.{Float, nan, inf, fin, binary64, fits, up, down, eq, lt, le, toUnsigned, ofBits, toBits}
 use lib.Ieee.Fits.{down-pos}
 use lib.Ieee.Bits.{ofBits-toBits}
 use lib.Ieee.Nearest.{div-same}
-use Rattle.double.specs.rules.Operations.{bits, one}
+use Rattle.double.specs.rules.Operations.{bits, half, one}
 use Rattle.double.specs.rules.Sign.{bearsMinus, isFinite}
+use Rattle.double.specs.rules.Order.{_≼_}
 use Rattle.double.specs.rules.Count.{count}
 use Rattle.double.specs.rules.Whole.{wholePart}
 use Rattle.double.specs.notions.WholeDigits.{IsNear, field}
 use Rattle.double.specs.laws.Numbers.{less-or-not, pow-lt-back}
+use Rattle.double.specs.laws.Order.{le-trans, le→below, below→le}
+use Rattle.double.specs.laws.Tests.{fails}
 use Rattle.double.specs.laws.Count.{count-exact}
 use Rattle.double.specs.laws.Patterns.{count-low, count-high, from-zero-pattern}
 
 -- ---- what the tests tell
 
-pub none-below-one : (x : Float) → lt x one ≡ true → 0 ≡ wholePart x
-unfolding lt ofBits toUnsigned
-none-below-one nan l = absurd (true≢false (sym l))
-none-below-one (inf true) l = refl
-none-below-one (inf false) l = absurd (true≢false (sym l))
-none-below-one (fin true m e) l = refl
-none-below-one (fin false m e) l =
-    let q : m * up e / down e < 1 = div-lt-iff-lt-mul (down-pos e) .1 (omega (arith, ltb-true (m * up e * 1) (1 * 1 * down e) l)) in
-    omega arith
+-- what is not 1 or more, a NaN too, has no whole part
+pub whole-part-none : (s : Float) → T (not (le one s)) → wholePart s ≡ 0
+unfolding toUnsigned isFinite le lt eq ofBits
+whole-part-none nan h = refl
+whole-part-none (inf true) h = refl
+whole-part-none (inf false) h = absurd h
+whole-part-none (fin true m e) h = refl
+whole-part-none (fin false m e) h =
+    ap (λ (n : ℕ). min n (2 ^ 64 - 1)) (div-eq-of-lt {n = m * up e} {m = down e} (less (ltb (m * up e) (down e)) refl))
+  where
+    less : (b : Bool) → ltb (m * up e) (down e) ≡ b → m * up e < down e
+    less true t = ltb-true (m * up e) (down e) t
+    less false t =
+        absurd (T-not (le one (fin false m e)) h (below→le one (fin false m e) tt tt (omega (arith, ltb-false (m * up e) (down e) t))))
 
-module _ (m : ℕ) (e : ℤ) (F : T (fits binary64 (fin false m e))) (l : down e ≤ m * up e) (h : m * up e < 2 ^ 53 * down e) where
+pub none-below-half : (x : Float) → le half x ≡ false → 0 ≡ wholePart x
+none-below-half x h =
+    sym (whole-part-none x (not-T (le one x) (λ (l : T (le one x)). T-not (le half x) (fails h) (le-trans half one x (unfold le ofBits in tt) l))))
+
+module _ (m : ℕ) (e : ℤ) (F : T (fits binary64 (fin false m e))) (l : down e ≤ 2 * (m * up e)) (h : m * up e < 2 ^ 53 * down e) where
   counted : m * up e * 2 ^ 1074 ≡ count (fin false m e) * down e
   unfolding isFinite bearsMinus
   counted = count-exact (fin false m e) F refl .1
@@ -50,13 +62,13 @@ module _ (m : ℕ) (e : ℤ) (F : T (fits binary64 (fin false m e))) (l : down e
       let p : n / d ≡ c / 2 ^ 1074 = div-same n d c (2 ^ 1074) (down-pos e) (pow-pos 1074) counted in
       record {
         from-zero = record { held = F; finite = refl; plus = refl };
-        least = le-of-mul-le-mul-right (under (2 ^ 1074) d n (c * d) counted (mul-le-mul-right (2 ^ 1074) l)) (down-pos e);
+        least = le-of-mul-le-mul-right (under (2 ^ 1074) d n c counted (mul-le-mul-right (2 ^ 1074) l)) (down-pos e);
         most = lt-of-mul-lt-mul-right d (over (2 ^ 1074) d n (c * d) counted (mul-lt-mul-of-pos-right h (pow-pos 1074)));
         part = sym p ∙ small (n / d) q;
       }
     where
-      under : (p d n w : ℕ) → n * p ≡ w → d * p ≤ n * p → p * d ≤ w
-      under p d n w e h = omega arith
+      under : (p d n c : ℕ) → n * p ≡ c * d → d * p ≤ 2 * n * p → p * d ≤ 2 * c * d
+      under p d n c e h = omega arith
 
       over : (p d n w : ℕ) → n * p ≡ w → n * p < 2 ^ 53 * d * p → w < 2 ^ 53 * p * d
       over p d n w e h = omega arith
@@ -64,42 +76,44 @@ module _ (m : ℕ) (e : ℤ) (F : T (fits binary64 (fin false m e))) (l : down e
       small : (a : ℕ) → a < 2 ^ 53 → a ≡ min a (2 ^ 64 - 1)
       small a h = omega arith
 
-pub near : (x : Float) → T (fits binary64 x) → lt x one ≡ false → lt x (bits 0x4340000000000000) ≡ true → IsNear x
-unfolding lt ofBits
-near nan F l h = absurd (true≢false (sym h))
-near (inf true) F l h = absurd (true≢false l)
-near (inf false) F l h = absurd (true≢false (sym h))
-near (fin true m e) F l h = absurd (nothing (m * up e) (down e) (down-pos e) (ltb-false 0 (m * up e * 1 + 1 * 1 * down e) l))
+pub near : (x : Float) → T (fits binary64 x) → half ≼ x → x ≼ bits 0x433fffffffffffff → IsNear x
+unfolding le ofBits
+near nan F l h = absurd l
+near (inf true) F l h = absurd l
+near (inf false) F l h = absurd h
+near (fin true m e) F l h = absurd (nothing (m * up e) (down e) (down-pos e) (le→below half (fin true m e) (unfold isFinite in tt) (unfold isFinite in tt) l))
   where
-    nothing : (n d : ℕ) → 0 < d → n * 1 + 1 * 1 * d ≤ 0 → ⊥
+    nothing : (n d : ℕ) → 0 < d → 1 * d + n * 2 ≤ 0 * 2 + 0 * d → ⊥
     nothing n d p h = omega arith
 near (fin false m e) F l h =
-    fin-near m e F (omega (arith, ltb-false (m * up e * 1) (1 * 1 * down e) l)) (omega (arith, ltb-true (m * up e * 1) (1 * 2 ^ 53 * down e) h))
+    let p = le→below half (fin false m e) (unfold isFinite in tt) (unfold isFinite in tt) l in
+    let q = le→below (fin false m e) (bits 0x433fffffffffffff) (unfold isFinite in tt) (unfold isFinite in tt) h in
+    fin-near m e F (omega arith) (omega (arith, down-pos e))
 
 -- ---- the pattern b of such a double: the places after the point are 1075 less its exponent's field
 
-module _ (b : ℕ) (top : b < 2047 * 2 ^ 52) (lo : 2 ^ 1074 ≤ count (bits b)) (hi : count (bits b) < 2 ^ 53 * 2 ^ 1074) where
+module _ (b : ℕ) (top : b < 2047 * 2 ^ 52) (lo : 2 ^ 1074 ≤ 2 * count (bits b)) (hi : count (bits b) < 2 ^ 53 * 2 ^ 1074) where
   abbrev d : ℕ
   d = 2 ^ 52 + b % 2 ^ 52
 
   normal : 2 ^ 52 ≤ b
   normal = go (less-or-not b (2 ^ 52))
     where
-      few : 1074 < 52 → 2 ^ 52 ≤ b
+      few : 1074 < 53 → 2 ^ 52 ≤ b
       few h = omega arith
 
       go : (b < 2 ^ 52) ⊎ (2 ^ 52 ≤ b) → 2 ^ 52 ≤ b
-      go (inl l) = few (pow-lt-back 1074 52 (lt-of-le-of-lt (rw (count-low b l) at lo) l))
+      go (inl l) = few (pow-lt-back 1074 53 (lt-of-le-of-lt (rw (count-low b l) at lo) (omega arith)))
       go (inr l) = l
 
   counts : count (bits b) ≡ d * 2 ^ (b / 2 ^ 52 - 1)
   counts = count-high b normal top
 
-  from : 1023 ≤ b / 2 ^ 52
+  from : 1022 ≤ b / 2 ^ 52
   from =
       let k = b / 2 ^ 52 - 1 in
-      let less : d < 2 ^ 53 = omega arith in
-      let p : 1074 < 53 + k = pow-lt-back 1074 (53 + k) (rw (pow-add 2 53 k) (lt-of-le-of-lt (rw counts at lo) (mul-lt-mul-of-pos-right less (pow-pos k)))) in
+      let less : 2 * d < 2 ^ 54 = omega arith in
+      let p : 1074 < 54 + k = pow-lt-back 1074 (54 + k) (rw (pow-add 2 54 k) (lt-of-le-of-lt (rw (counts, ← mul-assoc 2 d (2 ^ k)) at lo) (mul-lt-mul-of-pos-right less (pow-pos k)))) in
       omega arith
 
   upto : b / 2 ^ 52 ≤ 1075
@@ -123,7 +137,7 @@ module _ (x : Float) (n : IsNear x) where
   again : bits (toBits binary64 x) ≡ x
   again = ofBits-toBits binary64 x (n .from-zero .held)
 
-  pub field-from : 1023 ≤ field x
+  pub field-from : 1022 ≤ field x
   field-from = from (toBits binary64 x) (from-zero-pattern x (n .from-zero)) (rw again (n .least)) (rw again (n .most))
 
   pub field-upto : field x ≤ 1075

@@ -1,4 +1,4 @@
--- What is known of a double from 1 up to 2^53.
+-- What is known of a double from 1/2 up to 2^53.
 use mathlib.Core.Path.{_≡_}
 use Prim.Native.Nat.{ℕ, _*_, _/_, _^_, _≤_, _<_}
 use lib.Ieee.{Float, binary64, toBits}
@@ -8,7 +8,7 @@ use Rattle.double.specs.rules.Whole.{wholePart}
 -- the smallest double goes 2^1074 times into 1
 pub record IsNear (x : Float) : Type 0 where
   pub from-zero : IsFromZero x
-  pub least : 2 ^ 1074 ≤ count x
+  pub least : 2 ^ 1074 ≤ 2 * count x
   pub most : count x < 2 ^ 53 * 2 ^ 1074
   pub part : count x / 2 ^ 1074 ≡ wholePart x
 

@@ -12,7 +12,7 @@ use lib.Ieee.{Float, nan, inf, fin, binary64, up, down, round, neg, add, sub, mu
 use lib.Ieee.Fits.{down-pos}
 use lib.Ieee.Exact.{HasValue}
 use lib.Ieee.Positive.{den, den-pos}
-use Rattle.double.specs.rules.Operations.{zero, half, one, two, _⊕_, _⊖_, _⊗_}
+use Rattle.double.specs.rules.Operations.{bits, zero, half, one, two, _⊕_, _⊖_, _⊗_}
 use Rattle.double.specs.rules.Sign.{size, isFinite}
 use Rattle.double.specs.rules.Order.{_≼_, Finite, Plus, Between}
 use Rattle.double.specs.rules.Whole.{wholePart, fromWhole, IsWholePart}
@@ -20,6 +20,7 @@ use Rattle.double.specs.rules.Table.{over, minusOver}
 use Rattle.double.specs.notions.Fraction.{plusPart, minusPart}
 use Rattle.double.specs.notions.Range.{known, con, _⊞_, _⊟_, _⊠_}
 use Rattle.double.specs.notions.Grid.{grid}
+use Rattle.double.specs.laws.Order.{le-trans as le-trans-float}
 use Rattle.double.specs.laws.Sign.{plus-size}
 use Rattle.double.specs.laws.Between.{between, between-cut, size-between, finite-of-size, plus-of-positive}
 use Rattle.double.specs.laws.Fraction.{minus-none, plus-all, rounds-mono, add-rounds, sub-rounds, mul-rounds}
@@ -56,6 +57,12 @@ quarters-true a i =
 -- an angle up to 400000.0 in size
 folds : (x : Float) → size x ≼ farthestAlone → Between zero farthestAlone (size x)
 folds x h = size-between x farthestAlone (unfold isFinite ofBits in tt) h
+
+-- s lies from 1/2 and below 2^53
+pub fold-near : (x : Float) → size x ≼ farthestAlone → (half ≼ (size x ⊗ I ⊕ half)) × ((size x ⊗ I ⊕ half) ≼ bits 0x433fffffffffffff)
+fold-near x h =
+    let s = sum-between (size x) (folds x h) in
+    (s .from, le-trans-float (size x ⊗ I ⊕ half) (over 509297 2) (bits 0x433fffffffffffff) (s .to) (unfold le ofBits round in tt))
 
 -- k is far below the cap of `wholePart`
 pub fold-at-most : (x : Float) → size x ≼ farthestAlone → quarters (size x) ≤ 254648

@@ -11,24 +11,9 @@ use Rattle.double.specs.rules.Operations.{zero, half, one, _⊕_, _⊖_, _⊗_}
 use Rattle.double.specs.rules.Sign.{bearsMinus, size, isFinite}
 use Rattle.double.specs.rules.Whole.{wholePart}
 use Rattle.double.specs.laws.Exact.{round-own}
-use Rattle.double.specs.laws.Order.{below→le}
+use Rattle.double.specs.laws.WholeDigits.{whole-part-none}
 use Rattle.quantity.specs.declared.Rad.{Rad}
 use Rattle.elementary.specs.rules.Fold.{I, restAt, fold}
-
--- what is not 1 or more, a NaN too, has no whole part
-whole-part-none : (s : Float) → T (not (le one s)) → wholePart s ≡ 0
-unfolding toUnsigned isFinite le lt eq ofBits
-whole-part-none nan h = refl
-whole-part-none (inf true) h = refl
-whole-part-none (inf false) h = absurd h
-whole-part-none (fin true m e) h = refl
-whole-part-none (fin false m e) h =
-    ap (λ (n : ℕ). min n (2 ^ 64 - 1)) (div-eq-of-lt {n = m * up e} {m = down e} (less (ltb (m * up e) (down e)) refl))
-  where
-    less : (b : Bool) → ltb (m * up e) (down e) ≡ b → m * up e < down e
-    less true t = ltb-true (m * up e) (down e) t
-    less false t =
-        absurd (T-not (le one (fin false m e)) h (below→le one (fin false m e) tt tt (omega (arith, ltb-false (m * up e) (down e) t))))
 
 -- nothing taken away
 less-nothing : (a : Float) → T (fits binary64 a) → a ⊖ zero ≡ a

@@ -9,11 +9,13 @@ use Rattle.quantity.specs.rules.Angle.{PI, rad}
 use Rattle.quantity.specs.notions.Code.{ofFloat, ofAnswer}
 use Rattle.quantity.specs.notions.Varies.{Varies}
 use Rattle.elementary.specs.declared.Turn.{Turn}
+use Rattle.elementary.specs.declared.Turns.{Turns}
 use Rattle.elementary.specs.declared.Direction.{Direction}
-use Rattle.elementary.specs.rules.Sine.{turnOf, sineRule, cosineRule, tangentRule}
-use Rattle.elementary.specs.rules.Direction.{directionOf}
+use Rattle.elementary.specs.declared.Directions.{Directions}
+use Rattle.elementary.specs.rules.Sine.{turnOf, turnsOf, sineRule, cosineRule, tangentRule}
+use Rattle.elementary.specs.rules.Direction.{directionOf, directionsOf}
 use Rattle.elementary.specs.notions.Computed.{computed}
-use Rattle.elementary.specs.notions.Wrong.{aloneLimitOffByOneDouble, foldWithoutP3, sineRegrouped, cosineAnswersSine, cosineOfTheOppositeRest, tangentNotSteep, tangentUpsideDown, turnTheOtherWay, directionTraded}
+use Rattle.elementary.specs.notions.Wrong.{aloneLimitOffByOneDouble, foldWithoutP3, sineRegrouped, cosineAnswersSine, cosineOfTheOppositeRest, tangentNotSteep, tangentUpsideDown, turnTheOtherWay, directionTraded, turnsTraded, directionsTraded, firstTurnTwice}
 
 -- ---- sine
 
@@ -76,3 +78,20 @@ point = record { asc = zero; dec = zero }
 pub direction-traded-excluded : directionTraded point ≢ directionOf point
 unfolding computed
 direction-traded-excluded = apart (λ (d : Direction). ofFloat (d .«sin_dec»)) refl
+
+-- ---- two side by side
+
+pub turns-traded-excluded : turnsTraded (rad one) (rad zero) ≢ turnsOf (rad one) (rad zero)
+unfolding computed
+turns-traded-excluded = apart (λ (t : Turns). ofFloat (t .«first_sine»)) refl
+
+pub first-turn-twice-excluded : firstTurnTwice (rad one) (rad zero) ≢ turnsOf (rad one) (rad zero)
+unfolding computed
+first-turn-twice-excluded = apart (λ (t : Turns). ofFloat (t .«second_cosine»)) refl
+
+abbrev beside : EqPoint
+beside = record { asc = one; dec = zero }
+
+pub directions-traded-excluded : directionsTraded point beside ≢ directionsOf point beside
+unfolding computed
+directions-traded-excluded = apart (λ (d : Directions). ofFloat (d .second .«sin_asc»)) refl

@@ -11,11 +11,13 @@ use Rattle.quantity.specs.rules.Answer.{Answer, answered, unless}
 use Rattle.quantity.specs.rules.Refusal.{past, lower}
 use Rattle.elementary.specs.declared.Folded.{Folded}
 use Rattle.elementary.specs.declared.Turn.{Turn}
+use Rattle.elementary.specs.declared.Turns.{Turns}
 use Rattle.elementary.specs.declared.Direction.{Direction}
+use Rattle.elementary.specs.declared.Directions.{Directions}
 use Rattle.elementary.specs.rules.Fold.{P1, P2, quarters, fold}
 use Rattle.elementary.specs.rules.Series.{horner, sineLast, sineEntries}
-use Rattle.elementary.specs.rules.Sine.{cosineQuarter, foldedSine, sineOf, cosineOf, tangentOf, farthestAlone, aloneRefusal, tangentRefusal}
-use Rattle.elementary.specs.rules.Direction.{directionOf}
+use Rattle.elementary.specs.rules.Sine.{cosineQuarter, foldedSine, sineOf, cosineOf, tangentOf, turnsOf, farthestAlone, aloneRefusal, tangentRefusal}
+use Rattle.elementary.specs.rules.Direction.{directionOf, directionsOf}
 
 -- called alone, with another value
 abbrev alone : (Rad → Float) → Rad → Answer Float
@@ -65,3 +67,14 @@ abbrev pub directionTraded : EqPoint → Direction
 directionTraded p =
     let d = directionOf p in
     record { «sin_asc» = d .«sin_asc»; «cos_asc» = d .«cos_asc»; «sin_dec» = d .«cos_dec»; «cos_dec» = d .«cos_dec» }
+
+-- two angles, or two points, each in the other's lane
+abbrev pub turnsTraded : Rad → Rad → Turns
+turnsTraded x y = turnsOf y x
+
+abbrev pub directionsTraded : EqPoint → EqPoint → Directions
+directionsTraded p q = directionsOf q p
+
+-- the first in both
+abbrev pub firstTurnTwice : Rad → Rad → Turns
+firstTurnTwice x y = turnsOf x x

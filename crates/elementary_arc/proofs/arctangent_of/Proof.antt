@@ -12,11 +12,7 @@ returns c =
     let c1 = c .before in
     let c2 = c1 .before in
     let c3 = c2 .before in
-    let c4 = c3 .before in
-    let c5 = c4 .before in
-    let c6 = c5 .before in
-    let c7 = c6 .before in
-    ap rad (rw (c1 .size3 .ensures, c2 .bears-minus2 .ensures, c3 .turned .ensures, c4 .base .ensures, c5 .size2 .ensures, c6 .size .ensures, c7 .bears-minus .ensures) at (c .negated-if .ensures))
+    ap rad (rw (c1 .base .ensures, c2 .size2 .ensures, c3 .size .ensures) at (c .signed .ensures))
 
 pub arctangent-of-spec : {M : Type 1} → statement M
-arctangent-of-spec = tie.close (tie.spec asks-nothing asks-nothing asks-nothing asks-nothing asks-nothing asks-nothing asks-nothing asks-nothing returns)
+arctangent-of-spec = tie.close (tie.spec asks-nothing asks-nothing asks-nothing asks-nothing returns)

@@ -4,15 +4,17 @@ use mathlib.Core.Path.{refl}
 use mathlib.Core.Bool.{false}
 use std.Logic.{_≢_}
 use lib.Ieee.{inf, neg}
-use Rattle.double.specs.rules.Operations.{bits, zero, half, one}
+use Rattle.double.specs.declared.Lanes.{Lanes}
+use Rattle.double.specs.rules.Operations.{bits, zero, half, one, two}
 use Rattle.double.specs.notions.Stated.{minusZero, pastOne}
 use Rattle.double.specs.laws.Apart.{apart}
-use Rattle.quantity.specs.notions.Code.{ofRad, ofAnswer}
+use Rattle.quantity.specs.notions.Code.{ofFloat, ofRad, ofAnswer}
 use Rattle.quantity.specs.notions.Varies.{Varies}
 use Rattle.elementary_arc.specs.rules.Arctangent.{arctangentRule}
+use Rattle.elementary_arc.specs.rules.Level.{lesserOver, reduced, arctangentsOf}
 use Rattle.elementary_arc.specs.rules.Arcsine.{arcsineRule}
 use Rattle.elementary_arc.specs.notions.Computed.{computed}
-use Rattle.elementary_arc.specs.notions.Wrong.{oneArgument, minusZeroIsPlus, behindIsAhead, onlyPlusZerosRefused, minusZeroNotSeen, zerosAnswered, arctangentLetsInfinityIn, arcsineClamped, arcsineLimitOff, arcsineRootRegrouped, arcsineLetsInfinityIn}
+use Rattle.elementary_arc.specs.notions.Wrong.{oneArgument, minusZeroIsPlus, behindIsAhead, onlyPlusZerosRefused, minusZeroNotSeen, zerosAnswered, arctangentLetsInfinityIn, arcsineClamped, arcsineLimitOff, arcsineRootRegrouped, arcsineLetsInfinityIn, arctangentsTraded, firstOver, notReduced}
 
 -- ---- arctangent
 
@@ -70,3 +72,17 @@ arcsine-lets-infinity-in-excluded = apart (ofAnswer ofRad) refl
 pub arcsine-root-regrouped-excluded : arcsineRootRegrouped (bits 0x3fbc28f5c28f5c29) ≢ arcsineRule (bits 0x3fbc28f5c28f5c29)
 unfolding computed
 arcsine-root-regrouped-excluded = apart (ofAnswer ofRad) refl
+
+-- ---- two side by side
+
+pub arctangents-traded-excluded : arctangentsTraded one one zero one ≢ arctangentsOf one one zero one
+unfolding computed
+arctangents-traded-excluded = apart (λ (l : Lanes). ofFloat (l .first)) refl
+
+pub first-over-excluded : firstOver two one ≢ lesserOver two one
+unfolding computed
+first-over-excluded = apart ofFloat refl
+
+pub not-reduced-excluded : notReduced half ≢ reduced half
+unfolding computed
+not-reduced-excluded = apart ofFloat refl

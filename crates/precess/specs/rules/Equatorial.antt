@@ -16,6 +16,7 @@ use Rattle.elementary_arc.specs.rules.Arcsine.{arcsineIn}
 use Rattle.helpers.specs.rules.Angle.{arc, radiansOf}
 use Rattle.helpers.specs.rules.Time.{centuryOf}
 use Rattle.precess.specs.declared.EqTurns.{EqTurns}
+use Rattle.precess.specs.declared.Arcs.{Arcs}
 use Rattle.precess.specs.rules.Numbers.{n2306·2181, n1·39656, n0·000139, n0·30188, n0·000344, n0·017998, n1·09468, n0·000066, n0·018203, n0·000217, n2004·3109, n0·8533, n0·42665, n0·041833}
 use Rattle.precess.specs.rules.Days.{spanOf, placeRefusal}
 
@@ -50,16 +51,24 @@ eqTurnsOf e day1 day2 =
     let t = spanOf day1 day2 in
     turnsOf (radiansOf (eqXi c t)) (radiansOf (eqZeta e c t)) (radiansOf (eqTheta e c t))
 
--- a place after the turns, from the direction of its right ascension with xi added and its declination
-unfoldable pub placed : Direction → EqTurns → Answer Pair
-placed d turns =
+-- what the arcs of a place after the turns are taken of, from the direction of its right ascension with xi added and its declination
+unfoldable pub arcsOf : Direction → EqTurns → Arcs
+arcsOf d turns =
     let sa = d .«sin_asc» in
     let ca = d .«cos_asc» in
     let sd = d .«sin_dec» in
     let cd = d .«cos_dec» in
-    both
-    (plus (arctangentIn (cd ⊗ sa) (turns .cosine ⊗ cd ⊗ ca ⊖ turns .sine ⊗ sd)) (turns .zeta))
-    (arcsineIn (turns .sine ⊗ cd ⊗ ca ⊕ turns .cosine ⊗ sd))
+    record {
+      up = cd ⊗ sa;
+      across = turns .cosine ⊗ cd ⊗ ca ⊖ turns .sine ⊗ sd;
+      height = turns .sine ⊗ cd ⊗ ca ⊕ turns .cosine ⊗ sd;
+    }
+
+-- the place
+unfoldable pub placed : Direction → EqTurns → Answer Pair
+placed d turns =
+    let a = arcsOf d turns in
+    both (plus (arctangentIn (a .up) (a .across)) (turns .zeta)) (arcsineIn (a .height))
 
 unfoldable pub turnedIn : Rad → Rad → EqTurns → Answer Pair
 turnedIn asc dec turns = placed (directionOf (record { asc = asc .0 ⊕ turns .xi .0; dec = dec .0 })) turns

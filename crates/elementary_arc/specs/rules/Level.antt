@@ -1,0 +1,29 @@
+-- The arctangent as code takes it for two at once, without a branch: one quotient, one series, and what is chosen before and after.
+-- `level-base` in laws/Level says that this is the base.
+use mathlib.Core.Bool.{cond}
+use lib.Ieee.{Float, le}
+use Rattle.double.specs.declared.Lanes.{Lanes}
+use Rattle.double.specs.rules.Operations.{one, _⊕_, _⊖_, _⊘_}
+use Rattle.double.specs.rules.Sign.{bearsMinus, negatedIf, size}
+use Rattle.quantity.specs.rules.Angle.{HALF, QUARTER}
+use Rattle.elementary_arc.specs.rules.Arctangent.{near, turned, arctangentOf}
+
+-- the lesser of two sizes over the greater
+abbrev pub lesserOver : Float → Float → Float
+lesserOver y x = cond (le y x) (y ⊘ x) (x ⊘ y)
+
+-- what the series is taken of
+abbrev pub reduced : Float → Float
+reduced v = cond (le v near) v ((v ⊖ one) ⊘ (v ⊕ one))
+
+-- the base of two sizes, from the lesser over the greater and the series
+abbrev pub baseFrom : Float → Float → Float → Float → Float
+baseFrom y x v a = let t = cond (le v near) a (QUARTER ⊕ a) in cond (le y x) t (HALF ⊖ t)
+
+-- the answer, from the base
+abbrev pub signed : Float → Float → Float → Float
+signed y x b = negatedIf (bearsMinus y) (size (turned (bearsMinus x) b))
+
+-- two arctangents side by side, each what it is alone
+unfoldable pub arctangentsOf : Float → Float → Float → Float → Lanes
+arctangentsOf y x z w = record { first = arctangentOf y x .0; second = arctangentOf z w .0 }
