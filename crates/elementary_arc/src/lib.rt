@@ -2,10 +2,11 @@
 // Those that other functions use are total on all doubles. Rules: specs/rules, in reading order in specs/rules.antt.
 ghost use mathlib.Core.Path.{_≡_};
 ghost use Rattle.quantity.specs.rules.Answer.{shownRadians};
+ghost use Rattle.root.specs.rules.Root.{rootOf};
 ghost use Rattle.elementary_arc.specs.rules.Series.{arctangentSeries};
 ghost use Rattle.elementary_arc.specs.rules.Arctangent.{atn, base, turned, arctangentOf, bothZero, arctangentIn, arctangentRefusal, arctangentRule};
 ghost use Rattle.elementary_arc.specs.rules.Level.{lesserOver, reduced, baseFrom, signed, arctangentsOf};
-ghost use Rattle.elementary_arc.specs.rules.Arcsine.{arcsineIn, arcsineRule};
+ghost use Rattle.elementary_arc.specs.rules.Arcsine.{square, arcsineIn, arcsineRule};
 use double::Lanes;
 use quantity::HALF;
 use quantity::PI;
@@ -207,6 +208,13 @@ pub fn arctangent(y: f64, x: f64) -> Radians
     arctangent_in(y, x)
 }
 
+// The root of (1 − s)·(1 + s), by which the arcsine of s is an arctangent.
+pub fn arcsine_root(s: f64) -> f64
+    ensures { λ r. ⌜ r ≡ rootOf (square s) ⌝ }
+{
+    root::root_of((1.0 - s) * (1.0 + s))
+}
+
 // The arcsine as other functions use it: base with the sign of s, since the root bears no minus sign. Refusals, which callers hand on:
 // 7 where s exceeds 1 in size, 1 of a NaN; never 14.
 pub fn arcsine_in(s: f64) -> Radians
@@ -214,7 +222,7 @@ pub fn arcsine_in(s: f64) -> Radians
 {
     let a = double::size(s);
     if a <= 1.0 {
-        let b = base(a, root::root_of((1.0 - s) * (1.0 + s)));
+        let b = base(a, arcsine_root(s));
         return Radians::Are(Rad(double::negated_if(double::bears_minus(s), b)));
     }
     if 1.0 < a {

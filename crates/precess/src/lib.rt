@@ -6,7 +6,7 @@ ghost use Rattle.quantity.specs.rules.Answer.{shownTwo, firstPlace, secondPlace
 ghost use Rattle.precess.specs.rules.Days.{spanOf, daysRefusal, placeRefusal};
 ghost use Rattle.precess.specs.rules.Annual.{annualM, annualN, annualAt, annualIn, annualRefusal, annualPrecessRule};
 ghost use Rattle.precess.specs.rules.Equatorial.{eqXi, eqZeta, eqTheta, turnsOf, eqTurnsOf, arcsOf, placed, turnedIn, precessEqCoordsRule};
-ghost use Rattle.precess.specs.rules.Arcs.{arcsRefusal, squareOf};
+ghost use Rattle.precess.specs.rules.Arcs.{arcsRefusal};
 ghost use Rattle.precess.specs.rules.Fk4.{fk4Century, fk4Span, fk4Xi, fk4Zeta, fk4Theta, degreesAsRadians, fk4Angle, fk4TurnsOf, precessEqCoordsFK5Rule};
 use edition::Edition;
 use elementary::Direction;
@@ -235,13 +235,6 @@ fn arcs_refusal(a: Arcs) -> u8
     if 1.0 < size { 7 } else { 1 }
 }
 
-// What the root is taken of for an arcsine.
-fn square(s: f64) -> f64
-    ensures { λ r. ⌜ r ≡ squareOf s ⌝ }
-{
-    (1.0 - s) * (1.0 + s)
-}
-
 // Two places after the turns, side by side: both roots first, for both declinations wait for them. Refusals of each: 14; 7.
 fn placed_two(d: Direction, e: Direction, turns: EqTurns) -> Places
     ensures { λ r. ⌜ (firstPlace r ≡ placed d turns) × (secondPlace r ≡ placed e turns) ⌝ }
@@ -249,8 +242,8 @@ fn placed_two(d: Direction, e: Direction, turns: EqTurns) -> Places
     let zeta = turns.zeta;
     let a = arcs_of(d, turns);
     let b = arcs_of(e, turns);
-    let root = root::root_of(square(a.height));
-    let root2 = root::root_of(square(b.height));
+    let root = elementary_arc::arcsine_root(a.height);
+    let root2 = elementary_arc::arcsine_root(b.height);
     let ascs = elementary_arc::arctangents_of(a.up, a.across, b.up, b.across);
     let decs = elementary_arc::arctangents_of(a.height, root, b.height, root2);
     Places {

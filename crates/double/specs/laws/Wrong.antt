@@ -1,18 +1,18 @@
 -- Wrong variants are excluded: each differs from the rule at the input stated. Assumes nothing.
 use Prim.Native.Nat.{_^_}
 use mathlib.Core.Path.{refl}
-use mathlib.Core.Bool.{true, false}
+use mathlib.Core.Bool.{true, false, cond}
 use std.Logic.{_≢_}
 use lib.Dec.{T}
 use lib.Ieee.{Float, inf, binary64, fits}
-use Rattle.double.specs.rules.Operations.{one}
+use Rattle.double.specs.rules.Operations.{zero, one}
 use Rattle.double.specs.rules.Sign.{bearsMinus, negatedIf, size, isFinite}
 use Rattle.double.specs.rules.Order.{_≼_, Finite}
 use Rattle.double.specs.rules.Whole.{wholePart, fromWhole}
 use Rattle.double.specs.rules.Pattern.{patternOf}
 use Rattle.double.specs.notions.Computed.{computed}
 use Rattle.double.specs.notions.Greatest.{greatest}
-use Rattle.double.specs.notions.Wrong.{bearsMinusBelowZero, negatedUnless, sizeOfBelowZero, sizeBelowZero, finiteToInfinity, wholePartCapped, wholePartOfWritten, fromLowBits, patternOfSize, belowGreatest}
+use Rattle.double.specs.notions.Wrong.{bearsMinusBelowZero, negatedUnless, eitherTurned, sizeOfBelowZero, sizeBelowZero, finiteToInfinity, wholePartCapped, wholePartOfWritten, fromLowBits, patternOfSize, belowGreatest}
 use Rattle.double.specs.notions.Stated.{minusZero}
 use Rattle.double.specs.notions.Code.{ofFlag, ofFloat, ofNumber}
 use Rattle.double.specs.laws.Apart.{apart}
@@ -24,6 +24,10 @@ minus-zero-is-plus-excluded = apart ofFlag refl
 pub negated-unless-excluded : negatedUnless true one ≢ negatedIf true one
 unfolding computed
 negated-unless-excluded = apart ofFloat refl
+
+pub either-turned-excluded : eitherTurned true one zero ≢ cond true one zero
+unfolding computed
+either-turned-excluded = apart ofFloat refl
 
 pub size-of-minus-zero-excluded : sizeOfBelowZero minusZero ≢ size minusZero
 unfolding computed

@@ -14,6 +14,9 @@ bearsMinusBelowZero x = lt x zero
 abbrev pub negatedUnless : Bool → Float → Float
 negatedUnless flag x = cond flag x (neg x)
 
+abbrev pub eitherTurned : Bool → Float → Float → Float
+eitherTurned flag a b = cond flag b a
+
 -- −0 kept
 abbrev pub sizeOfBelowZero : Float → Float
 sizeOfBelowZero x = cond (lt x zero) (neg x) x

@@ -1,7 +1,7 @@
 -- `elementary::chosen` meets its contract. Assumes nothing.
 use borrow.Author.Needs.{needs}
 use Rattle.double.specs.laws.Calls.{asks-nothing}
-use Rattle.elementary.specs.rules.Sine.{foldedSine, foldedCosine, turnOfFolded}
+use Rattle.elementary.specs.rules.Sine.{foldedSine, foldedCosine}
 use Rattle.elementary.proofs.Quarters.{sine-chosen, cosine-chosen}
 use Rattle.elementary.proofs.chosen.Statement.{statement}
 use Rattle.elementary.proofs.chosen.Tie as tie
@@ -10,7 +10,7 @@ add-negated-if : tie.Need-add-negated-if
 add-negated-if c = search needs
 
 returns : tie.Need-returns
-unfolding turnOfFolded foldedSine foldedCosine
+unfolding foldedSine foldedCosine
 returns c =
     let c1 = c .before in
     let c2 = c1 .before in

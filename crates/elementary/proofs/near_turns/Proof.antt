@@ -7,7 +7,7 @@ use Rattle.quantity.specs.declared.Rad.{Rad}
 use Rattle.double.specs.laws.Calls.{asks-nothing}
 use Rattle.elementary.specs.declared.Folded.{Folded}
 use Rattle.elementary.specs.rules.Fold.{fold}
-use Rattle.elementary.specs.rules.Sine.{turnOfFolded, turnsOf}
+use Rattle.elementary.specs.rules.Sine.{turnsOf}
 use Rattle.elementary.proofs.near_turns.Statement.{statement}
 use Rattle.elementary.proofs.near_turns.Tie as tie
 
@@ -33,7 +33,7 @@ chosen-requires-2 c κs =
     (quarter-below _ _ (c3 .before .before .near-fold2 .ensures), (c .before .sine-series2 .ensures, c .cosine-series2 .ensures))
 
 returns : tie.Need-returns
-unfolding turnsOf turnOfFolded
+unfolding turnsOf
 returns c =
     let c3 = c .before .before .before in
     let c6 = c3 .before .before .before in

@@ -14,7 +14,7 @@ returns c =
     let c3 = c2 .before in
     let c4 = c3 .before in
     let size = c4 .before .size .ensures in
-    rw (c .negated-if .ensures, c1 .bears-minus .ensures, c2 .base .ensures, c3 .root-of .ensures, size)
+    rw (c .negated-if .ensures, c1 .bears-minus .ensures, c2 .base .ensures, c3 .arcsine-root .ensures, size)
     (sym (arcsine-by-base _ (holds (rw (size) at (c4 .if1 .taken)))))
 
 returns-2 : tie.Need-returns-2

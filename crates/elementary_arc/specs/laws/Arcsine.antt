@@ -33,13 +33,9 @@ use Rattle.root.specs.rules.Root.{rootOf}
 use Rattle.root.specs.laws.Root.{root-from-zero, root-answered}
 use Rattle.root.specs.notions.Computed as root
 use Rattle.elementary_arc.specs.rules.Arctangent.{base, arctangentOf, bothZero}
-use Rattle.elementary_arc.specs.rules.Arcsine.{arcsineIn, arcsineRule}
+use Rattle.elementary_arc.specs.rules.Arcsine.{square, arcsineIn, arcsineRule}
 use Rattle.elementary_arc.specs.notions.Computed.{computed}
 use Rattle.elementary_arc.specs.laws.Arctangent.{arctangent-answered, arctangent-ahead, arctangent-sign, arctangent-finite, arctangent-at-most-half}
-
--- what the root is taken of
-abbrev square : Float → Float
-square s = (one ⊖ s) ⊗ (one ⊕ s)
 
 abbrev arcsineOf : Float → Rad
 arcsineOf s = arctangentOf s (rootOf (square s))

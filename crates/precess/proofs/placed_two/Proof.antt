@@ -1,5 +1,4 @@
 -- `precess::placed_two` meets its contract: each lane is its own direction's place. Assumes nothing.
-use mathlib.Core.Path.{_∙_}
 use Rattle.double.specs.laws.Calls.{asks-nothing}
 use Rattle.elementary_arc.specs.rules.Level.{arctangentsOf}
 use Rattle.precess.specs.laws.Arcs.{placed-by-arcs}
@@ -15,25 +14,12 @@ returns c =
     let c8 = c7 .before in
     let c9 = c8 .before in
     let c10 = c9 .before in
-    let c11 = c10 .before in
-    let c12 = c11 .before in
-    let c13 = c12 .before in (
-      rw (c1 .arcs-refusal .ensures, c6 .arctangents-of2 .ensures, c7 .arctangents-of .ensures, c10 .root-of .ensures, c11 .square .ensures, c13 .arcs-of .ensures) (placed-by-arcs _ _),
-      rw (c .arcs-refusal2 .ensures, c6 .arctangents-of2 .ensures, c7 .arctangents-of .ensures, c8 .root-of2 .ensures, c9 .square2 .ensures, c12 .arcs-of2 .ensures) (placed-by-arcs _ _),
+    let c11 = c10 .before in (
+      rw (c1 .arcs-refusal .ensures, c6 .arctangents-of2 .ensures, c7 .arctangents-of .ensures, c9 .arcsine-root .ensures, c11 .arcs-of .ensures) (placed-by-arcs _ _),
+      rw (c .arcs-refusal2 .ensures, c6 .arctangents-of2 .ensures, c7 .arctangents-of .ensures, c8 .arcsine-root2 .ensures, c10 .arcs-of2 .ensures) (placed-by-arcs _ _),
     )
 
 pub placed-two-spec : {M : Type 1} → statement M
 placed-two-spec =
     tie.close
-    (tie.spec
-    asks-nothing
-    asks-nothing
-    asks-nothing
-    asks-nothing
-    asks-nothing
-    asks-nothing
-    asks-nothing
-    asks-nothing
-    asks-nothing
-    asks-nothing
-    returns)
+    (tie.spec asks-nothing asks-nothing asks-nothing asks-nothing asks-nothing asks-nothing asks-nothing asks-nothing returns)

@@ -11,21 +11,21 @@ use Rattle.quantity.specs.declared.Rad.{Rad}
 use Rattle.quantity.specs.rules.Answer.{Answer, answered, refused, Pair, pair, unless, then, plus, both}
 use Rattle.root.specs.rules.Root.{rootOf}
 use Rattle.elementary_arc.specs.rules.Arctangent.{bothZero, arctangentOf, arctangentIn}
-use Rattle.elementary_arc.specs.rules.Arcsine.{arcsineIn}
+use Rattle.elementary_arc.specs.rules.Arcsine.{square, arcsineIn}
 use Rattle.elementary_arc.specs.laws.Arcsine.{arcsine-answered, arcsine-of-neither}
 use Rattle.elementary.specs.declared.Direction.{Direction}
 use Rattle.precess.specs.declared.EqTurns.{EqTurns}
 use Rattle.precess.specs.declared.Arcs.{Arcs}
 use Rattle.precess.specs.rules.Equatorial.{arcsOf, placed}
-use Rattle.precess.specs.rules.Arcs.{arcsRefusal, squareOf}
+use Rattle.precess.specs.rules.Arcs.{arcsRefusal}
 
 -- the place of arcs that are not refused
 abbrev pub arcsPlace : Arcs → Rad → Pair
-arcsPlace a zeta = pair (arctangentOf (a .up) (a .across) .0 ⊕ zeta .0) (arctangentOf (a .height) (rootOf (squareOf (a .height))) .0)
+arcsPlace a zeta = pair (arctangentOf (a .up) (a .across) .0 ⊕ zeta .0) (arctangentOf (a .height) (rootOf (square (a .height))) .0)
 
 -- the arcsine, by the tests that code makes
 arcsine-tested : (s : Float) (x : Float) (t u : Bool) → le (size s) one ≡ t → lt one (size s) ≡ u
-    → unless (cond t 0 (cond u 7 1)) (answered (pair x (arctangentOf s (rootOf (squareOf s)) .0)))
+    → unless (cond t 0 (cond u 7 1)) (answered (pair x (arctangentOf s (rootOf (square s)) .0)))
     ≡ both (answered (record { 0 = x })) (arcsineIn s)
 unfolding both then
 arcsine-tested s x true u e f = rw (arcsine-answered s (holds e))

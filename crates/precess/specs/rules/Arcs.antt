@@ -1,9 +1,9 @@
--- Both arcs of a place as code takes them, side by side: their refusal, and what the arcsine's root is taken of.
--- `placed-by-arcs` in laws/Arcs says that this is the place.
+-- The refusal of both arcs of a place, as code takes them side by side.
+-- `placed-by-arcs` in laws/Arcs says that it is the place's.
 use Prim.Native.Nat.{ℕ}
 use mathlib.Core.Bool.{cond}
-use lib.Ieee.{Float, le, lt}
-use Rattle.double.specs.rules.Operations.{one, _⊕_, _⊖_, _⊗_}
+use lib.Ieee.{le, lt}
+use Rattle.double.specs.rules.Operations.{one}
 use Rattle.double.specs.rules.Sign.{size}
 use Rattle.elementary_arc.specs.rules.Arctangent.{bothZero}
 use Rattle.precess.specs.declared.Arcs.{Arcs}
@@ -13,6 +13,3 @@ unfoldable pub arcsRefusal : Arcs → ℕ
 arcsRefusal a =
     cond (bothZero (a .up) (a .across)) 14
     (cond (le (size (a .height)) one) 0 (cond (lt one (size (a .height))) 7 1))
-
-abbrev pub squareOf : Float → Float
-squareOf s = (one ⊖ s) ⊗ (one ⊕ s)

@@ -3,17 +3,43 @@ use mathlib.Core.Path.{refl}
 use mathlib.Core.Bool.{false}
 use std.Logic.{_≢_}
 use lib.Ieee.{inf}
-use Rattle.double.specs.rules.Operations.{bits, one}
+use Rattle.double.specs.rules.Operations.{bits, zero, one}
 use Rattle.double.specs.rules.Table.{decimal}
 use Rattle.double.specs.notions.Code.{ofNumber}
 use Rattle.double.specs.laws.Apart.{apart}
+use Rattle.quantity.specs.declared.Places.{Places}
 use Rattle.quantity.specs.rules.Angle.{rad}
-use Rattle.quantity.specs.rules.Answer.{answered, plus, addedTo, takenFrom, both}
+use Rattle.quantity.specs.rules.Answer.{answered, firstPlace, secondPlace, plus, addedTo, takenFrom, both}
 use Rattle.quantity.specs.rules.Refusal.{lower, past, numberRefusal, dayRefusal, angleRefusal, latitudeRefusal, steepRefusal, distanceRefusal, heightRefusal, leastDistance}
 use Rattle.quantity.specs.notions.Computed.{computed}
 use Rattle.quantity.specs.notions.Code.{ofFloat, ofRad, ofPair, ofAnswer}
-use Rattle.quantity.specs.notions.Wrong.{plusTakesAway, addedToDropsTheAngle, takenFromTheOtherWay, bothTraded, lowerIsHigher, numberLetsInfinityIn, pastTakesTheLimitIn, dayLimitOff, angleLimitOff, steepestOff, steepLimitOff, distanceLimitOff, everyAngleRefused, latitudeLimitIsAnAngles, heightFromTheSea}
+use Rattle.quantity.specs.notions.Wrong.{refusedPlaceAnswered, refusedByTheOther, placesMixed, plusTakesAway, addedToDropsTheAngle, takenFromTheOtherWay, bothTraded, lowerIsHigher, numberLetsInfinityIn, pastTakesTheLimitIn, dayLimitOff, angleLimitOff, steepestOff, steepLimitOff, distanceLimitOff, everyAngleRefused, latitudeLimitIsAnAngles, heightFromTheSea}
 use Rattle.quantity.specs.notions.Stated.{r1, r2}
+
+-- ---- two places side by side: the first is refused, the second is not
+
+abbrev beside : Places
+beside =
+    record {
+      «first_asc» = one;
+      «second_asc» = one;
+      «first_dec» = one;
+      «second_dec» = zero;
+      «first_refusal» = 7;
+      «second_refusal» = 0;
+    }
+
+pub refused-place-answered-excluded : refusedPlaceAnswered beside ≢ firstPlace beside
+unfolding computed
+refused-place-answered-excluded = apart (ofAnswer ofPair) refl
+
+pub refused-by-the-other-excluded : refusedByTheOther beside ≢ firstPlace beside
+unfolding computed
+refused-by-the-other-excluded = apart (ofAnswer ofPair) refl
+
+pub places-mixed-excluded : placesMixed beside ≢ secondPlace beside
+unfolding computed
+places-mixed-excluded = apart (ofAnswer ofPair) refl
 
 -- ---- what is done with answers
 

@@ -6,9 +6,24 @@ use lib.Ieee.{Float, le, lt}
 use Rattle.double.specs.rules.Operations.{bits, zero, _⊖_}
 use Rattle.double.specs.rules.Sign.{size, isFinite}
 use Rattle.quantity.specs.declared.Rad.{Rad}
+use Rattle.quantity.specs.declared.Places.{Places}
 use Rattle.quantity.specs.rules.Angle.{rad}
-use Rattle.quantity.specs.rules.Answer.{Answer, refused, Pair, pair, with, then}
+use Rattle.quantity.specs.rules.Answer.{Answer, answered, refused, Pair, pair, unless, with, then}
 use Rattle.quantity.specs.rules.Refusal.{lower, past, outside, epoch, farthest, mostDistance, mostHeight, latitudeRefusal}
+
+-- ---- two places side by side
+
+-- whatever its number
+abbrev pub refusedPlaceAnswered : Places → Answer Pair
+refusedPlaceAnswered p = answered (pair (p .«first_asc») (p .«first_dec»))
+
+-- refused by the other's number
+abbrev pub refusedByTheOther : Places → Answer Pair
+refusedByTheOther p = unless (p .«second_refusal») (answered (pair (p .«first_asc») (p .«first_dec»)))
+
+-- with the other's declination
+abbrev pub placesMixed : Places → Answer Pair
+placesMixed p = unless (p .«second_refusal») (answered (pair (p .«second_asc») (p .«first_dec»)))
 
 -- ---- what is done with answers
 
