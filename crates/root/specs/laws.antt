@@ -8,3 +8,4 @@ pub mod Nearest
 pub mod Root
 pub mod Cases
 pub mod Wrong
+pub mod Bits

@@ -3,3 +3,4 @@
 pub mod Nearest
 pub mod Whole
 pub mod Root
+pub mod Bits

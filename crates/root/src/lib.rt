@@ -1,121 +1,113 @@
-// The square root of a double (section 2): IEEE 754's squareRoot to nearest. Floats guess its digits, and whole numbers
-// decide; where the guess is bad they find the digits by themselves.
+// The square root of a double (section 2): IEEE 754's squareRoot to nearest, by a recurrence of two digits, 29 and 24 bits. Floats
+// estimate each digit, and whole numbers mend it until the exact rest fits.
 // Rules: specs/rules, in reading order in specs/rules.antt.
 ghost use mathlib.Core.Path.{_≡_};
 ghost use mathlib.Core.Bool.{true, false};
 ghost use Prim.Native.Nat.{_+_, _*_, _/_, _%_, _^_, _≤_, _<_};
 ghost use lib.Ieee.{le, lt};
 ghost use Rattle.double.specs.rules.Operations.{bits, zero};
-ghost use Rattle.quantity.specs.rules.Answer.{shown};
-ghost use Rattle.root.specs.rules.Whole.{IsWholeRoot, wholeRoot, mended};
+ghost use Rattle.double.specs.rules.Pattern.{patternOf};
+ghost use Rattle.quantity.specs.rules.Answer.{shown, with};
+ghost use Rattle.root.specs.rules.Nearest.{twiceRootSquared};
+ghost use Rattle.root.specs.rules.Whole.{wholeRoot, IsDigit};
+ghost use Rattle.root.specs.notions.Steps.{taken, Tried};
 ghost use Rattle.root.specs.rules.Root.{rootPattern, rootOf, rootRefusal, rootRule};
+ghost use Rattle.root.specs.rules.Bits.{shownBits};
 use quantity::One;
+
+// The bits of an answer, or its refusal number.
+pub enum Bits {
+    Are(u64),
+    Refused(u8),
+}
 
 // 2^−1022, the least double that has its 53 digits, and the greatest double.
 const LEAST_NORMAL: f64 = 2.2250738585072014e-308;
 
 const GREATEST: f64 = 1.7976931348623157e308;
 
-// The digits that follow y in a root, by the quotient and the rest of what is left and twice y: the quotient, or one less
-// where its square is too much.
-fn mended(y: u64, quotient: u64, rest: u64) -> u64
-    requires { ⌜ (y < 2 ^ 54) × (quotient ≤ 2 ^ 28) ⌝ }
-    ensures { λ r. ⌜ r ≡ mended y quotient rest ⌝ }
+// Whether the digit t fits: it takes twice·t·2^k + t² of left·2^k, and what is left then is at most twice the new root. No
+// difference that passes has wrapped.
+fn is_digit(left: u64, twice: u64, k: u64, t: u64) -> bool
+    requires { ⌜ (twice < 2 ^ 30) × (k < 27) × (t < 2 ^ 30) ⌝ }
+    ensures { λ r. ⌜ Tried left twice (2 ^ k) t r ⌝ }
 {
-    if rest < quotient * quotient {
-        y + quotient - 1
+    let above = std::num::wrapping_sub_u64(left, twice * t);
+    if above >> (63 - k) == 0 {
+        let rest = std::num::wrapping_sub_u64(above << k, t * t);
+        rest <= (twice << k) + t + t
     } else {
-        y + quotient
+        false
     }
 }
 
-// The whole part of n's root from q, that of n / 4^k: the next k binary digits.
-fn more_digits(n: u64, q: u64, k: u64) -> u64
-    requires { ⌜ (IsWholeRoot (n / (2 ^ k * 2 ^ k)) q) × (2 ^ k ≤ q + q) × (n < 2 ^ 54) × (k < 54) ⌝ }
-    ensures { λ r. ⌜ IsWholeRoot n r ⌝ }
+// What the digit t takes, in whole 2^k: a part of one counts whole.
+fn taken(twice: u64, k: u64, t: u64) -> u64
+    requires { ⌜ (twice < 2 ^ 30) × (k < 27) × (t ≤ 2 ^ 30) ⌝ }
+    ensures { λ r. ⌜ r ≡ taken twice (2 ^ k) t ⌝ }
 {
-    let y = q << k;
-    let left = n - y * y;
-    mended(y, left / (y + y), left % (y + y))
+    twice * t + ((t * t + ((1 << k) - 1)) >> k)
 }
 
-// The whole part of n's root, of 2 binary digits.
-fn two_digits(n: u64) -> u64
-    requires { ⌜ (4 ≤ n) × (n < 16) ⌝ }
-    ensures { λ r. ⌜ IsWholeRoot n r ⌝ }
+// A step of the recurrence: the digit that follows a root of which twice is the double, where left·2^k is left beside its square.
+// The estimate may be any: it is mended by one until it fits. Nothing overflows, since 2^30 would take too much.
+pub fn digit(left: u64, twice: u64, k: u64, estimate: u64) -> u64
+    requires { ⌜ (twice < 2 ^ 30) × (k < 27) × (estimate < 2 ^ 30) × (left * 2 ^ k < twice * 2 ^ 30 * 2 ^ k + 2 ^ 60) ⌝ }
+    ensures { λ t. ⌜ IsDigit left twice (2 ^ k) t ⌝ }
 {
-    if n < 9 { 2 } else { 3 }
+    let mut t = estimate;
+    while !is_digit(left, twice, k, t) {
+        if left < taken(twice, k, t) {
+            t -= 1;
+        } else {
+            t += 1;
+        }
+    }
+    t
 }
 
-// The whole part of d's root, of 27 binary digits: 2, then 2, 3, 7 and 13 at once.
-fn first_digits(d: u64) -> u64
-    requires { ⌜ (2 ^ 52 ≤ d) × (d < 2 ^ 54) ⌝ }
-    ensures { λ r. ⌜ IsWholeRoot d r ⌝ }
-{
-    let two = two_digits(d >> 50);
-    let four = more_digits(d >> 46, two, 2);
-    let seven = more_digits(d >> 40, four, 3);
-    let fourteen = more_digits(d >> 26, seven, 7);
-    more_digits(d, fourteen, 13)
-}
-
-// The whole part of the root of d·2^54, of 54 binary digits: 27, then 27 at once. What is left and twice the root so far
-// are both divided by 2^27 first, so that they fit.
-fn digits(d: u64) -> u64
-    requires { ⌜ (2 ^ 52 ≤ d) × (d < 2 ^ 54) ⌝ }
-    ensures { λ s. ⌜ s ≡ wholeRoot 54 (d * 2 ^ 54) ⌝ }
-{
-    let q = first_digits(d);
-    let left = (d - q * q) << 27;
-    mended(q << 27, left / (q + q), (left % (q + q)) << 27)
-}
-
-// A guess of z's root for z from 1 up to 4, b its bit pattern: half of b from a constant is a pattern near the reciprocal
-// root, two of Newton's steps come nearer to it, and one of third order leads to the root.
-// Nothing is promised of it: whole numbers try what it leads to.
-fn guess(z: f64, b: u64) -> f64
+// An estimate of one over z's root for z from 1 up to 4, b its bit pattern: half of b from a constant is a pattern near it, and
+// three of Newton's steps come nearer. Nothing is promised of it: `digit` mends what it leads to.
+fn reciprocal(z: f64, b: u64) -> f64
     requires { ⌜ b < 2 ^ 63 ⌝ }
 {
     let y0 = f64::from_bits(0x5fe6_d250_b000_0000 - (b >> 1));
     let half = z * 0.5;
     let y1 = y0 * (1.5008789551163346 - half * y0 * y0);
     let y2 = y1 * (1.5 - half * y1 * y1);
-    let s = z * y2;
-    let u = 1.0 - s * y2;
-    s + (s * u) * (0.5 + 0.375 * u)
+    y2 * (1.5 - half * y2 * y2)
 }
 
-// The whole number nearest to the root of q² + rest: q, or one or two more. Both choices are of a value, so neither is
-// compiled to a jump.
-fn rounded_by_rest(q: u64, rest: u64) -> u64
-    requires { ⌜ (0 < q) × (q < 2 ^ 53) × (rest ≤ 5 * q) ⌝ }
-    ensures { λ r. ⌜ (r * r < q * q + rest + r) × (q * q + rest ≤ r * r + r) ⌝ }
+// The whole part of e·2^28, for e from 0 up to 4: a sum with 2^14 has 38 binary places. Two more in the last of them, so that a
+// root that is a whole number is not estimated one less.
+fn selected(e: f64) -> u64
+    ensures { λ r. ⌜ r < 2 ^ 30 ⌝ }
 {
-    let r = if rest > q { q + 1 } else { q };
-    if rest > 3 * q + 2 { r + 1 } else { r }
+    (double::pattern(e + 16384.000000000007) >> 10) % 0x4000_0000
 }
 
-// The whole number nearest to the root of d·2^52, of 53 binary digits, whatever g is. Where the last 52 bits of g are those
-// of a near guess, q, one less, is a·2^26 + b, and what d·2^52 has above q² is found in three differences. None has wrapped
-// where it is small. Else the digits are found by division.
-fn rounded_root(d: u64, g: u64) -> u64
+// rest·2^−33: the last place of a double from 2^19 on.
+fn scaled(rest: u64) -> f64
+    requires { ⌜ rest < 2 ^ 52 ⌝ }
+{
+    f64::from_bits(0x4120_0000_0000_0000 + rest) - 524288.0
+}
+
+// The whole number nearest to the root of d·2^52, of 53 binary digits, by a step for 29 of them and one for 24. Each estimate is
+// what is left times y, one over the root: z stands for d·2^−52. No tie can be.
+fn rounded_root(d: u64, z: f64, y: f64) -> u64
     requires { ⌜ (2 ^ 52 ≤ d) × (d < 2 ^ 54) ⌝ }
     ensures { λ r. ⌜ r ≡ (wholeRoot 54 (d * 2 ^ 54) + 1) / 2 ⌝ }
 {
-    let q = 0xf_ffff_ffff_ffff + g % 0x10_0000_0000_0000;
-    let a = q >> 26;
-    let b = q % 0x400_0000;
-    let u = std::num::wrapping_sub_u64(d, a * a);
-    if u < 0x2000_0000 {
-        let v = std::num::wrapping_sub_u64(u << 26, (a * b) << 1);
-        if v < 0x4000_0000 {
-            let rest = std::num::wrapping_sub_u64(v << 26, b * b);
-            if rest <= 5 * q {
-                return rounded_by_rest(q, rest);
-            }
-        }
-    }
-    (digits(d) + 1) >> 1
+    let whole = d << 4;
+    let a = digit(whole, 0, 0, selected(z * y));
+    let twice = a + a;
+    let first = whole - a * a;
+    let left = first << 24;
+    let b = digit(left, twice, 24, selected(scaled(first) * y));
+    let q = (a << 24) + b;
+    let rest = ((left - twice * b) << 24) - b * b;
+    if rest > q { q + 1 } else { q }
 }
 
 // The bit pattern of the root of m·2^(e − 2096), where m has its 53 digits: p has e above its last 52 bits, and in these what
@@ -127,16 +119,24 @@ fn pack(p: u64) -> u64
 {
     let z = p % 0x20_0000_0000_0000 + 0x3ff0_0000_0000_0000;
     let m = 0x10_0000_0000_0000 + p % 0x10_0000_0000_0000;
-    let g = double::pattern(guess(f64::from_bits(z), z));
-    ((p >> 53) << 52) + rounded_root(m << ((p >> 52) % 2), g)
+    let x = f64::from_bits(z);
+    ((p >> 53) << 52) + rounded_root(m << ((p >> 52) % 2), x, reciprocal(x, z))
 }
 
-// The root of a normal double above zero: its pattern has the digits as `pack` takes them, and an exponent 1021 less.
+// The bits of the root of a normal double above zero: its pattern has the digits as `pack` takes them, and an exponent 1021 less.
+fn normal_bits(x: f64) -> u64
+    requires { ⌜ (le (bits 0x0010000000000000) x ≡ true) × (le x (bits 0x7fefffffffffffff) ≡ true) ⌝ }
+    ensures { λ r. ⌜ r ≡ rootPattern (twiceRootSquared x) ⌝ }
+{
+    pack(f64::to_bits(x) + 0x3fd0_0000_0000_0000)
+}
+
+// That root.
 fn normal_root(x: f64) -> f64
     requires { ⌜ (le (bits 0x0010000000000000) x ≡ true) × (le x (bits 0x7fefffffffffffff) ≡ true) ⌝ }
     ensures { λ r. ⌜ r ≡ rootOf x ⌝ }
 {
-    f64::from_bits(pack(f64::to_bits(x) + 0x3fd0_0000_0000_0000))
+    f64::from_bits(normal_bits(x))
 }
 
 // The root of a subnormal double: its digits are brought up by their leading zeros, and the exponent down by as many.
@@ -191,4 +191,19 @@ pub fn square_root(x: f64) -> One
         return One::Refused(no);
     }
     One::Is(root_of(x))
+}
+
+// The square root as its bits, for who stores it: no NaN need be asked for on the way.
+pub fn square_root_bits(x: f64) -> Bits
+    ensures { λ r. ⌜ shownBits r ≡ with patternOf (rootRule x) ⌝ }
+{
+    if LEAST_NORMAL <= x {
+        if x <= GREATEST {
+            return Bits::Are(normal_bits(x));
+        }
+    }
+    match square_root(x) {
+        One::Is(y) => Bits::Are(double::pattern(y)),
+        One::Refused(n) => Bits::Refused(n),
+    }
 }

@@ -5,14 +5,14 @@ use mathlib.Core.Bool.{true, false, cond}
 use std.Logic.{_≢_}
 use lib.Dec.{T}
 use lib.Ieee.{Float, inf, binary64, fits}
-use Rattle.double.specs.rules.Operations.{zero, one}
+use Rattle.double.specs.rules.Operations.{bits, zero, one}
 use Rattle.double.specs.rules.Sign.{bearsMinus, negatedIf, size, isFinite}
 use Rattle.double.specs.rules.Order.{_≼_, Finite}
 use Rattle.double.specs.rules.Whole.{wholePart, fromWhole}
 use Rattle.double.specs.rules.Pattern.{patternOf}
 use Rattle.double.specs.notions.Computed.{computed}
 use Rattle.double.specs.notions.Greatest.{greatest}
-use Rattle.double.specs.notions.Wrong.{bearsMinusBelowZero, negatedUnless, eitherTurned, sizeOfBelowZero, sizeBelowZero, finiteToInfinity, wholePartCapped, wholePartOfWritten, fromLowBits, patternOfSize, belowGreatest}
+use Rattle.double.specs.notions.Wrong.{bearsMinusBelowZero, negatedUnless, eitherTurned, sizeOfBelowZero, sizeBelowZero, finiteToInfinity, wholePartCapped, wholePartOfWritten, fromLowBits, patternOfSize, bitsOfSize, belowGreatest}
 use Rattle.double.specs.notions.Stated.{minusZero}
 use Rattle.double.specs.notions.Code.{ofFlag, ofFloat, ofNumber}
 use Rattle.double.specs.laws.Apart.{apart}
@@ -57,6 +57,11 @@ large-numbers-cut-excluded = apart ofFloat refl
 pub pattern-loses-the-sign-excluded : patternOfSize minusZero ≢ patternOf minusZero
 unfolding computed
 pattern-loses-the-sign-excluded = apart ofNumber refl
+
+-- at the bits of −0
+pub bits-lose-the-sign-excluded : bitsOfSize (2 ^ 63) ≢ bits (2 ^ 63)
+unfolding computed
+bits-lose-the-sign-excluded = apart ofFloat refl
 
 pub greatest-one-less-excluded : ¬ ((x : Float) → T (fits binary64 x) → Finite x → x ≼ belowGreatest)
 unfolding computed fits

@@ -45,6 +45,10 @@ fromLowBits n = fromWhole (n % 2 ^ 63)
 abbrev pub patternOfSize : Float → ℕ
 patternOfSize x = patternOf (size x)
 
+-- read without its sign
+abbrev pub bitsOfSize : ℕ → Float
+bitsOfSize b = bits (b % 2 ^ 63)
+
 -- the double below the greatest
 abbrev pub belowGreatest : Float
 belowGreatest = bits 0x7feffffffffffffe

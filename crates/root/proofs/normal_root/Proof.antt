@@ -1,4 +1,5 @@
 -- `root::normal_root` meets its contract: the pattern, with 1021 more in its exponent's field, is what `pack` takes. Assumes nothing.
+use borrow.Author.Needs.{needs}
 use mathlib.Core.Path.{_≡_, sym, ap, _∙_, subst}
 use Prim.Native.Nat.{_+_, _/_, _%_, _^_}
 use native.Mathlib.Omega.{arith}
@@ -19,34 +20,19 @@ use Rattle.root.proofs.normal_root.Tie as tie
 tested : (c : tie.Start) → IsNormal (c .args .x)
 tested c = normal-tested (c .args .x) (subst T (sym (c .good .0 .1)) tt) (c .pre .0) (c .pre .1)
 
-packed : (c : tie.After-pack) → c .pack .result ≡ rootPattern (twiceRootSquared (c .before .args .x))
-packed c =
-    let x = c .before .args .x in
-    let n = tested (c .before) in
-    let b = toBits binary64 x in
-    handed-on _ (2 ^ 52 + b % 2 ^ 52) (b / 2 ^ 52 + 1021) (c .pack .ensures) (omega arith) (omega arith) (omega arith)
-    ∙ ap rootPattern
-    (high-square b (n .least) (above-zero-pattern x (n .above) .1) ∙ ap twiceRootSquared (ofBits-toBits binary64 x (n .above .held)))
-
-float-to-bits-pack : tie.Need-float-to-bits-pack
-float-to-bits-pack c = finite-no-nan (c .args .x) (tested c .above .finite)
-
-add-pack : tie.Need-add-pack
-add-pack c = omega (arith, above-zero-pattern (c .args .x) (tested c .above) .1)
-
-pack-requires : tie.Need-pack-requires
-pack-requires c κs = omega (arith, above-zero-pattern (c .args .x) (tested c .above) .1)
+normal-bits-requires : tie.Need-normal-bits-requires
+normal-bits-requires c κs = search needs
 
 float-from-bits-result : tie.Need-float-from-bits-result
 float-from-bits-result c =
-    rw (packed c) (pattern-no-nan _ (pattern-finite (above-zero-normal (c .before .args .x) (tested (c .before) .above) .2)))
+    rw (c .normal-bits .ensures) (pattern-no-nan _ (pattern-finite (above-zero-normal (c .before .args .x) (tested (c .before) .above) .2)))
 
 returns : tie.Need-returns
 unfolding rootOf
 returns c =
     let a = tested (c .before) .above in
-    rw (packed c, a .above, a .finite)
+    rw (c .normal-bits .ensures, a .above, a .finite)
 
 pub normal-root-spec : {M : Type 1} → statement M
 normal-root-spec =
-    tie.close (tie.spec float-to-bits-pack add-pack pack-requires float-from-bits-result returns)
+    tie.close (tie.spec normal-bits-requires float-from-bits-result returns)

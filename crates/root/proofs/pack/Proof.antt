@@ -18,8 +18,8 @@ form c = normal (2 ^ 52 + c .args .p % 2 ^ 52) (c .args .p / 2 ^ 52) (omega arit
 
 found : (c : tie.After-rounded-root)
     → c .rounded-root .result
-    ≡ (wholeRoot 54 ((2 ^ 52 + c .before .before .before .args .p % 2 ^ 52) * 2 ^ (c .before .before .before .args .p / 2 ^ 52 % 2) * 2 ^ 54) + 1) / 2
-found c = c .rounded-root .ensures ∙ ap (λ (d : ℕ). (wholeRoot 54 (d * 2 ^ 54) + 1) / 2) (omega (arith, form (c .before .before .before) .most))
+    ≡ (wholeRoot 54 ((2 ^ 52 + c .before .before .args .p % 2 ^ 52) * 2 ^ (c .before .before .args .p / 2 ^ 52 % 2) * 2 ^ 54) + 1) / 2
+found c = c .rounded-root .ensures ∙ ap (λ (d : ℕ). (wholeRoot 54 (d * 2 ^ 54) + 1) / 2) (omega (arith, form (c .before .before) .most))
 
 add-z : tie.Need-add-z
 add-z c = search needs
@@ -27,26 +27,23 @@ add-z c = search needs
 add-m : tie.Need-add-m
 add-m c = search needs
 
-float-from-bits-guess : tie.Need-float-from-bits-guess
-float-from-bits-guess c = pattern-no-nan _ (omega arith)
-
-guess-requires : tie.Need-guess-requires
-guess-requires c κs = search needs
-
-pattern-requires : tie.Need-pattern-requires
-pattern-requires c κs = search needs
+float-from-bits-x : tie.Need-float-from-bits-x
+float-from-bits-x c = pattern-no-nan _ (omega arith)
 
 shl-rounded-root : tie.Need-shl-rounded-root
 shl-rounded-root c = search needs
 
+reciprocal-requires : tie.Need-reciprocal-requires
+reciprocal-requires c κs = search needs
+
 rounded-root-requires : tie.Need-rounded-root-requires
-rounded-root-requires c κs = omega (arith, form (c .before .before) .least, form (c .before .before) .most)
+rounded-root-requires c κs = omega (arith, form (c .before) .least, form (c .before) .most)
 
 add-result : tie.Need-add-result
-add-result c = omega (arith, found c, root-digits-most (form (c .before .before .before)))
+add-result c = omega (arith, found c, root-digits-most (form (c .before .before)))
 
 returns : tie.Need-returns
-returns c = rw (pattern-is (form (c .before .before .before))) (omega (arith, found c, root-digits-most (form (c .before .before .before))))
+returns c = rw (pattern-is (form (c .before .before))) (omega (arith, found c, root-digits-most (form (c .before .before))))
 
 pub pack-spec : {M : Type 1} → statement M
 pack-spec =
@@ -54,10 +51,9 @@ pack-spec =
     (tie.spec
     add-z
     add-m
-    float-from-bits-guess
-    guess-requires
-    pattern-requires
+    float-from-bits-x
     shl-rounded-root
+    reciprocal-requires
     rounded-root-requires
     add-result
     returns)

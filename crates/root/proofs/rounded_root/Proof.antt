@@ -1,129 +1,149 @@
--- `root::rounded_root` meets its contract: no difference that passes its test has wrapped. Assumes nothing.
+-- `root::rounded_root` meets its contract: two digits, and what is left beside them. Assumes nothing.
 use borrow.Author.Needs.{needs}
-use mathlib.Core.Path.{_≡_}
+use mathlib.Core.Path.{_≡_, subst}
 use Prim.Native.Nat.{ℕ, _+_, _-_, _*_, _/_, _%_, _^_, _≤_, _<_}
 use native.Mathlib.Nat.{mul-le-mul}
 use native.Mathlib.Omega.{arith}
-use Rattle.root.specs.laws.Whole.{whole-root, whole-root-most, rounded-is, rest-is}
+use Rattle.root.specs.rules.Whole.{IsWholeRoot, IsDigit}
+use Rattle.root.specs.laws.Whole.{whole-root-least, whole-root-most, first-digit, second-most, first-fits, second-fits, rest-most, rounded-down, rounded-up}
 use Rattle.root.proofs.rounded_root.Statement.{statement}
 use Rattle.root.proofs.rounded_root.Tie as tie
 
-product : (x y : ℕ) → x < 2 ^ 27 → y < 2 ^ 27 → x * y < 2 ^ 54
-product x y h k = omega (arith, mul-le-mul {n₁ = x} {m₁ = y} {n₂ = 2 ^ 27 - 1} {m₂ = 2 ^ 27 - 1} (omega arith) (omega arith))
+-- ---- after the first digit
 
--- on plain numbers: q has 53 digits, the first 27 in a and the others in b
-module _ (q : ℕ) (short : q < 2 ^ 53) where
+module _ (c : tie.After-digit) where
+  abbrev d : ℕ
+  d = c .before .before .args .d
+
   abbrev a : ℕ
-  a = q / 2 ^ 26
+  a = c .digit .result
+
+  abbrev w : ℕ
+  w = d * 2 ^ 4
+
+  whole-exact : (d * 2 ^ 4) % 2 ^ 64 ≡ w
+  whole-exact = omega (arith, c .before .before .pre .1)
+
+  whole : IsWholeRoot w a
+  whole = first-digit (subst (λ (x : ℕ). IsDigit x 0 1 a) whole-exact (c .digit .ensures))
+
+  least : 2 ^ 28 ≤ a
+  least = whole-root-least (2 ^ 28) whole (omega (arith, c .before .before .pre .0))
+
+  most : a < 2 ^ 29
+  most = whole-root-most (2 ^ 29) whole (omega (arith, c .before .before .pre .1))
+
+  left-most : w - a * a ≤ a + a
+  left-most = omega (arith, whole)
+
+  exact : (((d * 2 ^ 4) % 2 ^ 64 - a * a) * 2 ^ 24) % 2 ^ 64 ≡ (w - a * a) * 2 ^ 24
+  exact = omega (arith, whole-exact, left-most, most)
+
+-- ---- after the second
+
+module _ (c : tie.After-digit2) where
+  abbrev one : tie.After-digit
+  one = c .before .before .before
 
   abbrev b : ℕ
-  b = q % 2 ^ 26
+  b = c .digit2 .result
 
-  a-most : a < 2 ^ 27
-  a-most = omega arith
+  second : IsDigit ((w one - a one * a one) * 2 ^ 24) (a one + a one) (2 ^ 24) b
+  second = rw (exact one) at (c .digit2 .ensures)
 
-  b-most : b < 2 ^ 27
-  b-most = omega arith
+  abbrev lo : 2 ^ 52 ≤ d one
+  lo = one .before .before .pre .0
 
-  whole : a * 2 ^ 26 + b ≡ q
-  whole = omega arith
+  abbrev hi : d one < 2 ^ 54
+  hi = one .before .before .pre .1
 
-  left : (d u v rest : ℕ) → (u + a * a) % 2 ^ 64 ≡ d → u < 2 ^ 29
-      → (v + (a * b * 2) % 2 ^ 64) % 2 ^ 64 ≡ (u * 2 ^ 26) % 2 ^ 64 → v < 2 ^ 30
-      → (rest + b * b) % 2 ^ 64 ≡ (v * 2 ^ 26) % 2 ^ 64 → rest ≤ 5 * q
-      → q * q + rest ≡ d * 2 ^ 52
-  left d u v rest first u-most second v-most third rest-most =
-      rw whole at
-      (rest-is d a b u v rest (one d u (a * a) (product a a a-most a-most) u-most first)
-      (two u v (a * b) (product a b a-most b-most) u-most v-most second)
-      (three v rest (b * b) (product b b b-most b-most) v-most rest-most third))
-    where
-      one : (d u w : ℕ) → w < 2 ^ 54 → u < 2 ^ 29 → (u + w) % 2 ^ 64 ≡ d → u + w ≡ d
-      one d u w h k e = omega arith
+  b-most : b ≤ 2 ^ 24
+  b-most = second-most lo hi (whole one) second
 
-      two : (u v w : ℕ) → w < 2 ^ 54 → u < 2 ^ 29 → v < 2 ^ 30 → (v + (w * 2) % 2 ^ 64) % 2 ^ 64 ≡ (u * 2 ^ 26) % 2 ^ 64 → v + 2 * w ≡ u * 2 ^ 26
-      two u v w h k l e = omega arith
+  square-most : b * b ≤ 2 ^ 48
+  square-most = mul-le-mul {n₁ = b} {m₁ = b} {n₂ = 2 ^ 24} {m₂ = 2 ^ 24} b-most b-most
 
-      three : (v rest w : ℕ) → w < 2 ^ 54 → v < 2 ^ 30 → rest ≤ 5 * q → (rest + w) % 2 ^ 64 ≡ (v * 2 ^ 26) % 2 ^ 64 → rest + w ≡ v * 2 ^ 26
-      three v rest w h k l e = omega arith
+  root-exact : (a one * 2 ^ 24) % 2 ^ 64 ≡ a one * 2 ^ 24
+  root-exact = omega (arith, most one)
 
-abbrev guessed : (c : tie.Start) → ℕ
-guessed c = 2 ^ 52 - 1 + c .args .g % 2 ^ 52
+  fits : (a one + a one) * b ≤ (w one - a one * a one) * 2 ^ 24
+  fits = first-fits lo hi (whole one) second
 
-short : (c : tie.Start) → guessed c < 2 ^ 53
-short c = omega arith
+  rest-exact : (((w one - a one * a one) * 2 ^ 24 - (a one + a one) * b) * 2 ^ 24) % 2 ^ 64
+      ≡ ((w one - a one * a one) * 2 ^ 24 - (a one + a one) * b) * 2 ^ 24
+  rest-exact = omega (arith, rest-most lo hi (whole one) second, most one, b-most, square-most)
+
+selected-requires : tie.Need-selected-requires
+selected-requires c κs = search needs
+
+digit-requires : tie.Need-digit-requires
+digit-requires c κs = (omega arith, omega arith, c .selected .ensures, omega arith)
+
+add-twice : tie.Need-add-twice
+add-twice c = omega (arith, most c)
+
+mul-first : tie.Need-mul-first
+mul-first c = omega (arith, whole c)
+
+sub-first : tie.Need-sub-first
+sub-first c = omega (arith, whole-exact c, whole c)
+
+scaled-requires : tie.Need-scaled-requires
+scaled-requires c κs = omega (arith, whole-exact c, left-most c, most c)
+
+selected-requires-2 : tie.Need-selected-requires-2
+selected-requires-2 c κs = search needs
+
+digit-requires-2 : tie.Need-digit-requires-2
+digit-requires-2 c κs =
+    let one = c .before .before in
+    (omega (arith, most one), omega arith, c .selected2 .ensures, omega (arith, exact one, left-most one, least one))
 
 add-q : tie.Need-add-q
-add-q c = search needs
+add-q c = omega (arith, most (one c), b-most c)
 
-mul-wrapping-sub-u64 : tie.Need-mul-wrapping-sub-u64
-mul-wrapping-sub-u64 c =
-    let q = guessed c in
-    omega (arith, product (q / 2 ^ 26) (q / 2 ^ 26) (a-most q (short c)) (a-most q (short c)))
+mul-rest : tie.Need-mul-rest
+mul-rest c = omega (arith, fits c, left-most (one c), most (one c))
 
-wrapping-sub-u64-requires : tie.Need-wrapping-sub-u64-requires
-wrapping-sub-u64-requires c κs = search needs
+sub-rest : tie.Need-sub-rest
+sub-rest c = rw (exact (one c)) (fits c)
 
-mul-wrapping-sub-u64-2 : tie.Need-mul-wrapping-sub-u64-2
-mul-wrapping-sub-u64-2 c =
-    let s = c .before .before in
-    let q = guessed s in
-    omega (arith, product (q / 2 ^ 26) (q % 2 ^ 26) (a-most q (short s)) (b-most q (short s)))
+mul-rest-2 : tie.Need-mul-rest-2
+mul-rest-2 c = omega (arith, square-most c)
 
-wrapping-sub-u64-requires-2 : tie.Need-wrapping-sub-u64-requires-2
-wrapping-sub-u64-requires-2 c κs = search needs
+sub-rest-2 : tie.Need-sub-rest-2
+sub-rest-2 c = rw (exact (one c), rest-exact c) (second-fits (lo c) (hi c) (whole (one c)) (second c))
 
-mul-wrapping-sub-u64-3 : tie.Need-mul-wrapping-sub-u64-3
-mul-wrapping-sub-u64-3 c =
-    let s = c .before .before .before .before in
-    let q = guessed s in
-    omega (arith, product (q % 2 ^ 26) (q % 2 ^ 26) (b-most q (short s)) (b-most q (short s)))
-
-wrapping-sub-u64-requires-3 : tie.Need-wrapping-sub-u64-requires-3
-wrapping-sub-u64-requires-3 c κs = search needs
-
-mul-if3 : tie.Need-mul-if3
-mul-if3 c = search needs
-
-rounded-by-rest-requires : tie.Need-rounded-by-rest-requires
-rounded-by-rest-requires c κs = omega arith
+add-result : tie.Need-add-result
+add-result c = search needs
 
 returns : tie.Need-returns
 returns c =
-    let third = c .before .before in
-    let second = third .before .before in
-    let first = second .before .before in
-    let s = first .before in
-    let is =
-    left (guessed s) (short s) (s .args .d) _ _ _ (first .wrapping-sub-u64 .ensures) (second .before .if1 .taken)
-    (second .wrapping-sub-u642 .ensures) (third .before .if2 .taken) (third .wrapping-sub-u643 .ensures) (c .before .if3 .taken) in
-    rounded-is (s .args .d) (c .rounded-by-rest .result) (s .pre .1) (rw is at (c .rounded-by-rest .ensures .0)) (rw is at (c .rounded-by-rest .ensures .1))
-
-digits-requires : tie.Need-digits-requires
-digits-requires c κs = search needs
-
-add-result : tie.Need-add-result
-add-result c =
-    let d = c .before .before .before .args .d in
-    omega (arith, c .digits .ensures, whole-root-most (2 ^ 54) (whole-root 54 (d * 2 ^ 54) (omega arith)) (omega arith))
+    let e = c .before in
+    rw (root-exact e) (rounded-up (lo e) (hi e) (whole (one e)) (second e) (rw (exact (one e), rest-exact e, root-exact e) at (c .if1 .taken)))
 
 returns-2 : tie.Need-returns-2
-returns-2 c = search needs
+returns-2 c =
+    let e = c .before in
+    rw (root-exact e) (rounded-down (lo e) (hi e) (whole (one e)) (second e) (rw (exact (one e), rest-exact e, root-exact e) at (c .if1 .left)))
 
 pub rounded-root-spec : {M : Type 1} → statement M
 rounded-root-spec =
     tie.close
     (tie.spec
+    selected-requires
+    digit-requires
+    add-twice
+    mul-first
+    sub-first
+    scaled-requires
+    selected-requires-2
+    digit-requires-2
     add-q
-    mul-wrapping-sub-u64
-    wrapping-sub-u64-requires
-    mul-wrapping-sub-u64-2
-    wrapping-sub-u64-requires-2
-    mul-wrapping-sub-u64-3
-    wrapping-sub-u64-requires-3
-    mul-if3
-    rounded-by-rest-requires
-    returns
-    digits-requires
+    mul-rest
+    sub-rest
+    mul-rest-2
+    sub-rest-2
     add-result
+    returns
     returns-2)

@@ -3,6 +3,7 @@
 use mathlib.Core.Path.{refl}
 use mathlib.Core.Bool.{false}
 use std.Logic.{_≢_}
+use native.Mathlib.Omega.{arith}
 use lib.Dec.{ltb→lt, lt→ltb}
 use lib.Ieee.{Float, inf, neg, fits}
 use Rattle.double.specs.rules.Operations.{bits, one, two}
@@ -10,13 +11,14 @@ use Rattle.double.specs.notions.Code.{ofNumber}
 use Rattle.double.specs.notions.Greatest.{greatest}
 use Rattle.double.specs.notions.Stated.{four, minusZero}
 use Rattle.double.specs.laws.Apart.{apart}
-use Rattle.quantity.specs.rules.Answer.{answered, refused}
+use Rattle.double.specs.rules.Pattern.{patternOf}
+use Rattle.quantity.specs.rules.Answer.{answered, refused, with}
 use Rattle.quantity.specs.notions.Code.{ofFloat, ofAnswer}
 use Rattle.quantity.specs.notions.Varies.{Varies}
-use Rattle.root.specs.rules.Whole.{mended}
+use Rattle.root.specs.rules.Whole.{IsDigit}
 use Rattle.root.specs.rules.Root.{rootOf, rootRule}
 use Rattle.root.specs.notions.Computed.{computed}
-use Rattle.root.specs.notions.Wrong.{infinityLetIn, largestRefused, least, leastBelowZeroLetIn, wrongNumber, zeroLosesSign, cutNotRounded, oddTwoLost, subnormalExponent, oneDigitFewer, mendedByTwo, perfectSquareMended, MidpointWrong}
+use Rattle.root.specs.notions.Wrong.{infinityLetIn, largestRefused, least, leastBelowZeroLetIn, wrongNumber, zeroLosesSign, bitsLoseTheSign, cutNotRounded, oddTwoLost, subnormalExponent, oneDigitFewer, RestTooLarge, MidpointWrong}
 
 -- 3.0 and 5.0
 abbrev three : Float
@@ -63,6 +65,11 @@ pub zero-positive-excluded : zeroLosesSign minusZero ≢ answered minusZero
 unfolding computed
 zero-positive-excluded = apart (ofAnswer ofFloat) refl
 
+-- nor can the bits lose it
+pub bits-lose-the-sign-excluded : bitsLoseTheSign minusZero ≢ with patternOf (rootRule minusZero)
+unfolding computed
+bits-lose-the-sign-excluded = apart (ofAnswer ofNumber) refl
+
 -- ---- the pattern of what is above zero
 
 pub cut-not-rounded-excluded : cutNotRounded two ≢ rootRule two
@@ -84,13 +91,12 @@ pub one-digit-fewer-excluded : oneDigitFewer two ≢ rootRule two
 unfolding computed
 one-digit-fewer-excluded = apart (ofAnswer ofFloat) refl
 
-pub mended-by-two-excluded : mendedByTwo five ≢ rootRule five
-unfolding computed
-mended-by-two-excluded = apart (ofAnswer ofFloat) refl
+-- the first digit of the root of 4: 1 would do as 2 does
+pub rest-too-large-taken : RestTooLarge 4 0 1 1
+rest-too-large-taken = record { under = omega arith; over = omega arith }
 
--- the first digits of 1's root: of 64, after 8
-pub perfect-square-mended-excluded : perfectSquareMended 8 0 0 ≢ mended 8 0 0
-perfect-square-mended-excluded = apart ofNumber refl
+pub rest-too-large-excluded : ¬ (IsDigit 4 0 1 1)
+rest-too-large-excluded d = omega (arith, d .over)
 
 -- ---- the nearest double
 

@@ -1,24 +1,25 @@
 -- What is known between the steps of the root.
 use mathlib.Core.Path.{_≡_}
-use mathlib.Core.Bool.{false}
-use Prim.Native.Nat.{ℕ, _+_, _-_, _*_, _^_, _≤_, _<_}
+use mathlib.Core.Bool.{Bool, true, false, cond}
+use Prim.Native.Nat.{ℕ, _+_, _-_, _*_, _/_, _^_, _≤_, _<_}
+use lib.Dec.{ltb}
 use lib.Ieee.{Float, binary64, toBits}
 use Rattle.double.specs.rules.Sign.{bearsMinus}
 use Rattle.double.specs.rules.Count.{IsAboveZero}
+use Rattle.root.specs.rules.Whole.{IsDigit}
 
--- y is not too much for n's root, and p more would be
-pub record Begun (n y p : ℕ) : Type 0 where
-  pub some : 0 < y
-  pub under : y * y ≤ n
-  pub over : n < (y + p) * (y + p)
-  pub wide : p * p ≤ y + y
+-- what a digit t takes, in whole p: a part of one counts whole
+unfoldable pub taken : ℕ → ℕ → ℕ → ℕ
+taken twice p t = twice * t + (t * t + (p - 1)) / p
 
--- what is left is c times 2·y, and m
-pub record Next (n y p c m : ℕ) : Type 0 where
-  pub is : n ≡ y * y + (y + y) * c + m
-  pub rest : m < y + y
-  pub wide : p * p ≤ y + y
-  pub over : n < (y + p) * (y + p)
+-- what a test of t tells: it is the digit, or where it does not take too much, one more does not either
+pub record Tried (left twice p t : ℕ) (r : Bool) : Type 0 where
+  pub yes : r ≡ true → IsDigit left twice p t
+  pub no : r ≡ false → twice * t * p + t * t ≤ left * p → twice * (t + 1) * p + (t + 1) * (t + 1) ≤ left * p
+
+-- how far t is from the digit: what falls when t is mended by one
+abbrev pub away : ℕ → ℕ → ℕ → ℕ → ℕ
+away left twice p t = cond (ltb (left * p) (twice * t * p + t * t)) (2 ^ 30 + t) (2 ^ 30 - t)
 
 pub record Normal (w d e : ℕ) : Type 0 where
   pub is : w ≡ d * 2 ^ 54 * 2 ^ (2 * e)

@@ -1,16 +1,16 @@
 -- Wrong variants of the root.
-use Prim.Native.Nat.{ℕ, _+_, _-_, _*_, _/_, _%_, _^_, _<_}
+use Prim.Native.Nat.{ℕ, _+_, _-_, _*_, _/_, _%_, _^_, _≤_, _<_}
 use mathlib.Core.Bool.{cond}
-use lib.Dec.{leb, ltb}
 use lib.Ieee.{Float, lt, size}
 use Rattle.double.specs.rules.Operations.{bits, zero}
 use Rattle.double.specs.rules.Sign.{isFinite}
 use Rattle.double.specs.notions.Greatest.{greatest}
-use Rattle.quantity.specs.rules.Answer.{Answer, answered, unless}
+use Rattle.double.specs.rules.Pattern.{patternOf}
+use Rattle.quantity.specs.rules.Answer.{Answer, answered, unless, with}
 use Rattle.double.specs.rules.Count.{IsFromZero, count}
 use Rattle.root.specs.rules.Nearest.{twiceRootSquared}
-use Rattle.root.specs.rules.Whole.{wholeRoot, mended}
-use Rattle.root.specs.rules.Root.{rootPattern, rootOf, rootRefusal}
+use Rattle.root.specs.rules.Whole.{wholeRoot}
+use Rattle.root.specs.rules.Root.{rootPattern, rootOf, rootRefusal, rootRule}
 
 -- ---- refusals
 
@@ -41,6 +41,9 @@ wrongNumber = refusing (λ (x : Float). cond (isFinite x) (cond (lt x zero) 1 0)
 abbrev pub zeroLosesSign : Float → Answer Float
 zeroLosesSign x = unless (rootRefusal x) (answered (cond (lt zero x) (rootOf x) zero))
 
+abbrev pub bitsLoseTheSign : Float → Answer ℕ
+bitsLoseTheSign x = with (λ (r : Float). patternOf r % 2 ^ 63) (rootRule x)
+
 -- ---- the pattern of what is above zero
 
 -- with another pattern, by the square of twice the root
@@ -65,29 +68,16 @@ oddTwoLost = packed (λ (w : ℕ). places w * 2 ^ 52 + (wholeRoot 54 (w / 2 ^ (s
 abbrev pub subnormalExponent : Float → Answer Float
 subnormalExponent x = packed (λ (w : ℕ). rootPattern (cond (lt x (bits 0x0010000000000000)) (w / 2) w)) x
 
--- ---- the digits, as code takes them by division: the first 27, and 27 more at once
+-- ---- the digits
 
-abbrev taken : (ℕ → ℕ) → (ℕ → ℕ → ℕ → ℕ) → ℕ → ℕ
-taken first mend n =
-    let d = n / 2 ^ 54 in
-    let q = first d in
-    let left = (d - q * q) * 2 ^ 27 in
-    mend (q * 2 ^ 27) (left / (q + q)) (left % (q + q) * 2 ^ 27)
-
--- one of the first digits is not taken
+-- one of the 54 is not taken
 abbrev pub oneDigitFewer : Float → Answer Float
-oneDigitFewer = counted (taken (λ (d : ℕ). wholeRoot 26 (d / 4)) mended)
+oneDigitFewer = counted (λ (n : ℕ). 2 * wholeRoot 53 (n / 4))
 
--- two less where the quotient is too much
-abbrev pub mendedByTwo : Float → Answer Float
-mendedByTwo =
-    counted
-    (taken (wholeRoot 27)
-    (λ (y quotient rest : ℕ). cond (ltb rest (quotient * quotient)) (y + quotient - 2) (y + quotient)))
-
--- one less where the quotient is not too much
-abbrev pub perfectSquareMended : ℕ → ℕ → ℕ → ℕ
-perfectSquareMended y quotient rest = cond (leb rest (quotient * quotient)) (y + quotient - 1) (y + quotient)
+-- what is left may be one more than twice the root
+pub record RestTooLarge (left twice p t : ℕ) : Type 0 where
+  pub under : twice * t * p + t * t ≤ left * p
+  pub over : left * p ≤ twice * (t + 1) * p + (t + 1) * (t + 1)
 
 -- ---- the nearest double
 

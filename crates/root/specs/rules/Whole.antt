@@ -1,7 +1,7 @@
 -- The whole part of a whole number's square root.
 use mathlib.Core.Bool.{cond}
 use Prim.Native.Nat.{ℕ, zero, suc, _+_, _-_, _*_, _/_, _≤_, _<_}
-use lib.Dec.{leb, ltb}
+use lib.Dec.{leb}
 
 pub record IsWholeRoot (n s : ℕ) : Type 0 where
   pub under : s * s ≤ n
@@ -16,6 +16,8 @@ unfoldable pub wholeRoot : ℕ → ℕ → ℕ
 wholeRoot zero n = 0
 wholeRoot (suc k) n = longer n (wholeRoot k (n / 4))
 
--- several digits at once, as code takes them: a quotient that follows y, or one less where its square is too much for the rest
-abbrev pub mended : ℕ → ℕ → ℕ → ℕ
-mended y quotient rest = cond (ltb rest (quotient * quotient)) (y + quotient - 1) (y + quotient)
+-- A digit t of many bits, as code takes it: a root y so far becomes y·p + t, where twice is 2·y and left·p what y leaves.
+-- t takes twice·t·p + t² of that, and one more would take too much.
+pub record IsDigit (left twice p t : ℕ) : Type 0 where
+  pub under : twice * t * p + t * t ≤ left * p
+  pub over : left * p < twice * (t + 1) * p + (t + 1) * (t + 1)

@@ -1,9 +1,9 @@
--- `root::guess` is safe: no pattern that it makes is a NaN's. Assumes nothing.
+-- `root::reciprocal` is safe: no pattern that it makes is a NaN's. Assumes nothing.
 use borrow.Author.Needs.{needs}
 use native.Mathlib.Omega.{arith}
 use Rattle.double.specs.laws.Patterns.{pattern-no-nan}
-use Rattle.root.proofs.guess.Statement.{statement}
-use Rattle.root.proofs.guess.Tie as tie
+use Rattle.root.proofs.reciprocal.Statement.{statement}
+use Rattle.root.proofs.reciprocal.Tie as tie
 
 sub-y0 : tie.Need-sub-y0
 sub-y0 c = search needs
@@ -14,5 +14,5 @@ float-from-bits-y0 c = pattern-no-nan _ (omega arith)
 returns : tie.Need-returns
 returns c = search needs
 
-pub guess-spec : {M : Type 1} → statement M
-guess-spec = tie.close (tie.spec sub-y0 float-from-bits-y0 returns)
+pub reciprocal-spec : {M : Type 1} → statement M
+reciprocal-spec = tie.close (tie.spec sub-y0 float-from-bits-y0 returns)
