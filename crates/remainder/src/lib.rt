@@ -62,8 +62,13 @@ fn remainder_pattern(b: u64, c: u64) -> u64
     requires { ⌜ (b < 2047 * 2 ^ 52) × (0 < c) × (c ≤ b) ⌝ }
     ensures { λ r. ⌜ (r < 2047 * 2 ^ 52) × (count (bits r) ≡ count (bits b) % count (bits c)) ⌝ }
 {
-    let up = places(c);
-    packed(rest_of(digits(b), places(b) - up, digits(c)), up)
+    if c < 0x10_0000_0000_0000 {
+        let up = places(c);
+        return packed(rest_of(digits(b), places(b) - up, digits(c)), up);
+    }
+    let m = 0x10_0000_0000_0000 + b % 0x10_0000_0000_0000;
+    let n = 0x10_0000_0000_0000 + c % 0x10_0000_0000_0000;
+    packed(rest_of(m, (b >> 52) - (c >> 52), n), (c >> 52) - 1)
 }
 
 // The remainder of x by y, with x's sign; a NaN where x is infinite, y is zero or either is a NaN. What is smaller than y is its own.
