@@ -3,6 +3,7 @@ pub mod Constants
 pub mod Known
 pub mod InRange
 pub mod Star
+pub mod ReadBack
 pub mod Batch
 pub mod Kept
 pub mod Wrong

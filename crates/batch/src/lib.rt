@@ -1,4 +1,5 @@
-// The batch (section 7): every star's status and two angles into memory that the caller lends, and the tally of the statuses.
+// The batch (section 7): every star's status and two angles into memory that the caller lends, and the tally of the statuses. An
+// angle is lent as its bits: what a call leaves alone it leaves bit for bit, a NaN's too.
 // Rules: specs/rules, in reading order in specs/rules.antt.
 ghost use Prim.Native.Nat.{_<_};
 ghost use mathlib.Core.Path.{_≡_};
@@ -7,10 +8,11 @@ ghost use lib.Dec.{eqb};
 ghost use lib.IntN.{pos};
 ghost use lib.ListN.{length};
 ghost use Rattle.double.specs.rules.Operations.{zero};
-ghost use Rattle.quantity.specs.rules.Answer.{answered, pair, unless, firstPlace, secondPlace};
+ghost use Rattle.double.specs.rules.Pattern.{patternOf};
+ghost use Rattle.quantity.specs.rules.Answer.{answered, pair, unless};
 ghost use Rattle.list.specs.rules.Record.{inRange};
 ghost use Rattle.list.specs.rules.Stars.{mostStars};
-ghost use Rattle.batch.specs.rules.Star.{degreesOf, ascOf, decOf, reduceStar};
+ghost use Rattle.batch.specs.rules.Star.{degreesOf, ascOf, decOf, reduceTwo};
 ghost use Rattle.batch.specs.rules.Batch.{batchRefusal};
 ghost use Rattle.batch.specs.rules.Batch.{Batch as Batch·Batch};
 ghost use Rattle.batch.specs.notions.Kept.{Kept};
@@ -69,7 +71,7 @@ fn ranged(star: Star, no: u8) -> u8
 // Two stars' places under a night, side by side. Refusals of each: 9 for a record out of range; then 14, 7 and 4, since the angles of
 // one in range are near enough.
 fn reduce_two(first: Star, second: Star, night: Night) -> Places
-    ensures { λ r. ⌜ (firstPlace r ≡ reduceStar first night) × (secondPlace r ≡ reduceStar second night) ⌝ }
+    ensures { λ r. ⌜ r ≡ reduceTwo first second night ⌝ }
 {
     let p = chain::reduced_two(
         asc_of(first),
@@ -114,18 +116,18 @@ fn batch_refusal(bytes: &[u8], day1: f64, day2: f64, status: usize, asc: usize, 
     0
 }
 
-// What is stored of an angle: 0.0 where its place is refused.
-fn kept(no: u8, x: f64) -> f64
-    ensures { λ r. ⌜ r ≡ cond (eqb no 0) x zero ⌝ }
+// What is stored of an angle, its bits: those of 0.0 where its place is refused.
+fn kept(no: u8, x: f64) -> u64
+    ensures { λ r. ⌜ r ≡ cond (eqb no 0) (patternOf x) (patternOf zero) ⌝ }
 {
-    if no == 0 { x } else { 0.0 }
+    if no == 0 { double::pattern(x) } else { 0 }
 }
 
 // One star's status and angles at its place in what is lent, and the tally raised by the status.
 fn keep(
     status: &mut [u8],
-    asc: &mut [f64],
-    dec: &mut [f64],
+    asc: &mut [u64],
+    dec: &mut [u64],
     i: usize,
     no: u8,
     a: f64,
@@ -145,16 +147,17 @@ fn keep(
     raised.tally
 }
 
-// Every star of the list from the first day to the second, two at a time, the last of an odd count beside itself: its status, 0 or its refusal, and its two angles, 0.0 and 0.0 where
-// it is refused. Places past the stars stay. Refusals of the call, which changes nothing lent: 1; 2; then 8.
+// Every star of the list from the first day to the second, two at a time, the last of an odd count beside itself: its status, 0 or
+// its refusal, and the bits of its two angles, 0.0 and 0.0 where it is refused. Places past the stars stay. Refusals of the call, which
+// changes nothing lent: 1; 2; then 8.
 pub fn batch(
     edition: Edition,
     bytes: &[u8],
     day1: f64,
     day2: f64,
     status: &mut [u8],
-    asc: &mut [f64],
-    dec: &mut [f64],
+    asc: &mut [u64],
+    dec: &mut [u64],
 ) -> Batched
     ensures { λ r. ⌜ Batch·Batch edition (now (bytes .entry)) day1 day2 (now (status .entry)) (now (asc .entry)) (now (dec .entry)) r (now (status .exit)) (now (asc .exit)) (now (dec .exit)) ⌝ }
 {

@@ -12,7 +12,7 @@ use quantity::Rad;
 
 // Seconds of arc to degrees. Refusals: 1.
 #[no_mangle]
-pub extern "C" fn brundelak_deg_frm_dms(seconds: f64, out: &mut f64) -> u8
+pub extern "C" fn brundelak_deg_frm_dms(seconds: f64, out: &mut u64) -> u8
     ensures { λ n. ⌜ Told (numberOfDegrees (degFrmDmsRule seconds)) n (now (out .entry)) (now (out .exit)) ⌝ }
 {
     give_degrees(helpers::angle::deg_frm_dms(seconds), out)
@@ -20,7 +20,7 @@ pub extern "C" fn brundelak_deg_frm_dms(seconds: f64, out: &mut f64) -> u8
 
 // Seconds of time to degrees. Refusals: 1.
 #[no_mangle]
-pub extern "C" fn brundelak_deg_frm_hms(seconds: f64, out: &mut f64) -> u8
+pub extern "C" fn brundelak_deg_frm_hms(seconds: f64, out: &mut u64) -> u8
     ensures { λ n. ⌜ Told (numberOfDegrees (degFrmHmsRule seconds)) n (now (out .entry)) (now (out .exit)) ⌝ }
 {
     give_degrees(helpers::angle::deg_frm_hms(seconds), out)
@@ -28,7 +28,7 @@ pub extern "C" fn brundelak_deg_frm_hms(seconds: f64, out: &mut f64) -> u8
 
 // Degrees to radians. Refusals: 1.
 #[no_mangle]
-pub extern "C" fn brundelak_to_radians(x: f64, out: &mut f64) -> u8
+pub extern "C" fn brundelak_to_radians(x: f64, out: &mut u64) -> u8
     ensures { λ n. ⌜ Told (numberOfRadians (toRadiansRule (record { 0 = x }))) n (now (out .entry)) (now (out .exit)) ⌝ }
 {
     give_radians(helpers::angle::to_radians(Deg(x)), out)
@@ -36,7 +36,7 @@ pub extern "C" fn brundelak_to_radians(x: f64, out: &mut f64) -> u8
 
 // Degrees folded into one turn. Refusals: 1.
 #[no_mangle]
-pub extern "C" fn brundelak_limit_to_360(x: f64, out: &mut f64) -> u8
+pub extern "C" fn brundelak_limit_to_360(x: f64, out: &mut u64) -> u8
     ensures { λ n. ⌜ Told (numberOfDegrees (limitTo360Rule (record { 0 = x }))) n (now (out .entry)) (now (out .exit)) ⌝ }
 {
     give_degrees(helpers::angle::limit_to_360(Deg(x)), out)
@@ -44,7 +44,7 @@ pub extern "C" fn brundelak_limit_to_360(x: f64, out: &mut f64) -> u8
 
 // Radians folded into one turn. Refusals: 1.
 #[no_mangle]
-pub extern "C" fn brundelak_limit_to_two_pi(x: f64, out: &mut f64) -> u8
+pub extern "C" fn brundelak_limit_to_two_pi(x: f64, out: &mut u64) -> u8
     ensures { λ n. ⌜ Told (numberOfRadians (limitToTwoPIRule (record { 0 = x }))) n (now (out .entry)) (now (out .exit)) ⌝ }
 {
     give_radians(helpers::angle::limit_to_two_PI(Rad(x)), out)
@@ -52,7 +52,7 @@ pub extern "C" fn brundelak_limit_to_two_pi(x: f64, out: &mut f64) -> u8
 
 // Centuries from 2451545.0 to a day. Refusals: 1; 2.
 #[no_mangle]
-pub extern "C" fn brundelak_julian_cent(day: f64, out: &mut f64) -> u8
+pub extern "C" fn brundelak_julian_cent(day: f64, out: &mut u64) -> u8
     ensures { λ n. ⌜ Told (julianCentRule day) n (now (out .entry)) (now (out .exit)) ⌝ }
 {
     give(helpers::time::julian_cent(day), out)
@@ -63,8 +63,8 @@ pub extern "C" fn brundelak_julian_cent(day: f64, out: &mut f64) -> u8
 pub extern "C" fn brundelak_rho_sin_cos_phi(
     lat: f64,
     height: f64,
-    rho_sin: &mut f64,
-    rho_cos: &mut f64,
+    rho_sin: &mut u64,
+    rho_cos: &mut u64,
 ) -> u8
     ensures { λ n. ⌜ ToldTwo (rhoSinCosPhiRule (record { 0 = lat }) height) n (now («rho_sin» .entry)) (now («rho_cos» .entry)) (now («rho_sin» .exit)) (now («rho_cos» .exit)) ⌝ }
 {

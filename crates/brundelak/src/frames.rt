@@ -16,7 +16,7 @@ pub extern "C" fn brundelak_hr_angl_frm_observer_long(
     green_sidreal: f64,
     observer_long: f64,
     asc: f64,
-    out: &mut f64,
+    out: &mut u64,
 ) -> u8
     ensures { λ n. ⌜ Told (numberOfRadians (hrAnglFrmObserverLongRule (record { 0 = «green_sidreal» }) (record { 0 = «observer_long» }) (record { 0 = asc }))) n (now (out .entry)) (now (out .exit)) ⌝ }
 {
@@ -28,7 +28,7 @@ pub extern "C" fn brundelak_hr_angl_frm_observer_long(
 
 // The hour angle from the local sidereal time. Refusals: 1; 3.
 #[no_mangle]
-pub extern "C" fn brundelak_hr_angl_frm_loc_sidr(local_sidreal: f64, asc: f64, out: &mut f64) -> u8
+pub extern "C" fn brundelak_hr_angl_frm_loc_sidr(local_sidreal: f64, asc: f64, out: &mut u64) -> u8
     ensures { λ n. ⌜ Told (numberOfRadians (hrAnglFrmLocSidrRule (record { 0 = «local_sidreal» }) (record { 0 = asc }))) n (now (out .entry)) (now (out .exit)) ⌝ }
 {
     give_radians(
@@ -43,8 +43,8 @@ pub extern "C" fn brundelak_ecl_frm_eq(
     asc: f64,
     dec: f64,
     oblq_eclip: f64,
-    long: &mut f64,
-    lat: &mut f64,
+    long: &mut u64,
+    lat: &mut u64,
 ) -> u8
     ensures { λ n. ⌜ ToldTwo (numbersOfEcliptic (eclFrmEqRule (record { 0 = asc }) (record { 0 = dec }) (record { 0 = «oblq_eclip» }))) n (now (long .entry)) (now (lat .entry)) (now (long .exit)) (now (lat .exit)) ⌝ }
 {
@@ -61,7 +61,7 @@ pub extern "C" fn brundelak_asc_frm_ecl(
     ecl_long: f64,
     ecl_lat: f64,
     oblq_eclip: f64,
-    out: &mut f64,
+    out: &mut u64,
 ) -> u8
     ensures { λ n. ⌜ Told (numberOfRadians (ascFrmEclRule (record { 0 = «ecl_long» }) (record { 0 = «ecl_lat» }) (record { 0 = «oblq_eclip» }))) n (now (out .entry)) (now (out .exit)) ⌝ }
 {
@@ -77,7 +77,7 @@ pub extern "C" fn brundelak_dec_frm_ecl(
     ecl_long: f64,
     ecl_lat: f64,
     oblq_eclip: f64,
-    out: &mut f64,
+    out: &mut u64,
 ) -> u8
     ensures { λ n. ⌜ Told (numberOfRadians (decFrmEclRule (record { 0 = «ecl_long» }) (record { 0 = «ecl_lat» }) (record { 0 = «oblq_eclip» }))) n (now (out .entry)) (now (out .exit)) ⌝ }
 {
@@ -93,7 +93,7 @@ pub extern "C" fn brundelak_az_frm_eq(
     hour_angle: f64,
     dec: f64,
     observer_lat: f64,
-    out: &mut f64,
+    out: &mut u64,
 ) -> u8
     ensures { λ n. ⌜ Told (numberOfRadians (azFrmEqRule (record { 0 = «hour_angle» }) (record { 0 = dec }) (record { 0 = «observer_lat» }))) n (now (out .entry)) (now (out .exit)) ⌝ }
 {
@@ -109,7 +109,7 @@ pub extern "C" fn brundelak_alt_frm_eq(
     hour_angle: f64,
     dec: f64,
     observer_lat: f64,
-    out: &mut f64,
+    out: &mut u64,
 ) -> u8
     ensures { λ n. ⌜ Told (numberOfRadians (altFrmEqRule (record { 0 = «hour_angle» }) (record { 0 = dec }) (record { 0 = «observer_lat» }))) n (now (out .entry)) (now (out .exit)) ⌝ }
 {
@@ -125,7 +125,7 @@ pub extern "C" fn brundelak_hr_angl_frm_hz(
     az: f64,
     alt: f64,
     observer_lat: f64,
-    out: &mut f64,
+    out: &mut u64,
 ) -> u8
     ensures { λ n. ⌜ Told (numberOfRadians (hrAnglFrmHzRule (record { 0 = az }) (record { 0 = alt }) (record { 0 = «observer_lat» }))) n (now (out .entry)) (now (out .exit)) ⌝ }
 {
@@ -137,7 +137,7 @@ pub extern "C" fn brundelak_hr_angl_frm_hz(
 
 // The declination from horizontal coordinates. Refusals: 1; 3; 7.
 #[no_mangle]
-pub extern "C" fn brundelak_dec_frm_hz(az: f64, alt: f64, observer_lat: f64, out: &mut f64) -> u8
+pub extern "C" fn brundelak_dec_frm_hz(az: f64, alt: f64, observer_lat: f64, out: &mut u64) -> u8
     ensures { λ n. ⌜ Told (numberOfRadians (decFrmHzRule Crate (record { 0 = az }) (record { 0 = alt }) (record { 0 = «observer_lat» }))) n (now (out .entry)) (now (out .exit)) ⌝ }
 {
     give_radians(
@@ -148,7 +148,7 @@ pub extern "C" fn brundelak_dec_frm_hz(az: f64, alt: f64, observer_lat: f64, out
 
 // The galactic longitude. Refusals: 1; 3; 4; 14.
 #[no_mangle]
-pub extern "C" fn brundelak_gal_long_frm_eq(asc: f64, dec: f64, out: &mut f64) -> u8
+pub extern "C" fn brundelak_gal_long_frm_eq(asc: f64, dec: f64, out: &mut u64) -> u8
     ensures { λ n. ⌜ Told (numberOfRadians (galLongFrmEqRule (record { 0 = asc }) (record { 0 = dec }))) n (now (out .entry)) (now (out .exit)) ⌝ }
 {
     give_radians(coords_gal::gal_long_frm_eq(Rad(asc), Rad(dec)), out)
@@ -156,7 +156,7 @@ pub extern "C" fn brundelak_gal_long_frm_eq(asc: f64, dec: f64, out: &mut f64) -
 
 // The galactic latitude. Refusals: 1; 3; 7.
 #[no_mangle]
-pub extern "C" fn brundelak_gal_lat_frm_eq(asc: f64, dec: f64, out: &mut f64) -> u8
+pub extern "C" fn brundelak_gal_lat_frm_eq(asc: f64, dec: f64, out: &mut u64) -> u8
     ensures { λ n. ⌜ Told (numberOfRadians (galLatFrmEqRule (record { 0 = asc }) (record { 0 = dec }))) n (now (out .entry)) (now (out .exit)) ⌝ }
 {
     give_radians(coords_gal::gal_lat_frm_eq(Rad(asc), Rad(dec)), out)
@@ -164,7 +164,7 @@ pub extern "C" fn brundelak_gal_lat_frm_eq(asc: f64, dec: f64, out: &mut f64) ->
 
 // The right ascension from galactic coordinates. Refusals: 1; 3; 4; 14.
 #[no_mangle]
-pub extern "C" fn brundelak_asc_frm_gal(gal_long: f64, gal_lat: f64, out: &mut f64) -> u8
+pub extern "C" fn brundelak_asc_frm_gal(gal_long: f64, gal_lat: f64, out: &mut u64) -> u8
     ensures { λ n. ⌜ Told (numberOfRadians (ascFrmGalRule (record { 0 = «gal_long» }) (record { 0 = «gal_lat» }))) n (now (out .entry)) (now (out .exit)) ⌝ }
 {
     give_radians(coords_gal::asc_frm_gal(Rad(gal_long), Rad(gal_lat)), out)

@@ -5,12 +5,13 @@ ghost use Rattle.elementary_arc.specs.rules.Arctangent.{arctangentRule};
 ghost use Rattle.elementary_arc.specs.rules.Arcsine.{arcsineRule};
 ghost use Rattle.root.specs.rules.Root.{rootRule};
 use brundelak_handed::give;
+use brundelak_handed::give_bits;
 use brundelak_handed::give_radians;
 use quantity::Rad;
 
 // The sine of an angle. Refusals: 1; 3 past 400000.0.
 #[no_mangle]
-pub extern "C" fn brundelak_sine(x: f64, out: &mut f64) -> u8
+pub extern "C" fn brundelak_sine(x: f64, out: &mut u64) -> u8
     ensures { λ n. ⌜ Told (sineRule (record { 0 = x })) n (now (out .entry)) (now (out .exit)) ⌝ }
 {
     give(elementary::sine(Rad(x)), out)
@@ -18,7 +19,7 @@ pub extern "C" fn brundelak_sine(x: f64, out: &mut f64) -> u8
 
 // The cosine of an angle. Refusals: 1; 3 past 400000.0.
 #[no_mangle]
-pub extern "C" fn brundelak_cosine(x: f64, out: &mut f64) -> u8
+pub extern "C" fn brundelak_cosine(x: f64, out: &mut u64) -> u8
     ensures { λ n. ⌜ Told (cosineRule (record { 0 = x })) n (now (out .entry)) (now (out .exit)) ⌝ }
 {
     give(elementary::cosine(Rad(x)), out)
@@ -26,7 +27,7 @@ pub extern "C" fn brundelak_cosine(x: f64, out: &mut f64) -> u8
 
 // The tangent of an angle. Refusals: 1; 3 past 400000.0; 4 past 1.57.
 #[no_mangle]
-pub extern "C" fn brundelak_tangent(x: f64, out: &mut f64) -> u8
+pub extern "C" fn brundelak_tangent(x: f64, out: &mut u64) -> u8
     ensures { λ n. ⌜ Told (tangentRule (record { 0 = x })) n (now (out .entry)) (now (out .exit)) ⌝ }
 {
     give(elementary::tangent(Rad(x)), out)
@@ -34,7 +35,7 @@ pub extern "C" fn brundelak_tangent(x: f64, out: &mut f64) -> u8
 
 // The arctangent of (y, x). Refusals: 1; 14 where both are zero.
 #[no_mangle]
-pub extern "C" fn brundelak_arctangent(y: f64, x: f64, out: &mut f64) -> u8
+pub extern "C" fn brundelak_arctangent(y: f64, x: f64, out: &mut u64) -> u8
     ensures { λ n. ⌜ Told (numberOfRadians (arctangentRule y x)) n (now (out .entry)) (now (out .exit)) ⌝ }
 {
     give_radians(elementary_arc::arctangent(y, x), out)
@@ -42,7 +43,7 @@ pub extern "C" fn brundelak_arctangent(y: f64, x: f64, out: &mut f64) -> u8
 
 // The arcsine of a number. Refusals: 1; 7 past 1.
 #[no_mangle]
-pub extern "C" fn brundelak_arcsine(s: f64, out: &mut f64) -> u8
+pub extern "C" fn brundelak_arcsine(s: f64, out: &mut u64) -> u8
     ensures { λ n. ⌜ Told (numberOfRadians (arcsineRule s)) n (now (out .entry)) (now (out .exit)) ⌝ }
 {
     give_radians(elementary_arc::arcsine(s), out)
@@ -50,8 +51,8 @@ pub extern "C" fn brundelak_arcsine(s: f64, out: &mut f64) -> u8
 
 // The square root of a number. Refusals: 1; 5 below zero.
 #[no_mangle]
-pub extern "C" fn brundelak_root(x: f64, out: &mut f64) -> u8
+pub extern "C" fn brundelak_root(x: f64, out: &mut u64) -> u8
     ensures { λ n. ⌜ Told (rootRule x) n (now (out .entry)) (now (out .exit)) ⌝ }
 {
-    give(root::square_root(x), out)
+    give_bits(root::square_root_bits(x), out)
 }

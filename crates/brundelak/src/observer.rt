@@ -16,7 +16,7 @@ use quantity::Rad;
 
 // Equatorial horizontal parallax at a distance. Refusals: 1; 5.
 #[no_mangle]
-pub extern "C" fn brundelak_eq_hz_parallax(dist: f64, out: &mut f64) -> u8
+pub extern "C" fn brundelak_eq_hz_parallax(dist: f64, out: &mut u64) -> u8
     ensures { λ n. ⌜ Told (numberOfRadians (eqHzParallaxRule dist)) n (now (out .entry)) (now (out .exit)) ⌝ }
 {
     give_radians(parallax::eq_hz_parallax(dist), out)
@@ -32,8 +32,8 @@ pub extern "C" fn brundelak_topocent_eq_coords(
     lat: f64,
     height: f64,
     sidereal: f64,
-    topocent_asc: &mut f64,
-    topocent_dec: &mut f64,
+    topocent_asc: &mut u64,
+    topocent_dec: &mut u64,
 ) -> u8
     ensures { λ n. ⌜ ToldTwo (numbersOfPoint (topocentEqCoordsRule (record { asc = asc; dec = dec }) (record { 0 = parallax }) (record { long = long; lat = lat }) height (record { 0 = sidereal }))) n (now («topocent_asc» .entry)) (now («topocent_dec» .entry)) (now («topocent_asc» .exit)) (now («topocent_dec» .exit)) ⌝ }
 {
@@ -65,9 +65,9 @@ pub extern "C" fn brundelak_topopcent_ecl_coords(
     sidereal: f64,
     oblq: f64,
     semidiameter: f64,
-    topocent_long: &mut f64,
-    topocent_lat: &mut f64,
-    topocent_semidiameter: &mut f64,
+    topocent_long: &mut u64,
+    topocent_lat: &mut u64,
+    topocent_semidiameter: &mut u64,
 ) -> u8
     ensures { λ n. ⌜ ToldThree (topopcentEclCoordsRule Crate (record { long = «ecl_long»; lat = «ecl_lat» }) (record { 0 = parallax }) (record { long = long; lat = lat }) height (record { 0 = sidereal }) (record { 0 = oblq }) (record { 0 = semidiameter })) n (now («topocent_long» .entry)) (now («topocent_lat» .entry)) (now («topocent_semidiameter» .entry)) (now («topocent_long» .exit)) (now («topocent_lat» .exit)) (now («topocent_semidiameter» .exit)) ⌝ }
 {
@@ -103,9 +103,9 @@ pub extern "C" fn brundelak_rise_culm_set(
     long: f64,
     lat: f64,
     alt: f64,
-    rise: &mut f64,
-    culmination: &mut f64,
-    set: &mut f64,
+    rise: &mut u64,
+    culmination: &mut u64,
+    set: &mut u64,
 ) -> u8
     ensures { λ n. ⌜ ToldThree (riseCulmSetRule (record { asc = asc; dec = dec }) (record { 0 = sidereal }) (record { long = long; lat = lat }) (record { 0 = alt })) n (now (rise .entry)) (now (culmination .entry)) (now (set .entry)) (now (rise .exit)) (now (culmination .exit)) (now (set .exit)) ⌝ }
 {

@@ -20,7 +20,7 @@ pub extern "C" fn brundelak_dec_frm_hz_published(
     az: f64,
     alt: f64,
     observer_lat: f64,
-    out: &mut f64,
+    out: &mut u64,
 ) -> u8
     ensures { λ n. ⌜ Told (numberOfRadians (decFrmHzRule Published (record { 0 = az }) (record { 0 = alt }) (record { 0 = «observer_lat» }))) n (now (out .entry)) (now (out .exit)) ⌝ }
 {
@@ -37,8 +37,8 @@ pub extern "C" fn brundelak_precess_eq_coords_published(
     old_dec: f64,
     day1: f64,
     day2: f64,
-    asc: &mut f64,
-    dec: &mut f64,
+    asc: &mut u64,
+    dec: &mut u64,
 ) -> u8
     ensures { λ n. ⌜ ToldTwo (precessEqCoordsRule Published (record { 0 = «old_asc» }) (record { 0 = «old_dec» }) day1 day2) n (now (asc .entry)) (now (dec .entry)) (now (asc .exit)) (now (dec .exit)) ⌝ }
 {
@@ -56,8 +56,8 @@ pub extern "C" fn brundelak_precess_eq_coords_fk5_published(
     old_dec: f64,
     day1: f64,
     day2: f64,
-    asc: &mut f64,
-    dec: &mut f64,
+    asc: &mut u64,
+    dec: &mut u64,
 ) -> u8
     ensures { λ n. ⌜ ToldTwo (precessEqCoordsFK5Rule Published (record { 0 = «old_asc» }) (record { 0 = «old_dec» }) day1 day2) n (now (asc .entry)) (now (dec .entry)) (now (asc .exit)) (now (dec .exit)) ⌝ }
 {
@@ -80,9 +80,9 @@ pub extern "C" fn brundelak_topopcent_ecl_coords_published(
     sidereal: f64,
     oblq: f64,
     semidiameter: f64,
-    topocent_long: &mut f64,
-    topocent_lat: &mut f64,
-    topocent_semidiameter: &mut f64,
+    topocent_long: &mut u64,
+    topocent_lat: &mut u64,
+    topocent_semidiameter: &mut u64,
 ) -> u8
     ensures { λ n. ⌜ ToldThree (topopcentEclCoordsRule Published (record { long = «ecl_long»; lat = «ecl_lat» }) (record { 0 = parallax }) (record { long = long; lat = lat }) height (record { 0 = sidereal }) (record { 0 = oblq }) (record { 0 = semidiameter })) n (now («topocent_long» .entry)) (now («topocent_lat» .entry)) (now («topocent_semidiameter» .entry)) (now («topocent_long» .exit)) (now («topocent_lat» .exit)) (now («topocent_semidiameter» .exit)) ⌝ }
 {
@@ -116,8 +116,8 @@ pub extern "C" fn brundelak_chain_published(
     old_dec: f64,
     day1: f64,
     day2: f64,
-    asc: &mut f64,
-    dec: &mut f64,
+    asc: &mut u64,
+    dec: &mut u64,
 ) -> u8
     ensures { λ n. ⌜ ToldTwo (chainRule Published (record { 0 = «old_asc» }) (record { 0 = «old_dec» }) day1 day2) n (now (asc .entry)) (now (dec .entry)) (now (asc .exit)) (now (dec .exit)) ⌝ }
 {

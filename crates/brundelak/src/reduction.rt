@@ -24,8 +24,8 @@ pub extern "C" fn brundelak_annual_precess(
     asc: f64,
     dec: f64,
     day: f64,
-    precess_in_asc: &mut f64,
-    precess_in_dec: &mut f64,
+    precess_in_asc: &mut u64,
+    precess_in_dec: &mut u64,
 ) -> u8
     ensures { λ n. ⌜ ToldTwo (annualPrecessRule (record { 0 = asc }) (record { 0 = dec }) day) n (now («precess_in_asc» .entry)) (now («precess_in_dec» .entry)) (now («precess_in_asc» .exit)) (now («precess_in_dec» .exit)) ⌝ }
 {
@@ -43,8 +43,8 @@ pub extern "C" fn brundelak_precess_eq_coords(
     old_dec: f64,
     day1: f64,
     day2: f64,
-    asc: &mut f64,
-    dec: &mut f64,
+    asc: &mut u64,
+    dec: &mut u64,
 ) -> u8
     ensures { λ n. ⌜ ToldTwo (precessEqCoordsRule Crate (record { 0 = «old_asc» }) (record { 0 = «old_dec» }) day1 day2) n (now (asc .entry)) (now (dec .entry)) (now (asc .exit)) (now (dec .exit)) ⌝ }
 {
@@ -62,8 +62,8 @@ pub extern "C" fn brundelak_precess_eq_coords_fk5(
     old_dec: f64,
     day1: f64,
     day2: f64,
-    asc: &mut f64,
-    dec: &mut f64,
+    asc: &mut u64,
+    dec: &mut u64,
 ) -> u8
     ensures { λ n. ⌜ ToldTwo (precessEqCoordsFK5Rule Crate (record { 0 = «old_asc» }) (record { 0 = «old_dec» }) day1 day2) n (now (asc .entry)) (now (dec .entry)) (now (asc .exit)) (now (dec .exit)) ⌝ }
 {
@@ -81,8 +81,8 @@ pub extern "C" fn brundelak_precess_ecl_coords(
     old_lat: f64,
     day1: f64,
     day2: f64,
-    ecl_long: &mut f64,
-    ecl_lat: &mut f64,
+    ecl_long: &mut u64,
+    ecl_lat: &mut u64,
 ) -> u8
     ensures { λ n. ⌜ ToldTwo (precessEclCoordsRule (record { 0 = «old_long» }) (record { 0 = «old_lat» }) day1 day2) n (now («ecl_long» .entry)) (now («ecl_lat» .entry)) (now («ecl_long» .exit)) (now («ecl_lat» .exit)) ⌝ }
 {
@@ -101,9 +101,9 @@ pub extern "C" fn brundelak_precess_orb_elements(
     old_long_ascend_node: f64,
     day1: f64,
     day2: f64,
-    inc: &mut f64,
-    arg_perih: &mut f64,
-    long_ascend_node: &mut f64,
+    inc: &mut u64,
+    arg_perih: &mut u64,
+    long_ascend_node: &mut u64,
 ) -> u8
     ensures { λ n. ⌜ ToldThree (precessOrbElementsRule (record { 0 = «old_inc» }) (record { 0 = «old_arg_perih» }) (record { 0 = «old_long_ascend_node» }) day1 day2) n (now (inc .entry)) (now («arg_perih» .entry)) (now («long_ascend_node» .entry)) (now (inc .exit)) (now («arg_perih» .exit)) (now («long_ascend_node» .exit)) ⌝ }
 {
@@ -123,7 +123,7 @@ pub extern "C" fn brundelak_precess_orb_elements(
 
 // Nutation in longitude and obliquity. Refusals: 1; 2.
 #[no_mangle]
-pub extern "C" fn brundelak_nutation(day: f64, nut_in_long: &mut f64, nut_in_oblq: &mut f64) -> u8
+pub extern "C" fn brundelak_nutation(day: f64, nut_in_long: &mut u64, nut_in_oblq: &mut u64) -> u8
     ensures { λ n. ⌜ ToldTwo (nutationRule day) n (now («nut_in_long» .entry)) (now («nut_in_oblq» .entry)) (now («nut_in_long» .exit)) (now («nut_in_oblq» .exit)) ⌝ }
 {
     give_two(nutation::nutation(day), nut_in_long, nut_in_oblq)
@@ -137,8 +137,8 @@ pub extern "C" fn brundelak_nutation_in_eq_coords(
     nut_in_long: f64,
     nut_in_oblq: f64,
     tru_oblq: f64,
-    nut_in_asc: &mut f64,
-    nut_in_dec: &mut f64,
+    nut_in_asc: &mut u64,
+    nut_in_dec: &mut u64,
 ) -> u8
     ensures { λ n. ⌜ ToldTwo (nutationInEqCoordsRule (record { asc = asc; dec = dec }) (record { 0 = «nut_in_long» }) (record { 0 = «nut_in_oblq» }) (record { 0 = «tru_oblq» })) n (now («nut_in_asc» .entry)) (now («nut_in_dec» .entry)) (now («nut_in_asc» .exit)) (now («nut_in_dec» .exit)) ⌝ }
 {
@@ -156,7 +156,7 @@ pub extern "C" fn brundelak_nutation_in_eq_coords(
 
 // Solar aberration at a distance. Refusals: 1; 5.
 #[no_mangle]
-pub extern "C" fn brundelak_sol_aberr(dist: f64, out: &mut f64) -> u8
+pub extern "C" fn brundelak_sol_aberr(dist: f64, out: &mut u64) -> u8
     ensures { λ n. ⌜ Told (numberOfRadians (solAberrRule dist)) n (now (out .entry)) (now (out .exit)) ⌝ }
 {
     give_radians(aberr::sol_aberr(dist), out)
@@ -168,8 +168,8 @@ pub extern "C" fn brundelak_stell_aberr_in_eq_coords(
     asc: f64,
     dec: f64,
     day: f64,
-    aberr_in_asc: &mut f64,
-    aberr_in_dec: &mut f64,
+    aberr_in_asc: &mut u64,
+    aberr_in_dec: &mut u64,
 ) -> u8
     ensures { λ n. ⌜ ToldTwo (stellAberrInEqCoordsRule (record { asc = asc; dec = dec }) day) n (now («aberr_in_asc» .entry)) (now («aberr_in_dec» .entry)) (now («aberr_in_asc» .exit)) (now («aberr_in_dec» .exit)) ⌝ }
 {
@@ -187,8 +187,8 @@ pub extern "C" fn brundelak_chain(
     old_dec: f64,
     day1: f64,
     day2: f64,
-    asc: &mut f64,
-    dec: &mut f64,
+    asc: &mut u64,
+    dec: &mut u64,
 ) -> u8
     ensures { λ n. ⌜ ToldTwo (chainRule Crate (record { 0 = «old_asc» }) (record { 0 = «old_dec» }) day1 day2) n (now (asc .entry)) (now (dec .entry)) (now (asc .exit)) (now (dec .exit)) ⌝ }
 {

@@ -89,8 +89,8 @@ fn hand_batch(
     day1: f64,
     day2: f64,
     status: &mut [u8],
-    asc: &mut [f64],
-    dec: &mut [f64],
+    asc: &mut [u64],
+    dec: &mut [u64],
     counts: &mut [u32; 20],
 ) -> u8
     ensures { λ n. ⌜ ToldBatch edition (now (bytes .entry)) day1 day2 (now (status .entry)) (now (asc .entry)) (now (dec .entry)) (now (counts .entry)) n (now (status .exit)) (now (asc .exit)) (now (dec .exit)) (now (counts .exit)) ⌝ }
@@ -113,8 +113,8 @@ pub extern "C" fn brundelak_batch(
     day1: f64,
     day2: f64,
     status: &mut [u8],
-    asc: &mut [f64],
-    dec: &mut [f64],
+    asc: &mut [u64],
+    dec: &mut [u64],
     counts: &mut [u32; 20],
 ) -> u8
     ensures { λ n. ⌜ ToldBatch Crate (now (bytes .entry)) day1 day2 (now (status .entry)) (now (asc .entry)) (now (dec .entry)) (now (counts .entry)) n (now (status .exit)) (now (asc .exit)) (now (dec .exit)) (now (counts .exit)) ⌝ }
@@ -129,8 +129,8 @@ pub extern "C" fn brundelak_batch_published(
     day1: f64,
     day2: f64,
     status: &mut [u8],
-    asc: &mut [f64],
-    dec: &mut [f64],
+    asc: &mut [u64],
+    dec: &mut [u64],
     counts: &mut [u32; 20],
 ) -> u8
     ensures { λ n. ⌜ ToldBatch Published (now (bytes .entry)) day1 day2 (now (status .entry)) (now (asc .entry)) (now (dec .entry)) (now (counts .entry)) n (now (status .exit)) (now (asc .exit)) (now (dec .exit)) (now (counts .exit)) ⌝ }

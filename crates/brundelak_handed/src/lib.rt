@@ -1,10 +1,12 @@
-// An answer handed to a C caller: its status, and its floats where it has them; a refusal leaves what is lent unchanged.
+// An answer handed to a C caller: its status, and its floats where it has them; a refusal leaves what is lent unchanged. A float is
+// lent as its bits: C sees a `double *`, and a NaN that stood there keeps its own.
 // Rules: specs/rules, in reading order in specs/rules.antt.
 ghost use mathlib.Core.Path.{_≡_};
 ghost use Rattle.quantity.specs.rules.Answer.{shown, shownTwo, shownThree, shownDegrees, shownRadians, shownPoint};
+ghost use Rattle.root.specs.rules.Bits.{shownBits};
 ghost use Rattle.coords_ecl.specs.rules.Point.{shownEcliptic};
 ghost use Rattle.atmos.specs.rules.Arcminutes.{shownArcminutes};
-ghost use Rattle.brundelak_handed.specs.rules.Boundary.{Told, ToldTwo, ToldThree, numberOfDegrees, numberOfRadians, numberOfArcminutes, numbersOfPoint, numbersOfEcliptic};
+ghost use Rattle.brundelak_handed.specs.rules.Boundary.{Told, ToldBits, ToldTwo, ToldThree, numberOfDegrees, numberOfRadians, numberOfArcminutes, numbersOfPoint, numbersOfEcliptic};
 use atmos::Arcminutes;
 use coords_ecl::Ecliptic;
 use quantity::Degrees;
@@ -13,14 +15,15 @@ use quantity::Point;
 use quantity::Radians;
 use quantity::Three;
 use quantity::Two;
+use root::Bits;
 
 // An answer of one number.
-pub fn give(a: One, out: &mut f64) -> u8
+pub fn give(a: One, out: &mut u64) -> u8
     ensures { λ n. ⌜ Told (shown a) n (now (out .entry)) (now (out .exit)) ⌝ }
 {
     match a {
         One::Is(x) => {
-            *out = x;
+            *out = double::pattern(x);
             0
         }
         One::Refused(n) => n,
@@ -28,13 +31,13 @@ pub fn give(a: One, out: &mut f64) -> u8
 }
 
 // An answer of two numbers.
-pub fn give_two(a: Two, first: &mut f64, second: &mut f64) -> u8
+pub fn give_two(a: Two, first: &mut u64, second: &mut u64) -> u8
     ensures { λ n. ⌜ ToldTwo (shownTwo a) n (now (first .entry)) (now (second .entry)) (now (first .exit)) (now (second .exit)) ⌝ }
 {
     match a {
         Two::Are(x, y) => {
-            *first = x;
-            *second = y;
+            *first = double::pattern(x);
+            *second = double::pattern(y);
             0
         }
         Two::Refused(n) => n,
@@ -42,17 +45,30 @@ pub fn give_two(a: Two, first: &mut f64, second: &mut f64) -> u8
 }
 
 // An answer of three numbers.
-pub fn give_three(a: Three, first: &mut f64, second: &mut f64, third: &mut f64) -> u8
+pub fn give_three(a: Three, first: &mut u64, second: &mut u64, third: &mut u64) -> u8
     ensures { λ n. ⌜ ToldThree (shownThree a) n (now (first .entry)) (now (second .entry)) (now (third .entry)) (now (first .exit)) (now (second .exit)) (now (third .exit)) ⌝ }
 {
     match a {
         Three::Are(x, y, z) => {
-            *first = x;
-            *second = y;
-            *third = z;
+            *first = double::pattern(x);
+            *second = double::pattern(y);
+            *third = double::pattern(z);
             0
         }
         Three::Refused(n) => n,
+    }
+}
+
+// An answer of one number that is its bits already.
+pub fn give_bits(a: Bits, out: &mut u64) -> u8
+    ensures { λ n. ⌜ ToldBits (shownBits a) n (now (out .entry)) (now (out .exit)) ⌝ }
+{
+    match a {
+        Bits::Are(b) => {
+            *out = b;
+            0
+        }
+        Bits::Refused(n) => n,
     }
 }
 
@@ -107,35 +123,35 @@ fn ecliptic_numbers(a: Ecliptic) -> Two
 }
 
 // An answer in degrees, as its number.
-pub fn give_degrees(a: Degrees, out: &mut f64) -> u8
+pub fn give_degrees(a: Degrees, out: &mut u64) -> u8
     ensures { λ n. ⌜ Told (numberOfDegrees (shownDegrees a)) n (now (out .entry)) (now (out .exit)) ⌝ }
 {
     give(degrees_number(a), out)
 }
 
 // An answer in radians, as its number.
-pub fn give_radians(a: Radians, out: &mut f64) -> u8
+pub fn give_radians(a: Radians, out: &mut u64) -> u8
     ensures { λ n. ⌜ Told (numberOfRadians (shownRadians a)) n (now (out .entry)) (now (out .exit)) ⌝ }
 {
     give(radians_number(a), out)
 }
 
 // An answer in minutes of arc, as its number.
-pub fn give_arcminutes(a: Arcminutes, out: &mut f64) -> u8
+pub fn give_arcminutes(a: Arcminutes, out: &mut u64) -> u8
     ensures { λ n. ⌜ Told (numberOfArcminutes (shownArcminutes a)) n (now (out .entry)) (now (out .exit)) ⌝ }
 {
     give(arcminutes_number(a), out)
 }
 
 // A point, as its two numbers.
-pub fn give_point(a: Point, first: &mut f64, second: &mut f64) -> u8
+pub fn give_point(a: Point, first: &mut u64, second: &mut u64) -> u8
     ensures { λ n. ⌜ ToldTwo (numbersOfPoint (shownPoint a)) n (now (first .entry)) (now (second .entry)) (now (first .exit)) (now (second .exit)) ⌝ }
 {
     give_two(point_numbers(a), first, second)
 }
 
 // An ecliptic point, as its two numbers.
-pub fn give_ecliptic(a: Ecliptic, first: &mut f64, second: &mut f64) -> u8
+pub fn give_ecliptic(a: Ecliptic, first: &mut u64, second: &mut u64) -> u8
     ensures { λ n. ⌜ ToldTwo (numbersOfEcliptic (shownEcliptic a)) n (now (first .entry)) (now (second .entry)) (now (first .exit)) (now (second .exit)) ⌝ }
 {
     give_two(ecliptic_numbers(a), first, second)

@@ -1,14 +1,12 @@
 // The chain (section 7): a star's place from one day to another by precession, nutation and aberration. Angles are in radians.
 // What the two days fix is a night, worked out once for a whole list. Rules: specs/rules, in reading order in specs/rules.antt.
 ghost use mathlib.Core.Path.{_≡_};
-ghost use mathlib.Core.Bool.{cond};
-ghost use lib.Dec.{eqb};
-ghost use Rattle.quantity.specs.rules.Answer.{shownTwo, answered, pair, firstPlace, secondPlace};
-ghost use Rattle.quantity.specs.rules.Refusal.{lower};
+ghost use Rattle.quantity.specs.rules.Answer.{shownTwo};
 ghost use Rattle.precess.specs.rules.Days.{placeRefusal};
 ghost use Rattle.chain.specs.rules.Obliquity.{meanObliquity, meanObliquityOf, trueObliquity};
 ghost use Rattle.chain.specs.rules.Chain.{pointRefusal, anglesRefusal, chainRule};
 ghost use Rattle.chain.specs.rules.Night.{nightFrom, nightOf, moved, movedUnder, reducedAt, reducedIn};
+ghost use Rattle.chain.specs.rules.Two.{nextRefusal, reducedTwo};
 use aberr_args::Velocity;
 use edition::Edition;
 use elementary::Direction;
@@ -125,7 +123,7 @@ fn point_refusal(p: EqPoint) -> u8
 
 // A precessed point with its nutation and its aberration added, in that order.
 fn moved(p: EqPoint, n: Shift, a: Shift) -> EqPoint
-    ensures { λ r. ⌜ answered (pair (r .asc) (r .dec)) ≡ moved p n a ⌝ }
+    ensures { λ r. ⌜ r ≡ moved p n a ⌝ }
 {
     EqPoint {
         asc: (p.asc + n.asc.0) + a.asc.0,
@@ -135,7 +133,7 @@ fn moved(p: EqPoint, n: Shift, a: Shift) -> EqPoint
 
 // A precessed point moved under a night, from its direction.
 fn moved_under(p: EqPoint, d: Direction, night: Night) -> EqPoint
-    ensures { λ r. ⌜ answered (pair (r .asc) (r .dec)) ≡ movedUnder p d night ⌝ }
+    ensures { λ r. ⌜ r ≡ movedUnder p d night ⌝ }
 {
     let nutations = night.nutation;
     let velocity = night.velocity;
@@ -173,7 +171,7 @@ pub fn reduced_in(asc: Rad, dec: Rad, night: Night) -> Two
 
 // The refusal of a star whose place was refused by a number, or else whose precessed point or whose night may be.
 fn next_refusal(no: u8, p: EqPoint, night_refusal: u8) -> u8
-    ensures { λ r. ⌜ r ≡ cond (eqb no 0) (lower (pointRefusal p) «night_refusal») no ⌝ }
+    ensures { λ r. ⌜ r ≡ nextRefusal no p «night_refusal» ⌝ }
 {
     if no != 0 {
         return no;
@@ -189,7 +187,7 @@ pub fn reduced_two(
     second_dec: Rad,
     night: Night,
 ) -> Places
-    ensures { λ r. ⌜ (firstPlace r ≡ reducedIn «first_asc» «first_dec» night) × (secondPlace r ≡ reducedIn «second_asc» «second_dec» night) ⌝ }
+    ensures { λ r. ⌜ r ≡ reducedTwo «first_asc» «first_dec» «second_asc» «second_dec» night ⌝ }
 {
     let turns = night.turns;
     let night_refusal = night.refusal;

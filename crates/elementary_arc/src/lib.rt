@@ -7,7 +7,6 @@ ghost use Rattle.elementary_arc.specs.rules.Series.{arctangentSeries};
 ghost use Rattle.elementary_arc.specs.rules.Arctangent.{atn, base, turned, arctangentOf, bothZero, arctangentIn, arctangentRefusal, arctangentRule};
 ghost use Rattle.elementary_arc.specs.rules.Level.{lesserOver, reduced, baseFrom, signed, arctangentsOf};
 ghost use Rattle.elementary_arc.specs.rules.Arcsine.{square, arcsineIn, arcsineRule};
-use double::Lanes;
 use quantity::HALF;
 use quantity::PI;
 use quantity::QUARTER;
@@ -170,8 +169,14 @@ fn base_from(y: f64, x: f64, v: f64, a: f64) -> f64
     double::either(y <= x, t, HALF - t)
 }
 
+// Two angles side by side.
+pub struct Arctangents {
+    pub first: Rad,
+    pub second: Rad,
+}
+
 // The arctangents of (y, x) and of (z, w), each what it is alone. Refusals are left to callers, which test for two zeros.
-pub fn arctangents_of(y: f64, x: f64, z: f64, w: f64) -> Lanes
+pub fn arctangents_of(y: f64, x: f64, z: f64, w: f64) -> Arctangents
     ensures { λ r. ⌜ r ≡ arctangentsOf y x z w ⌝ }
 {
     let up = double::size(y);
@@ -182,9 +187,9 @@ pub fn arctangents_of(y: f64, x: f64, z: f64, w: f64) -> Lanes
     let v2 = lesser_over(up2, across2);
     let a = arctangent_series(reduced(v));
     let a2 = arctangent_series(reduced(v2));
-    Lanes {
-        first: signed(y, x, base_from(up, across, v, a)),
-        second: signed(z, w, base_from(up2, across2, v2, a2)),
+    Arctangents {
+        first: Rad(signed(y, x, base_from(up, across, v, a))),
+        second: Rad(signed(z, w, base_from(up2, across2, v2, a2))),
     }
 }
 

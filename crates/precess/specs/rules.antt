@@ -4,4 +4,5 @@ pub mod Days
 pub mod Annual
 pub mod Equatorial
 pub mod Arcs
+pub mod Two
 pub mod Fk4

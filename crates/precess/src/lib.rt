@@ -2,11 +2,12 @@
 // Precession of the ecliptic, its places and orbits, stands in precess_ecl.
 // Rules: specs/rules, in reading order in specs/rules.antt.
 ghost use mathlib.Core.Path.{_≡_};
-ghost use Rattle.quantity.specs.rules.Answer.{shownTwo, firstPlace, secondPlace};
+ghost use Rattle.quantity.specs.rules.Answer.{shownTwo};
 ghost use Rattle.precess.specs.rules.Days.{spanOf, daysRefusal, placeRefusal};
 ghost use Rattle.precess.specs.rules.Annual.{annualM, annualN, annualAt, annualIn, annualRefusal, annualPrecessRule};
 ghost use Rattle.precess.specs.rules.Equatorial.{eqXi, eqZeta, eqTheta, turnsOf, eqTurnsOf, arcsOf, placed, turnedIn, precessEqCoordsRule};
 ghost use Rattle.precess.specs.rules.Arcs.{arcsRefusal};
+ghost use Rattle.precess.specs.rules.Two.{placedTwo, turnedTwo};
 ghost use Rattle.precess.specs.rules.Fk4.{fk4Century, fk4Span, fk4Xi, fk4Zeta, fk4Theta, degreesAsRadians, fk4Angle, fk4TurnsOf, precessEqCoordsFK5Rule};
 use edition::Edition;
 use elementary::Direction;
@@ -237,7 +238,7 @@ fn arcs_refusal(a: Arcs) -> u8
 
 // Two places after the turns, side by side: both roots first, for both declinations wait for them. Refusals of each: 14; 7.
 fn placed_two(d: Direction, e: Direction, turns: EqTurns) -> Places
-    ensures { λ r. ⌜ (firstPlace r ≡ placed d turns) × (secondPlace r ≡ placed e turns) ⌝ }
+    ensures { λ r. ⌜ r ≡ placedTwo d e turns ⌝ }
 {
     let zeta = turns.zeta;
     let a = arcs_of(d, turns);
@@ -247,10 +248,10 @@ fn placed_two(d: Direction, e: Direction, turns: EqTurns) -> Places
     let ascs = elementary_arc::arctangents_of(a.up, a.across, b.up, b.across);
     let decs = elementary_arc::arctangents_of(a.height, root, b.height, root2);
     Places {
-        first_asc: ascs.first + zeta.0,
-        second_asc: ascs.second + zeta.0,
-        first_dec: decs.first,
-        second_dec: decs.second,
+        first_asc: ascs.first.0 + zeta.0,
+        second_asc: ascs.second.0 + zeta.0,
+        first_dec: decs.first.0,
+        second_dec: decs.second.0,
         first_refusal: arcs_refusal(a),
         second_refusal: arcs_refusal(b),
     }
@@ -264,7 +265,7 @@ pub fn turned_two(
     second_dec: Rad,
     turns: EqTurns,
 ) -> Places
-    ensures { λ r. ⌜ (firstPlace r ≡ turnedIn «first_asc» «first_dec» turns) × (secondPlace r ≡ turnedIn «second_asc» «second_dec» turns) ⌝ }
+    ensures { λ r. ⌜ r ≡ turnedTwo «first_asc» «first_dec» «second_asc» «second_dec» turns ⌝ }
 {
     let p = EqPoint {
         asc: first_asc.0 + turns.xi.0,

@@ -42,8 +42,8 @@ fn put_star<'a>(
     at: usize,
     bytes: &'a [u8],
     status: &'a [u8],
-    asc: &'a [f64],
-    dec: &'a [f64],
+    asc: &'a [u64],
+    dec: &'a [u64],
     sidereal: Rad,
     place: GeographPoint,
     alt: Rad,
@@ -68,8 +68,8 @@ fn put_lines<'a>(
     out: &mut [u8],
     bytes: &'a [u8],
     status: &'a [u8],
-    asc: &'a [f64],
-    dec: &'a [f64],
+    asc: &'a [u64],
+    dec: &'a [u64],
     sidereal: Rad,
     place: GeographPoint,
     alt: Rad,
@@ -91,8 +91,8 @@ fn put_done<'a>(
     out: &mut [u8],
     bytes: &'a [u8],
     status: &'a [u8],
-    asc: &'a [f64],
-    dec: &'a [f64],
+    asc: &'a [u64],
+    dec: &'a [u64],
     refusal: u8,
     sidereal: Rad,
     place: GeographPoint,
@@ -132,8 +132,8 @@ pub fn put_plan(
     ensures { λ r. ⌜ Wrote (now (out .entry)) 0 (planOf (now (bytes .entry)) day1 day2 sidereal long lat alt) (now (out .exit)) r ⌝ }
 {
     let mut status = [0u8; list::MOST_STARS];
-    let mut asc = [0.0; list::MOST_STARS];
-    let mut dec = [0.0; list::MOST_STARS];
+    let mut asc = [0u64; list::MOST_STARS];
+    let mut dec = [0u64; list::MOST_STARS];
     let done = batch::batch(
         Edition::Crate,
         bytes,

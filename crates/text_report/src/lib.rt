@@ -30,12 +30,12 @@ pub fn byte_at(s: &[u8], i: usize) -> u8
     0
 }
 
-// Angle i of a slice of radians; past its end 0.0.
-pub fn angle_at(s: &[f64], i: usize) -> Rad
+// Angle i of a slice of radians, each lent as its bits; past its end 0.0.
+pub fn angle_at(s: &[u64], i: usize) -> Rad
     ensures { λ r. ⌜ r ≡ angleAt (now (s .entry)) i ⌝ }
 {
     if i < s.len() {
-        let x = s[i];
+        let x = double::of_pattern(s[i]);
         return Rad(x);
     }
     Rad(0.0)
@@ -47,8 +47,8 @@ fn put_star<'a>(
     at: usize,
     bytes: &'a [u8],
     status: &'a [u8],
-    asc: &'a [f64],
-    dec: &'a [f64],
+    asc: &'a [u64],
+    dec: &'a [u64],
     i: usize,
 ) -> usize
     ensures { λ r. ⌜ Wrote (now (out .entry)) at (lentLine (now (bytes .entry)) (now (status .entry)) (now (asc .entry)) (now (dec .entry)) i) (now (out .exit)) r ⌝ }
@@ -70,8 +70,8 @@ fn put_lines<'a>(
     at: usize,
     bytes: &'a [u8],
     status: &'a [u8],
-    asc: &'a [f64],
-    dec: &'a [f64],
+    asc: &'a [u64],
+    dec: &'a [u64],
 ) -> usize
     ensures { λ r. ⌜ Wrote (now (out .entry)) at (texts (countOf (now (bytes .entry))) (lentLine (now (bytes .entry)) (now (status .entry)) (now (asc .entry)) (now (dec .entry)))) (now (out .exit)) r ⌝ }
 {
@@ -132,8 +132,8 @@ fn put_done<'a>(
     edition: Edition,
     bytes: &'a [u8],
     status: &'a [u8],
-    asc: &'a [f64],
-    dec: &'a [f64],
+    asc: &'a [u64],
+    dec: &'a [u64],
     done: Batched,
 ) -> usize
     ensures { λ r. ⌜ Wrote (now (out .entry)) 0 (doneText edition (now (bytes .entry)) (now (status .entry)) (now (asc .entry)) (now (dec .entry)) done) (now (out .exit)) r ⌝ }
@@ -152,8 +152,8 @@ pub fn put_report(out: &mut [u8], edition: Edition, bytes: &[u8], day1: f64, day
     ensures { λ r. ⌜ Wrote (now (out .entry)) 0 (reportOf edition (now (bytes .entry)) day1 day2) (now (out .exit)) r ⌝ }
 {
     let mut status = [0u8; list::MOST_STARS];
-    let mut asc = [0.0; list::MOST_STARS];
-    let mut dec = [0.0; list::MOST_STARS];
+    let mut asc = [0u64; list::MOST_STARS];
+    let mut dec = [0u64; list::MOST_STARS];
     let done = batch::batch(edition, bytes, day1, day2, &mut status, &mut asc, &mut dec);
     put_done(out, edition, bytes, &status, &asc, &dec, done)
 }

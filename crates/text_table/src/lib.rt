@@ -27,8 +27,8 @@ fn put_star<'a>(
     at: usize,
     bytes: &'a [u8],
     status: &'a [u8],
-    asc: &'a [f64],
-    dec: &'a [f64],
+    asc: &'a [u64],
+    dec: &'a [u64],
     i: usize,
 ) -> usize
     ensures { λ r. ⌜ Wrote (now (out .entry)) at (lentRow (now (bytes .entry)) (now (status .entry)) (now (asc .entry)) (now (dec .entry)) i) (now (out .exit)) r ⌝ }
@@ -50,8 +50,8 @@ fn put_rows<'a>(
     at: usize,
     bytes: &'a [u8],
     status: &'a [u8],
-    asc: &'a [f64],
-    dec: &'a [f64],
+    asc: &'a [u64],
+    dec: &'a [u64],
 ) -> usize
     ensures { λ r. ⌜ Wrote (now (out .entry)) at (texts (countOf (now (bytes .entry))) (lentRow (now (bytes .entry)) (now (status .entry)) (now (asc .entry)) (now (dec .entry)))) (now (out .exit)) r ⌝ }
 {
@@ -71,8 +71,8 @@ fn put_done<'a>(
     edition: Edition,
     bytes: &'a [u8],
     status: &'a [u8],
-    asc: &'a [f64],
-    dec: &'a [f64],
+    asc: &'a [u64],
+    dec: &'a [u64],
     refusal: u8,
 ) -> usize
     ensures { λ r. ⌜ Wrote (now (out .entry)) 0 (doneText edition (now (bytes .entry)) (now (status .entry)) (now (asc .entry)) (now (dec .entry)) refusal) (now (out .exit)) r ⌝ }
@@ -90,8 +90,8 @@ pub fn put_table(out: &mut [u8], edition: Edition, bytes: &[u8], day1: f64, day2
     ensures { λ r. ⌜ Wrote (now (out .entry)) 0 (tableOf edition (now (bytes .entry)) day1 day2) (now (out .exit)) r ⌝ }
 {
     let mut status = [0u8; list::MOST_STARS];
-    let mut asc = [0.0; list::MOST_STARS];
-    let mut dec = [0.0; list::MOST_STARS];
+    let mut asc = [0u64; list::MOST_STARS];
+    let mut dec = [0u64; list::MOST_STARS];
     let done = batch::batch(edition, bytes, day1, day2, &mut status, &mut asc, &mut dec);
     put_done(out, edition, bytes, &status, &asc, &dec, done.refusal)
 }

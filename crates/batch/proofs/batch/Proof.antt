@@ -5,8 +5,10 @@ use mathlib.Core.Path.{_≡_, sym, ap, _∙_}
 use Prim.Native.Nat.{_+_, _-_, _≤_, _<_}
 use native.Mathlib.Omega.{arith}
 use Rattle.double.specs.laws.Calls.{asks-nothing}
+use Rattle.quantity.specs.rules.Answer.{firstPlace, secondPlace}
 use Rattle.list.specs.rules.Stars.{countOf}
 use Rattle.batch.specs.notions.Kept.{under, Begun, Upto}
+use Rattle.batch.specs.laws.Star.{first-star, second-star}
 use Rattle.batch.specs.laws.Kept.{few-stars, none-kept, places-there, one-kept, all-kept}
 use Rattle.batch.proofs.batch.Statement.{statement}
 use Rattle.batch.proofs.batch.Tie as tie
@@ -68,7 +70,7 @@ module _ (c : tie.After-keep Inv-loop μ-loop) where
   first-stored =
       let at-two = c .before .before .before .before in
       one-kept (begun before-turn) (in-turn .before .loop .inv .1 .1) (omega (arith, both-there in-turn))
-      (at-two .reduce-two .ensures .0 ∙ ap (under (before-turn .before .night-of .result)) (at-two .before .before .nth .ensures))
+      (ap firstPlace (at-two .reduce-two .ensures) ∙ first-star _ _ _ ∙ ap (under (before-turn .before .night-of .result)) (at-two .before .before .nth .ensures))
       (c .keep .ensures)
 
 keep-requires-2 : tie.Need-keep-requires-2 Inv-loop μ-loop
@@ -94,7 +96,7 @@ loop-again c =
       (
         in-turn at-first .before .loop .inv .1 .0,
         one-kept (begun (before-turn at-first)) (first-stored at-first) (both-there (in-turn at-first))
-            (at-two .reduce-two .ensures .1 ∙ ap (under (before-turn at-first .before .night-of .result)) (at-two .before .nth2 .ensures))
+            (ap secondPlace (at-two .reduce-two .ensures) ∙ second-star _ _ _ ∙ ap (under (before-turn at-first .before .night-of .result)) (at-two .before .nth2 .ensures))
             (at-second .keep2 .ensures),
       ),
     )
@@ -121,7 +123,7 @@ module _ (c : tie.After-keep3 Inv-loop μ-loop) where
   last-stored =
       let at-two = c .before .before .before .before in
       one-kept (begun before-last) (with-one-left .before .before .loop .inv .1 .1) (last-there with-one-left)
-      (at-two .reduce-two2 .ensures .0 ∙ ap (under (before-last .before .night-of .result)) (at-two .before .nth3 .ensures))
+      (ap firstPlace (at-two .reduce-two2 .ensures) ∙ first-star _ _ _ ∙ ap (under (before-last .before .night-of .result)) (at-two .before .nth3 .ensures))
       (c .keep3 .ensures)
 
 same-length : tie.Need-same-length Inv-loop μ-loop

@@ -10,7 +10,8 @@ use lib.Ieee.{Float}
 use lib.ListN.{length, take, drop, getD, length-map, List·getD-map, List·getD-append}
 use lib.Seq.{length-take-le, take-suc, take-length, take-at}
 use borrow.Author.Tests.{leb-true, eq-eqb, eqb-true, eqb-false}
-use Rattle.double.specs.rules.Operations.{zero as zero64}
+use Rattle.double.specs.rules.Operations.{bits}
+use Rattle.double.specs.laws.ReadBack.{bits-pattern}
 use Rattle.quantity.specs.rules.Answer.{Answer, Pair, statusOf}
 use Rattle.edition.specs.declared.Edition.{Edition}
 use Rattle.precess.specs.rules.Days.{daysRefusal}
@@ -25,9 +26,10 @@ use Rattle.list_tally.specs.rules.Status.{highestStatus}
 use Rattle.list_tally.specs.rules.Tally.{places, raiseRule, times, tallyOf, empty, raisedBy, AllKnown}
 use Rattle.list_tally.specs.laws.Tally.{times-most, raise-more, counts-all}
 use Rattle.batch.specs.declared.Batched.{Batched}
-use Rattle.batch.specs.rules.Star.{starRule, firstOf, secondOf}
+use Rattle.batch.specs.rules.Star.{starRule, firstOf, secondOf, firstBits, secondBits}
 use Rattle.batch.specs.rules.Batch.{hasRoom, batchRefusal, answersOf, statusesOf, lentRule, Batch}
 use Rattle.batch.specs.laws.Star.{status-known}
+use Rattle.batch.specs.laws.ReadBack.{held-star}
 use Rattle.batch.specs.notions.Accepted.{Accepted}
 
 -- ---- an accepted call
@@ -105,7 +107,7 @@ module _ (answer : Star → Answer Pair) (known : (star : Star) → statusOf (an
 
 -- ---- what the rule of a call says of its tally, and that it fixes all
 
-module _ {edition : Edition} {s : List ℕ} {day1 day2 : Float} {status : List ℕ} {asc dec : List Float} {r : Batched} {status′ : List ℕ} {asc′ dec′ : List Float} (b : Batch edition s day1 day2 status asc dec r status′ asc′ dec′) where
+module _ {edition : Edition} {s : List ℕ} {day1 day2 : Float} {status asc dec : List ℕ} {r : Batched} {status′ asc′ dec′ : List ℕ} (b : Batch edition s day1 day2 status asc dec r status′ asc′ dec′) where
   abbrev answer : Star → Answer Pair
   answer star = starRule edition star day1 day2
 
@@ -128,17 +130,24 @@ module _ {edition : Edition} {s : List ℕ} {day1 day2 : Float} {status : List �
         ap (λ (l : List ℕ). getD l i 0) (front (statusesOf edition s day1 day2) status status′ (b .statuses))
         ∙ stored statusOf answer s status i 0 h
 
-    pub asc-at : (i : ℕ) → i < countOf s → getD asc′ i zero64 ≡ firstOf (starRule edition (nth s i) day1 day2)
+    pub asc-at : (i : ℕ) → i < countOf s → getD asc′ i 0 ≡ firstBits (starRule edition (nth s i) day1 day2)
     unfolding answersOf
     asc-at i h =
-        ap (λ (l : List Float). getD l i zero64) (front (map firstOf (answersOf edition s day1 day2)) asc asc′ (b .ascs))
-        ∙ stored firstOf answer s asc i zero64 h
+        ap (λ (l : List ℕ). getD l i 0) (front (map firstBits (answersOf edition s day1 day2)) asc asc′ (b .ascs))
+        ∙ stored firstBits answer s asc i 0 h
 
-    pub dec-at : (i : ℕ) → i < countOf s → getD dec′ i zero64 ≡ secondOf (starRule edition (nth s i) day1 day2)
+    pub dec-at : (i : ℕ) → i < countOf s → getD dec′ i 0 ≡ secondBits (starRule edition (nth s i) day1 day2)
     unfolding answersOf
     dec-at i h =
-        ap (λ (l : List Float). getD l i zero64) (front (map secondOf (answersOf edition s day1 day2)) dec dec′ (b .decs))
-        ∙ stored secondOf answer s dec i zero64 h
+        ap (λ (l : List ℕ). getD l i 0) (front (map secondBits (answersOf edition s day1 day2)) dec dec′ (b .decs))
+        ∙ stored secondBits answer s dec i 0 h
+
+    -- the angles read back from their bits
+    pub asc-read : (i : ℕ) → i < countOf s → bits (getD asc′ i 0) ≡ firstOf (starRule edition (nth s i) day1 day2)
+    asc-read i h = ap bits (asc-at i h) ∙ bits-pattern _ (held-star edition (nth s i) day1 day2 .0)
+
+    pub dec-read : (i : ℕ) → i < countOf s → bits (getD dec′ i 0) ≡ secondOf (starRule edition (nth s i) day1 day2)
+    dec-read i h = ap bits (dec-at i h) ∙ bits-pattern _ (held-star edition (nth s i) day1 day2 .1)
 
     -- the slice's first bytes are the stars' statuses
     bytes-are : take (countOf s) status′ ≡ statusesOf edition s day1 day2
@@ -164,7 +173,7 @@ module _ {edition : Edition} {s : List ℕ} {day1 day2 : Float} {status : List �
         ∙ sym (counts-all (statusesOf edition s day1 day2) (all-known answer (λ star. status-known star day1 day2 (a .days) edition) s) (omega (arith, how-many statusOf answer s, few s (a .list))))
 
   -- two calls that meet one contract answer alike and leave the slices alike
-  pub batch-fixes-all : {q : Batched} {status″ : List ℕ} {asc″ dec″ : List Float}
+  pub batch-fixes-all : {q : Batched} {status″ asc″ dec″ : List ℕ}
       → Batch edition s day1 day2 status asc dec q status″ asc″ dec″
       → (r ≡ q) × ((status′ ≡ status″) × ((asc′ ≡ asc″) × (dec′ ≡ dec″)))
   batch-fixes-all d = (b .answer ∙ sym (d .answer), (b .statuses ∙ sym (d .statuses), (b .ascs ∙ sym (d .ascs), b .decs ∙ sym (d .decs))))

@@ -9,6 +9,7 @@ use lib.Ieee.{Float}
 use lib.ListN.{length, drop, set}
 use borrow.Author.Tests.{eq-eqb}
 use Rattle.double.specs.rules.Operations.{zero}
+use Rattle.double.specs.rules.Pattern.{patternOf}
 use Rattle.quantity.specs.rules.Answer.{Answer, answered, refused, Pair, pair, unless, statusOf}
 use Rattle.edition.specs.declared.Edition.{Edition}
 use Rattle.lent.specs.laws.Rows.{start, store, finish}
@@ -19,7 +20,7 @@ use Rattle.list.specs.laws.Stars.{few}
 use Rattle.list_tally.specs.declared.Tally.{Tally}
 use Rattle.list_tally.specs.rules.Status.{highestStatus}
 use Rattle.list_tally.specs.rules.Tally.{raiseRule, tallyOf, empty}
-use Rattle.batch.specs.rules.Star.{firstOf, secondOf}
+use Rattle.batch.specs.rules.Star.{firstBits, secondBits}
 use Rattle.batch.specs.rules.Batch.{answersOf, Batch}
 use Rattle.batch.specs.notions.Accepted.{Accepted}
 use Rattle.batch.specs.notions.Kept.{Kept, under, answers, Begun, Upto}
@@ -51,15 +52,15 @@ module _ (n : ℕ) (a d : Float) where
       by-case true h = h tt
       by-case false h = refl
 
-  pub first-kept : cond (eqb n 0) a zero ≡ firstOf place
-  first-kept = by-number firstOf n (pair a d)
+  pub first-kept : cond (eqb n 0) (patternOf a) (patternOf zero) ≡ firstBits place
+  first-kept = by-number firstBits n (pair a d)
 
-  pub second-kept : cond (eqb n 0) d zero ≡ secondOf place
-  second-kept = by-number secondOf n (pair a d)
+  pub second-kept : cond (eqb n 0) (patternOf d) (patternOf zero) ≡ secondBits place
+  second-kept = by-number secondBits n (pair a d)
 
 -- ---- a call that is not refused, from its first star to its last
 
-module _ {edition : Edition} {s : List ℕ} {day1 day2 : Float} {status₀ : List ℕ} {asc₀ dec₀ : List Float} {night : Night} (b : Begun edition s day1 day2 status₀ asc₀ dec₀ night) where
+module _ {edition : Edition} {s : List ℕ} {day1 day2 : Float} {status₀ asc₀ dec₀ : List ℕ} {night : Night} (b : Begun edition s day1 day2 status₀ asc₀ dec₀ night) where
   allowed : Accepted s day1 day2 (length status₀) (length asc₀) (length dec₀)
   allowed = accepted s day1 day2 (length status₀) (length asc₀) (length dec₀) (b .none)
 
@@ -82,11 +83,11 @@ module _ {edition : Edition} {s : List ℕ} {day1 day2 : Float} {status₀ : Lis
       record {
         counted = e;
         statuses = start _ _ _ (all statusOf) (allowed .statuses);
-        ascs = start _ _ _ (all firstOf) (allowed .ascs);
-        decs = start _ _ _ (all secondOf) (allowed .decs);
+        ascs = start _ _ _ (all firstBits) (allowed .ascs);
+        decs = start _ _ _ (all secondBits) (allowed .decs);
       }
 
-  module _ {i : ℕ} {tally : Tally} {status : List ℕ} {asc dec : List Float} (u : Upto night s status₀ asc₀ dec₀ i tally status asc dec) where
+  module _ {i : ℕ} {tally : Tally} {status asc dec : List ℕ} (u : Upto night s status₀ asc₀ dec₀ i tally status asc dec) where
     -- each star has its place
     pub places-there : (j : ℕ) → j < countOf s → (j < mostStars) × ((j < length status) × ((j < length asc) × (j < length dec)))
     places-there j h = (
@@ -98,14 +99,14 @@ module _ {edition : Edition} {s : List ℕ} {day1 day2 : Float} {status₀ : Lis
     )
 
     -- star i stored next
-    pub one-kept : {a : Answer Pair} {tally′ : Tally} {status′ : List ℕ} {asc′ dec′ : List Float} → i < countOf s → a ≡ under night (nth s i)
+    pub one-kept : {a : Answer Pair} {tally′ : Tally} {status′ asc′ dec′ : List ℕ} → i < countOf s → a ≡ under night (nth s i)
         → Kept i a tally status asc dec tally′ status′ asc′ dec′ → Upto night s status₀ asc₀ dec₀ (i + 1) tally′ status′ asc′ dec′
     one-kept {a} h e k =
         record {
           counted = k .raised ∙ raised-at (under night) known s (allowed .list) i h tally (statusOf a) (raiseRule tally (statusOf a)) (u .counted) (ap statusOf e) refl;
           statuses = rw (k .status-set) (store _ _ _ (all statusOf) _ i _ _ h (u .statuses) (ap statusOf e ∙ value statusOf (under night) s i));
-          ascs = rw (k .asc-set) (store _ _ _ (all firstOf) _ i _ _ h (u .ascs) (ap firstOf e ∙ value firstOf (under night) s i));
-          decs = rw (k .dec-set) (store _ _ _ (all secondOf) _ i _ _ h (u .decs) (ap secondOf e ∙ value secondOf (under night) s i));
+          ascs = rw (k .asc-set) (store _ _ _ (all firstBits) _ i _ _ h (u .ascs) (ap firstBits e ∙ value firstBits (under night) s i));
+          decs = rw (k .dec-set) (store _ _ _ (all secondBits) _ i _ _ h (u .decs) (ap secondBits e ∙ value secondBits (under night) s i));
         }
 
     -- no star is left
@@ -116,6 +117,6 @@ module _ {edition : Edition} {s : List ℕ} {day1 day2 : Float} {status₀ : Lis
         record {
           answer = simp goes (λ j. record { refusal = sym (b .none) j; tally = (u .counted ∙ ap tallyOf (every ∙ ap (map statusOf) promised)) j });
           statuses = simp goes (finish _ _ _ (all statusOf) _ _ end (u .statuses) ∙ ap (laid statusOf _) promised);
-          ascs = simp goes (finish _ _ _ (all firstOf) _ _ end (u .ascs) ∙ ap (laid firstOf _) promised);
-          decs = simp goes (finish _ _ _ (all secondOf) _ _ end (u .decs) ∙ ap (laid secondOf _) promised);
+          ascs = simp goes (finish _ _ _ (all firstBits) _ _ end (u .ascs) ∙ ap (laid firstBits _) promised);
+          decs = simp goes (finish _ _ _ (all secondBits) _ _ end (u .decs) ∙ ap (laid secondBits _) promised);
         }

@@ -5,40 +5,51 @@ use mathlib.Core.Bool.{Bool, true, false, cond}
 use mathlib.Core.List.{List, map}
 use lib.Ieee.{Float}
 use Rattle.quantity.specs.rules.Answer.{Answer, answered, refused, Pair, pair, unless, statusOf, firstPlace, secondPlace}
-use Rattle.quantity.specs.declared.Places.{Places}
 use Rattle.quantity.specs.rules.Refusal.{lower}
 use Rattle.edition.specs.declared.Edition.{Edition}
 use Rattle.precess.specs.rules.Days.{daysRefusal, placeRefusal}
 use Rattle.chain.specs.declared.Night.{Night}
 use Rattle.chain.specs.rules.Chain.{chainRule}
 use Rattle.chain.specs.rules.Night.{nightOf, reducedIn}
+use Rattle.chain.specs.rules.Two.{reducedTwo}
 use Rattle.chain.specs.laws.Night.{chain-under-a-night}
+use Rattle.chain.specs.laws.Two.{first-reduced, second-reduced}
 use Rattle.list_tally.specs.rules.Status.{highestStatus}
 use Rattle.list.specs.declared.Star.{Star}
 use Rattle.list.specs.rules.Record.{inRange}
 use Rattle.list.specs.rules.Stars.{stars}
 use Rattle.batch.specs.rules.Batch.{answersOf}
-use Rattle.batch.specs.rules.Star.{ascOf, decOf, starRule, reduceStar}
+use Rattle.batch.specs.rules.Star.{ascOf, decOf, starRule, reduceStar, reduceTwo}
 use Rattle.batch.specs.laws.InRange.{angles-taken}
 use Rattle.batch.specs.laws.Known.{known-under}
 
--- a place that was worked out beside another, once its number is 9 where the star is out of range
-pub in-its-lane : (star : Star) (night : Night) (m n : ℕ) (x y : Float) → n ≡ cond (inRange star) m 9
-    → unless m (answered (pair x y)) ≡ reducedIn (ascOf star) (decOf star) night → unless n (answered (pair x y)) ≡ reduceStar star night
+-- a place's number is 9 where the star is out of range
+in-its-lane : (star : Star) (night : Night) (n : ℕ) (p : Pair) → unless n (answered p) ≡ reducedIn (ascOf star) (decOf star) night
+    → unless (cond (inRange star) n 9) (answered p) ≡ reduceStar star night
 unfolding reduceStar
-in-its-lane star night m n x y e h =
-    ap (λ (k : ℕ). unless k (answered (pair x y))) e
-    ∙ by-range (inRange star)
-    ∙ ap (λ (a : Answer Pair). cond (inRange star) a (refused 9)) h
+in-its-lane star night n p h = by-range (inRange star) ∙ ap (λ (a : Answer Pair). cond (inRange star) a (refused 9)) h
   where
-    by-range : (b : Bool) → unless (cond b m 9) (answered (pair x y)) ≡ cond b (unless m (answered (pair x y))) (refused 9)
+    by-range : (b : Bool) → unless (cond b n 9) (answered p) ≡ cond b (unless n (answered p)) (refused 9)
     by-range true = refl
     by-range false = refl
 
+-- each of two stars side by side has the place that it has alone
+module _ (a b : Star) (night : Night) where
+  pub first-star : firstPlace (reduceTwo a b night) ≡ reduceStar a night
+  unfolding reduceTwo
+  first-star =
+      let p = reducedTwo (ascOf a) (decOf a) (ascOf b) (decOf b) night in
+      in-its-lane a night (p .«first_refusal») (pair (p .«first_asc») (p .«first_dec»)) (first-reduced (ascOf a) (decOf a) (ascOf b) (decOf b) night)
+
+  pub second-star : secondPlace (reduceTwo a b night) ≡ reduceStar b night
+  unfolding reduceTwo
+  second-star =
+      let p = reducedTwo (ascOf a) (decOf a) (ascOf b) (decOf b) night in
+      in-its-lane b night (p .«second_refusal») (pair (p .«second_asc») (p .«second_dec»)) (second-reduced (ascOf a) (decOf a) (ascOf b) (decOf b) night)
+
 -- so a star has one place, whatever star it stands beside and on whichever side
-pub beside-any-star : (star : Star) (night : Night) (p q : Places) → firstPlace p ≡ reduceStar star night → secondPlace q ≡ reduceStar star night
-    → firstPlace p ≡ secondPlace q
-beside-any-star star night p q here there = here ∙ sym there
+pub beside-any-star : (star a b : Star) (night : Night) → firstPlace (reduceTwo star a night) ≡ secondPlace (reduceTwo b star night)
+beside-any-star star a b night = first-star star a night ∙ sym (second-star b star night)
 
 module _ (star : Star) (day1 day2 : Float) (days : daysRefusal day1 day2 ≡ 0) where
   -- of a star in range nothing is refused at first

@@ -13,7 +13,7 @@ use Rattle.list.specs.declared.Star.{Star}
 use Rattle.list.specs.rules.Stars.{isList, countOf, stars}
 use Rattle.list_tally.specs.rules.Tally.{tallyOf, empty}
 use Rattle.batch.specs.declared.Batched.{Batched}
-use Rattle.batch.specs.rules.Star.{starRule, firstOf, secondOf}
+use Rattle.batch.specs.rules.Star.{starRule, firstBits, secondBits}
 
 -- each slice has a place for each star
 abbrev pub hasRoom : ℕ → ℕ → ℕ → ℕ → Bool
@@ -41,9 +41,9 @@ batchedRule refusal statuses = record { refusal = refusal; tally = cond (eqb ref
 abbrev pub lentRule : {A : Type 0} → ℕ → List A → List A → List A
 lentRule refusal new old = cond (eqb refusal 0) (new ++ drop (length new) old) old
 
--- what a call leaves: its answer, and the contents of the three slices
-pub record Batch (edition : Edition) (s : List ℕ) (day1 day2 : Float) (status : List ℕ) (asc dec : List Float) (r : Batched) (status′ : List ℕ) (asc′ dec′ : List Float) : Type 0 where
+-- what a call leaves: its answer, and the contents of the three slices, the angles as their bits
+pub record Batch (edition : Edition) (s : List ℕ) (day1 day2 : Float) (status asc dec : List ℕ) (r : Batched) (status′ asc′ dec′ : List ℕ) : Type 0 where
   pub answer : r ≡ batchedRule (batchRefusal s day1 day2 (length status) (length asc) (length dec)) (statusesOf edition s day1 day2)
   pub statuses : status′ ≡ lentRule (batchRefusal s day1 day2 (length status) (length asc) (length dec)) (statusesOf edition s day1 day2) status
-  pub ascs : asc′ ≡ lentRule (batchRefusal s day1 day2 (length status) (length asc) (length dec)) (map firstOf (answersOf edition s day1 day2)) asc
-  pub decs : dec′ ≡ lentRule (batchRefusal s day1 day2 (length status) (length asc) (length dec)) (map secondOf (answersOf edition s day1 day2)) dec
+  pub ascs : asc′ ≡ lentRule (batchRefusal s day1 day2 (length status) (length asc) (length dec)) (map firstBits (answersOf edition s day1 day2)) asc
+  pub decs : dec′ ≡ lentRule (batchRefusal s day1 day2 (length status) (length asc) (length dec)) (map secondBits (answersOf edition s day1 day2)) dec

@@ -1,16 +1,20 @@
 -- One star of a list: its place in radians, what the chain answers there, and what of the answer is stored.
+use Prim.Native.Nat.{ℕ}
 use mathlib.Core.Bool.{cond}
 use lib.IntN.{ℤ, pos}
 use lib.Ieee.{Float, binary64, ofInt}
 use Rattle.double.specs.rules.Operations.{bits, zero, _⊘_}
+use Rattle.double.specs.rules.Pattern.{patternOf}
 use Rattle.quantity.specs.declared.Deg.{Deg}
 use Rattle.quantity.specs.declared.Rad.{Rad}
+use Rattle.quantity.specs.declared.Places.{Places}
 use Rattle.quantity.specs.rules.Answer.{Answer, answered, refused, Pair, first, second}
 use Rattle.edition.specs.declared.Edition.{Edition}
 use Rattle.helpers.specs.rules.Angle.{radiansOf}
 use Rattle.chain.specs.declared.Night.{Night}
 use Rattle.chain.specs.rules.Chain.{chainRule}
 use Rattle.chain.specs.rules.Night.{reducedIn}
+use Rattle.chain.specs.rules.Two.{reducedTwo}
 use Rattle.list.specs.declared.Star.{Star}
 use Rattle.list.specs.rules.Record.{inRange}
 
@@ -36,7 +40,21 @@ starRule edition star day1 day2 = cond (inRange star) (chainRule edition (ascOf 
 unfoldable pub reduceStar : Star → Night → Answer Pair
 reduceStar star night = cond (inRange star) (reducedIn (ascOf star) (decOf star) night) (refused 9)
 
--- what is stored of an answer beside its status: the two angles, or 0.0 and 0.0
+-- two stars side by side, every float of both fixed whatever is refused; `first-star` and `second-star` in laws/Star say that each has
+-- the place that it has alone
+unfoldable pub reduceTwo : Star → Star → Night → Places
+reduceTwo a b night =
+    let p = reducedTwo (ascOf a) (decOf a) (ascOf b) (decOf b) night in
+    record {
+      «first_asc» = p .«first_asc»;
+      «second_asc» = p .«second_asc»;
+      «first_dec» = p .«first_dec»;
+      «second_dec» = p .«second_dec»;
+      «first_refusal» = cond (inRange a) (p .«first_refusal») 9;
+      «second_refusal» = cond (inRange b) (p .«second_refusal») 9;
+    }
+
+-- what is stored of an answer beside its status: the two angles, or 0.0 and 0.0,
 abbrev pub firstOf : Answer Pair → Float
 firstOf (answered p) = first p
 firstOf (refused n) = zero
@@ -44,3 +62,10 @@ firstOf (refused n) = zero
 abbrev pub secondOf : Answer Pair → Float
 secondOf (answered p) = second p
 secondOf (refused n) = zero
+
+-- each as its bits
+abbrev pub firstBits : Answer Pair → ℕ
+firstBits a = patternOf (firstOf a)
+
+abbrev pub secondBits : Answer Pair → ℕ
+secondBits a = patternOf (secondOf a)

@@ -41,7 +41,7 @@ pub not-shown-told : {a : Answer Sight} {r : Shown} {n number asc next : ℕ} {d
 not-shown-told p e =
     rw (← p, e) (record { answers = refl; leaves-number = refl; leaves-asc = refl; leaves-dec = refl; leaves-next = refl })
 
-module _ {edition : Edition} {s : List ℕ} {day1 day2 : Float} {status : List ℕ} {asc dec : List Float} {counts : List ℕ} {status′ : List ℕ} {asc′ dec′ : List Float} (b : Batched) (done : Batch edition s day1 day2 status asc dec b status′ asc′ dec′) where
+module _ {edition : Edition} {s : List ℕ} {day1 day2 : Float} {status asc dec counts : List ℕ} {status′ asc′ dec′ : List ℕ} (b : Batched) (done : Batch edition s day1 day2 status asc dec b status′ asc′ dec′) where
   pub batch-refused : (b .refusal ≡ 0 → ⊥) → ToldBatch edition s day1 day2 status asc dec counts (b .refusal) status′ asc′ dec′ counts
   batch-refused h = record { batched = b; batch = done; answers = refl; leaves-counts = rw (ne-eqb (b .refusal) 0 h) }
 

@@ -33,7 +33,7 @@ pub one-told-raise : {status n m : ℕ} {counts c c′ : List ℕ} → ToldRaise
     → ToldRaise status counts m c′ → (n ≡ m) × (c ≡ c′)
 one-told-raise t u = (t .answers ∙ sym (u .answers), t .leaves-counts ∙ sym (u .leaves-counts))
 
-pub one-told-batch : {edition : Edition} {s status counts : List ℕ} {day1 day2 : Float} {asc dec : List Float} {n m : ℕ} {z z′ c c′ : List ℕ} {x x′ y y′ : List Float}
+pub one-told-batch : {edition : Edition} {s status asc dec counts : List ℕ} {day1 day2 : Float} {n m : ℕ} {z z′ c c′ x x′ y y′ : List ℕ}
     → ToldBatch edition s day1 day2 status asc dec counts n z x y c → ToldBatch edition s day1 day2 status asc dec counts m z′ x′ y′ c′
     → (n ≡ m) × ((c ≡ c′) × ((z ≡ z′) × ((x ≡ x′) × (y ≡ y′))))
 one-told-batch {counts = counts} t u =

@@ -39,6 +39,12 @@ unfolding computed batchRefusal daysRefusal
 batch-always-refused-by-eight-excluded edition wrong =
     apart ofNumber refl (wrong .answers ∙ ap (λ (b : Batched). b .refusal) (wrong .batch .answer))
 
+-- so is the call refused, and of the angles a NaN that the caller left is made the quiet one
+pub nan-of-a-refused-batch-tidied-excluded : (edition : Edition)
+    → ¬ ToldBatch edition [] (inf false) epoch [] (0x7ff0000000000001 ∷ []) [] [] 1 [] (0x7ff8000000000000 ∷ []) [] []
+unfolding computed batchRefusal daysRefusal
+nan-of-a-refused-batch-tidied-excluded edition wrong = apart (λ (l : List ℕ). getD l 0 0) refl (wrong .batch .ascs)
+
 -- the status 3, and 0 is counted
 pub another-status-counted-excluded : ¬ ToldRaise 3 (empty .counts) 0 (raiseRule empty 0 .tally .counts)
 unfolding raiseRule raiseRefusal tallyOf

@@ -44,7 +44,7 @@ pub record ToldStar (a : Answer Sight) (n : ℕ) (number asc : ℕ) (dec : ℤ) 
   pub leaves-next : next′ ≡ keptSight (λ (r : Star) (k : ℕ). k) a next
 
 -- the batch: its refusal, the three slices, and the 20 counts where it is not refused
-pub record ToldBatch (edition : Edition) (s : List ℕ) (day1 day2 : Float) (status : List ℕ) (asc dec : List Float) (counts : List ℕ) (n : ℕ) (status′ : List ℕ) (asc′ dec′ : List Float) (counts′ : List ℕ) : Type 0 where
+pub record ToldBatch (edition : Edition) (s : List ℕ) (day1 day2 : Float) (status asc dec counts : List ℕ) (n : ℕ) (status′ asc′ dec′ counts′ : List ℕ) : Type 0 where
   pub batched : Batched
   pub batch : Batch edition s day1 day2 status asc dec batched status′ asc′ dec′
   pub answers : n ≡ batched .refusal

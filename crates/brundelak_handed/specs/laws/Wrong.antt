@@ -4,6 +4,7 @@ use mathlib.Core.Path.{refl}
 use std.Logic.{_≢_}
 use lib.Ieee.{Float}
 use Rattle.double.specs.rules.Operations.{zero, one}
+use Rattle.double.specs.notions.Code.{ofNumber}
 use Rattle.double.specs.laws.Apart.{apart}
 use Rattle.quantity.specs.declared.Deg.{Deg}
 use Rattle.quantity.specs.declared.Rad.{Rad}
@@ -14,7 +15,7 @@ use Rattle.quantity.specs.notions.Computed.{computed}
 use Rattle.quantity.specs.notions.Code.{ofFloat, ofPair, ofAnswer}
 use Rattle.quantity.specs.notions.Varies.{Varies}
 use Rattle.atmos.specs.declared.Arcmin.{Arcmin}
-use Rattle.brundelak_handed.specs.rules.Boundary.{numberOfDegrees, numberOfRadians, numberOfArcminutes, numbersOfPoint, numbersOfEcliptic}
+use Rattle.brundelak_handed.specs.rules.Boundary.{Told, numberOfDegrees, numberOfRadians, numberOfArcminutes, numbersOfPoint, numbersOfEcliptic}
 use Rattle.brundelak_handed.specs.notions.Wrong.{degreesLost, radiansRefusedAsOne, arcminutesInDegrees, pointTraded, eclipticTraded}
 
 abbrev degrees : Float → Answer Deg
@@ -71,3 +72,7 @@ ecliptic-numbers-varies = record { here = refl; there = refl; apart = apart (ofA
 pub ecliptic-traded-excluded : eclipticTraded (ecliptic one zero) ≢ numbersOfEcliptic (ecliptic one zero)
 unfolding computed numbersOfEcliptic
 ecliptic-traded-excluded = apart (ofAnswer ofPair) refl
+
+-- a NaN that a caller left, signalling and of the number 1, and a refused call leaves the quiet one
+pub nan-tidied-excluded : ¬ Told (refused 1) 1 0x7ff0000000000001 0x7ff8000000000000
+nan-tidied-excluded wrong = apart ofNumber refl (wrong .leaves)

@@ -1,7 +1,8 @@
--- What a C caller sees of an answer: the status n, and what stands afterwards where floats are lent.
+-- What a C caller sees of an answer: the status n, and what stands afterwards where floats are lent, as their bits.
 use Prim.Native.Nat.{ℕ}
 use mathlib.Core.Path.{_≡_}
 use lib.Ieee.{Float}
+use Rattle.double.specs.rules.Pattern.{patternOf}
 use Rattle.quantity.specs.declared.Deg.{Deg}
 use Rattle.quantity.specs.declared.Rad.{Rad}
 use Rattle.quantity.specs.declared.EqPoint.{EqPoint}
@@ -15,15 +16,20 @@ kept part (answered x) old = part x
 kept part (refused n) old = old
 
 -- of one float lent
-pub record Told (a : Answer Float) (n : ℕ) (old new : Float) : Type 0 where
+pub record Told (a : Answer Float) (n : ℕ) (old new : ℕ) : Type 0 where
   pub answers : n ≡ statusOf a
-  pub leaves : new ≡ kept (λ (x : Float). x) a old
+  pub leaves : new ≡ kept patternOf a old
+
+-- of one whose bits are answered
+pub record ToldBits (a : Answer ℕ) (n : ℕ) (old new : ℕ) : Type 0 where
+  pub answers : n ≡ statusOf a
+  pub leaves : new ≡ kept (λ (b : ℕ). b) a old
 
 -- of two
-pub record ToldTwo (a : Answer Pair) (n : ℕ) (old1 old2 new1 new2 : Float) : Type 0 where
+pub record ToldTwo (a : Answer Pair) (n : ℕ) (old1 old2 new1 new2 : ℕ) : Type 0 where
   pub answers : n ≡ statusOf a
-  pub leaves1 : new1 ≡ kept first a old1
-  pub leaves2 : new2 ≡ kept second a old2
+  pub leaves1 : new1 ≡ kept (λ (p : Pair). patternOf (first p)) a old1
+  pub leaves2 : new2 ≡ kept (λ (p : Pair). patternOf (second p)) a old2
 
 abbrev pub one-of : Triple → Float
 one-of (triple x y z) = x
@@ -35,11 +41,11 @@ abbrev pub three-of : Triple → Float
 three-of (triple x y z) = z
 
 -- of three
-pub record ToldThree (a : Answer Triple) (n : ℕ) (old1 old2 old3 new1 new2 new3 : Float) : Type 0 where
+pub record ToldThree (a : Answer Triple) (n : ℕ) (old1 old2 old3 new1 new2 new3 : ℕ) : Type 0 where
   pub answers : n ≡ statusOf a
-  pub leaves1 : new1 ≡ kept one-of a old1
-  pub leaves2 : new2 ≡ kept two-of a old2
-  pub leaves3 : new3 ≡ kept three-of a old3
+  pub leaves1 : new1 ≡ kept (λ (t : Triple). patternOf (one-of t)) a old1
+  pub leaves2 : new2 ≡ kept (λ (t : Triple). patternOf (two-of t)) a old2
+  pub leaves3 : new3 ≡ kept (λ (t : Triple). patternOf (three-of t)) a old3
 
 -- angles and points as their numbers
 unfoldable pub numberOfDegrees : Answer Deg → Answer Float

@@ -10,7 +10,8 @@ use Rattle.double.specs.laws.Apart.{apart}
 use Rattle.quantity.specs.declared.Shift.{Shift}
 use Rattle.quantity.specs.rules.Angle.{rad}
 use Rattle.quantity.specs.rules.Refusal.{epoch}
-use Rattle.quantity.specs.notions.Code.{ofDeg, ofRad, ofAnswer, ofFirst, unread}
+use Rattle.quantity.specs.declared.EqPoint.{EqPoint}
+use Rattle.quantity.specs.notions.Code.{ofFloat, ofDeg, ofRad, ofAnswer, ofFirst, unread}
 use Rattle.quantity.specs.notions.Stated.{r0, r1, earlier, later, origin, northPole}
 use Rattle.quantity.specs.notions.Varies.{Varies}
 use Rattle.edition.specs.declared.Edition.{Edition}
@@ -64,7 +65,7 @@ precessed-point-not-steep-excluded = apart ofNumber refl
 pub aberration-added-first-excluded : aberrationAddedFirst (record { asc = one; dec = zero }) (shift (neg one)) (shift (bits 0x3c30000000000000))
     ≢ moved (record { asc = one; dec = zero }) (shift (neg one)) (shift (bits 0x3c30000000000000))
 unfolding computed
-aberration-added-first-excluded = apart (ofAnswer ofFirst) refl
+aberration-added-first-excluded = apart (λ (p : EqPoint). ofFloat (p .asc)) refl
 
 pub angles-of-the-night-not-tested-excluded : anglesOfTheNightNotTested origin (still 3) ≢ reducedAt origin (still 3)
 unfolding computed

@@ -7,7 +7,7 @@ use Rattle.quantity.specs.declared.Rad.{Rad}
 use Rattle.quantity.specs.declared.EqPoint.{EqPoint}
 use Rattle.quantity.specs.declared.Shift.{Shift}
 use Rattle.quantity.specs.rules.Angle.{deg, rad}
-use Rattle.quantity.specs.rules.Answer.{Answer, answered, Pair, pair, unless}
+use Rattle.quantity.specs.rules.Answer.{Answer, answered, Pair, unless}
 use Rattle.quantity.specs.rules.Refusal.{lower, epoch, angleRefusal, steepRefusal}
 use Rattle.edition.specs.declared.Edition.{Edition}
 use Rattle.elementary.specs.rules.Direction.{directionOf}
@@ -15,14 +15,12 @@ use Rattle.helpers.specs.rules.Angle.{arc}
 use Rattle.precess.specs.rules.Days.{placeRefusal}
 use Rattle.precess.specs.rules.Equatorial.{eqTurnsOf}
 use Rattle.nutation_table.specs.rules.Day.{nutationOf}
-use Rattle.nutation.specs.rules.Point.{nutationAt}
 use Rattle.aberr_table.specs.rules.Velocity.{velocityOf}
-use Rattle.aberr.specs.rules.Star.{aberrAt}
 use Rattle.chain.specs.declared.Night.{Night}
 use Rattle.chain.specs.rules.Numbers.{n84381·448, n46·8150, n0·00059, n0·001813}
 use Rattle.chain.specs.rules.Obliquity.{meanObliquityOf, trueObliquity}
 use Rattle.chain.specs.rules.Chain.{pointRefusal}
-use Rattle.chain.specs.rules.Night.{nightFrom, nightOf, moved, reducedIn}
+use Rattle.chain.specs.rules.Night.{nightFrom, nightOf, movedUnder, pairOf, reducedIn}
 
 -- that of 2451545.0
 abbrev pub obliquityOfOneDay : Float → Rad
@@ -50,13 +48,13 @@ abbrev pub precessedPointNotSteep : EqPoint → ℕ
 precessedPointNotSteep p = lower (angleRefusal (rad (p .asc))) (steepRefusal (rad (p .asc)))
 
 -- in right ascension
-abbrev pub aberrationAddedFirst : EqPoint → Shift → Shift → Answer Pair
-aberrationAddedFirst p n a = answered (pair ((p .asc ⊕ a .asc .0) ⊕ n .asc .0) ((p .dec ⊕ n .dec .0) ⊕ a .dec .0))
+abbrev pub aberrationAddedFirst : EqPoint → Shift → Shift → EqPoint
+aberrationAddedFirst p n a = record { asc = (p .asc ⊕ a .asc .0) ⊕ n .asc .0; dec = (p .dec ⊕ n .dec .0) ⊕ a .dec .0 }
 
 abbrev pub anglesOfTheNightNotTested : EqPoint → Night → Answer Pair
 anglesOfTheNightNotTested p night =
     unless (pointRefusal p)
-    (moved p (nutationAt (directionOf p) (night .nutation) (night .«sin_oblq») (night .«cos_oblq»)) (aberrAt (directionOf p) (night .velocity)))
+    (answered (pairOf (movedUnder p (directionOf p) night)))
 
 -- the second day not tested
 abbrev pub placeNotRefused : Edition → Rad → Rad → Float → Float → Answer Pair

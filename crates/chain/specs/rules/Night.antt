@@ -31,15 +31,18 @@ nightOf edition day1 day2 =
     let n = nutationOf day2 in
     nightFrom (eqTurnsOf edition day1 day2) n (trueObliquity (meanObliquityOf day2) (n .oblq)) (velocityOf day2)
 
-unfoldable pub moved : EqPoint → Shift → Shift → Answer Pair
-moved p n a = answered (pair ((p .asc ⊕ n .asc .0) ⊕ a .asc .0) ((p .dec ⊕ n .dec .0) ⊕ a .dec .0))
+unfoldable pub moved : EqPoint → Shift → Shift → EqPoint
+moved p n a = record { asc = (p .asc ⊕ n .asc .0) ⊕ a .asc .0; dec = (p .dec ⊕ n .dec .0) ⊕ a .dec .0 }
 
 -- from its direction
-unfoldable pub movedUnder : EqPoint → Direction → Night → Answer Pair
+unfoldable pub movedUnder : EqPoint → Direction → Night → EqPoint
 movedUnder p d night = moved p (nutationAt d (night .nutation) (night .«sin_oblq») (night .«cos_oblq»)) (aberrAt d (night .velocity))
 
+abbrev pub pairOf : EqPoint → Pair
+pairOf p = pair (p .asc) (p .dec)
+
 unfoldable pub reducedAt : EqPoint → Night → Answer Pair
-reducedAt p night = unless (lower (pointRefusal p) (night .refusal)) (movedUnder p (directionOf p) night)
+reducedAt p night = unless (lower (pointRefusal p) (night .refusal)) (answered (pairOf (movedUnder p (directionOf p) night)))
 
 unfoldable pub reducedIn : Rad → Rad → Night → Answer Pair
 reducedIn asc dec night = then (turnedIn asc dec (night .turns)) (λ (p : Pair). reducedAt (point p) night)

@@ -15,6 +15,9 @@ use Rattle.quantity.specs.declared.EqPoint.{EqPoint}
 use Rattle.quantity.specs.declared.EclPoint.{EclPoint}
 use Rattle.quantity.specs.rules.Answer.{Answer, answered, refused, Pair, Triple, shown, shownTwo, shownThree, shownDegrees, shownRadians, shownPoint, with}
 use Rattle.quantity.specs.laws.Answer.{carried, unique, shown-loses-nothing, shown-two-loses-nothing, shown-three-loses-nothing, shown-degrees-loses-nothing, shown-radians-loses-nothing, shown-point-loses-nothing}
+use Rattle.root.specs.declared.Bits.{Bits}
+use Rattle.root.specs.rules.Bits.{shownBits}
+use Rattle.root.specs.laws.Bits.{shown-bits-loses-nothing}
 use Rattle.coords_ecl.specs.declared.Ecliptic.{Ecliptic}
 use Rattle.coords_ecl.specs.rules.Point.{shownEcliptic}
 use Rattle.coords_ecl.specs.laws.Point.{shown-ecliptic-loses-nothing}
@@ -27,6 +30,9 @@ use Rattle.atmos.specs.laws.Arcminutes.{shown-arcminutes-loses-nothing}
 
 pub one-answer : {a : Answer Float} (r s : One) → shown r ≡ a → shown s ≡ a → r ≡ s
 one-answer = unique shown shown-loses-nothing
+
+pub one-bits : {a : Answer ℕ} (r s : Bits) → shownBits r ≡ a → shownBits s ≡ a → r ≡ s
+one-bits = unique shownBits shown-bits-loses-nothing
 
 pub one-pair : {a : Answer Pair} (r s : Two) → shownTwo r ≡ a → shownTwo s ≡ a → r ≡ s
 one-pair = unique shownTwo shown-two-loses-nothing

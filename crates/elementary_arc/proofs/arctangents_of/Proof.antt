@@ -1,5 +1,6 @@
 -- `elementary_arc::arctangents_of` meets its contract: each lane's work is that of its own two numbers. Assumes nothing.
 use Rattle.double.specs.laws.Calls.{asks-nothing}
+use Rattle.quantity.specs.rules.Angle.{rad}
 use Rattle.elementary_arc.specs.rules.Level.{arctangentsOf}
 use Rattle.elementary_arc.specs.laws.Level.{level-arctangent}
 use Rattle.elementary_arc.proofs.arctangents_of.Statement.{statement}
@@ -24,7 +25,7 @@ returns c =
     let a = c13 .before .args in
     let one = level-arctangent (a .y) (a .x) (c13 .size .ensures) (c12 .size2 .ensures) (c9 .lesser-over .ensures) (c7 .reduced .ensures) (c6 .arctangent-series .ensures) (c3 .base-from .ensures) (c2 .signed .ensures) in
     let two = level-arctangent (a .z) (a .w) (c11 .size3 .ensures) (c10 .size4 .ensures) (c8 .lesser-over2 .ensures) (c5 .reduced2 .ensures) (c4 .arctangent-series2 .ensures) (c1 .base-from2 .ensures) (c .signed2 .ensures) in
-    λ i. record { first = one i; second = two i }
+    λ i. record { first = rad (one i); second = rad (two i) }
 
 pub arctangents-of-spec : {M : Type 1} → statement M
 arctangents-of-spec =

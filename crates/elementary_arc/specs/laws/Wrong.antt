@@ -4,13 +4,13 @@ use mathlib.Core.Path.{refl}
 use mathlib.Core.Bool.{false}
 use std.Logic.{_≢_}
 use lib.Ieee.{inf, neg}
-use Rattle.double.specs.declared.Lanes.{Lanes}
 use Rattle.double.specs.rules.Operations.{bits, zero, half, one, two}
 use Rattle.double.specs.notions.Stated.{minusZero, pastOne}
 use Rattle.double.specs.laws.Apart.{apart}
 use Rattle.quantity.specs.notions.Code.{ofFloat, ofRad, ofAnswer}
 use Rattle.quantity.specs.notions.Varies.{Varies}
 use Rattle.elementary_arc.specs.rules.Arctangent.{arctangentRule}
+use Rattle.elementary_arc.specs.declared.Arctangents.{Arctangents}
 use Rattle.elementary_arc.specs.rules.Level.{lesserOver, reduced, arctangentsOf}
 use Rattle.elementary_arc.specs.rules.Arcsine.{arcsineRule}
 use Rattle.elementary_arc.specs.notions.Computed.{computed}
@@ -77,7 +77,7 @@ arcsine-root-regrouped-excluded = apart (ofAnswer ofRad) refl
 
 pub arctangents-traded-excluded : arctangentsTraded one one zero one ≢ arctangentsOf one one zero one
 unfolding computed
-arctangents-traded-excluded = apart (λ (l : Lanes). ofFloat (l .first)) refl
+arctangents-traded-excluded = apart (λ (a : Arctangents). ofRad (a .first)) refl
 
 pub first-over-excluded : firstOver two one ≢ lesserOver two one
 unfolding computed

@@ -1,7 +1,6 @@
 -- Wrong variants of arctangent and arcsine.
 use lib.Ieee.{Float, eq, lt}
 use mathlib.Core.Bool.{Bool, not, _&&_, cond}
-use Rattle.double.specs.declared.Lanes.{Lanes}
 use Rattle.double.specs.rules.Operations.{bits, zero, one, _⊕_, _⊖_, _⊗_, _⊘_}
 use Rattle.double.specs.rules.Sign.{bearsMinus, negatedIf, size}
 use Rattle.quantity.specs.declared.Rad.{Rad}
@@ -10,6 +9,7 @@ use Rattle.quantity.specs.rules.Answer.{Answer, answered, refused, unless, then
 use Rattle.quantity.specs.rules.Refusal.{numberRefusal}
 use Rattle.root.specs.rules.Root.{rootRule}
 use Rattle.elementary_arc.specs.rules.Arctangent.{base, turned, arctangentOf, bothZero, arctangentIn, arctangentRefusal}
+use Rattle.elementary_arc.specs.declared.Arctangents.{Arctangents}
 use Rattle.elementary_arc.specs.rules.Level.{arctangentsOf}
 use Rattle.elementary_arc.specs.rules.Arcsine.{arcsineIn}
 
@@ -79,7 +79,7 @@ abbrev pub arcsineLetsInfinityIn : Float → Answer Rad
 arcsineLetsInfinityIn s = arcsineIn s
 
 -- two arctangents, each in the other's lane
-abbrev pub arctangentsTraded : Float → Float → Float → Float → Lanes
+abbrev pub arctangentsTraded : Float → Float → Float → Float → Arctangents
 arctangentsTraded y x z w = arctangentsOf z w y x
 
 -- always the first over the second

@@ -2,10 +2,10 @@
 -- `level-base` in laws/Level says that this is the base.
 use mathlib.Core.Bool.{cond}
 use lib.Ieee.{Float, le}
-use Rattle.double.specs.declared.Lanes.{Lanes}
 use Rattle.double.specs.rules.Operations.{one, _⊕_, _⊖_, _⊘_}
 use Rattle.double.specs.rules.Sign.{bearsMinus, negatedIf, size}
 use Rattle.quantity.specs.rules.Angle.{HALF, QUARTER}
+use Rattle.elementary_arc.specs.declared.Arctangents.{Arctangents}
 use Rattle.elementary_arc.specs.rules.Arctangent.{near, turned, arctangentOf}
 
 -- the lesser of two sizes over the greater
@@ -25,5 +25,5 @@ abbrev pub signed : Float → Float → Float → Float
 signed y x b = negatedIf (bearsMinus y) (size (turned (bearsMinus x) b))
 
 -- two arctangents side by side, each what it is alone
-unfoldable pub arctangentsOf : Float → Float → Float → Float → Lanes
-arctangentsOf y x z w = record { first = arctangentOf y x .0; second = arctangentOf z w .0 }
+unfoldable pub arctangentsOf : Float → Float → Float → Float → Arctangents
+arctangentsOf y x z w = record { first = arctangentOf y x; second = arctangentOf z w }

@@ -1,12 +1,12 @@
 -- `precess::placed_two` meets its contract: each lane is its own direction's place. Assumes nothing.
 use Rattle.double.specs.laws.Calls.{asks-nothing}
 use Rattle.elementary_arc.specs.rules.Level.{arctangentsOf}
-use Rattle.precess.specs.laws.Arcs.{placed-by-arcs}
+use Rattle.precess.specs.rules.Two.{placedTwo}
 use Rattle.precess.proofs.placed_two.Statement.{statement}
 use Rattle.precess.proofs.placed_two.Tie as tie
 
 returns : tie.Need-returns
-unfolding arctangentsOf
+unfolding arctangentsOf placedTwo
 returns c =
     let c1 = c .before in
     let c6 = c1 .before .before .before .before .before in
@@ -14,10 +14,8 @@ returns c =
     let c8 = c7 .before in
     let c9 = c8 .before in
     let c10 = c9 .before in
-    let c11 = c10 .before in (
-      rw (c1 .arcs-refusal .ensures, c6 .arctangents-of2 .ensures, c7 .arctangents-of .ensures, c9 .arcsine-root .ensures, c11 .arcs-of .ensures) (placed-by-arcs _ _),
-      rw (c .arcs-refusal2 .ensures, c6 .arctangents-of2 .ensures, c7 .arctangents-of .ensures, c8 .arcsine-root2 .ensures, c10 .arcs-of2 .ensures) (placed-by-arcs _ _),
-    )
+    let c11 = c10 .before in
+    rw (c .arcs-refusal2 .ensures, c1 .arcs-refusal .ensures, c6 .arctangents-of2 .ensures, c7 .arctangents-of .ensures, c8 .arcsine-root2 .ensures, c9 .arcsine-root .ensures, c10 .arcs-of2 .ensures, c11 .arcs-of .ensures)
 
 pub placed-two-spec : {M : Type 1} → statement M
 placed-two-spec =

@@ -8,7 +8,7 @@ use Rattle.double.specs.rules.Operations.{one, _⊕_}
 use Rattle.double.specs.rules.Sign.{size}
 use Rattle.double.specs.laws.Tests.{holds, fails}
 use Rattle.quantity.specs.declared.Rad.{Rad}
-use Rattle.quantity.specs.rules.Answer.{Answer, answered, refused, Pair, pair, unless, then, plus, both}
+use Rattle.quantity.specs.rules.Answer.{Answer, answered, refused, Pair, pair, unless, then, plus, both, firstPlace, secondPlace}
 use Rattle.root.specs.rules.Root.{rootOf}
 use Rattle.elementary_arc.specs.rules.Arctangent.{bothZero, arctangentOf, arctangentIn}
 use Rattle.elementary_arc.specs.rules.Arcsine.{square, arcsineIn}
@@ -16,8 +16,9 @@ use Rattle.elementary_arc.specs.laws.Arcsine.{arcsine-answered, arcsine-of-neit
 use Rattle.elementary.specs.declared.Direction.{Direction}
 use Rattle.precess.specs.declared.EqTurns.{EqTurns}
 use Rattle.precess.specs.declared.Arcs.{Arcs}
-use Rattle.precess.specs.rules.Equatorial.{arcsOf, placed}
+use Rattle.precess.specs.rules.Equatorial.{arcsOf, placed, turnedIn}
 use Rattle.precess.specs.rules.Arcs.{arcsRefusal}
+use Rattle.precess.specs.rules.Two.{turnedTwo}
 
 -- the place of arcs that are not refused
 abbrev pub arcsPlace : Arcs → Rad → Pair
@@ -49,3 +50,13 @@ joined a zeta = by-case (bothZero (a .up) (a .across))
 pub placed-by-arcs : (d : Direction) (turns : EqTurns) → unless (arcsRefusal (arcsOf d turns)) (answered (arcsPlace (arcsOf d turns) (turns .zeta))) ≡ placed d turns
 unfolding placed
 placed-by-arcs d turns = joined (arcsOf d turns) (turns .zeta)
+
+-- so each of two places side by side is the one that it is alone
+module _ (asc dec asc2 dec2 : Rad) (turns : EqTurns) where
+  pub first-turned : firstPlace (turnedTwo asc dec asc2 dec2 turns) ≡ turnedIn asc dec turns
+  unfolding turnedTwo turnedIn
+  first-turned = placed-by-arcs _ turns
+
+  pub second-turned : secondPlace (turnedTwo asc dec asc2 dec2 turns) ≡ turnedIn asc2 dec2 turns
+  unfolding turnedTwo turnedIn
+  second-turned = placed-by-arcs _ turns

@@ -16,14 +16,14 @@ use Rattle.edition.specs.declared.Edition.the-variants.{Crate}
 use Rattle.list.specs.rules.Stars.{mostStars, countOf}
 use Rattle.batch.specs.declared.Batched.{Batched}
 use Rattle.batch.specs.rules.Batch.{batchRefusal, Batch}
-use Rattle.batch.specs.laws.Batch.{status-at, asc-at, dec-at}
+use Rattle.batch.specs.laws.Batch.{status-at, asc-read, dec-read}
 use Rattle.text_number.specs.rules.Refused.{refusedText}
 use Rattle.text_report.specs.rules.Report.{texts}
 use Rattle.text_report.specs.laws.Report.{texts-same}
 use Rattle.text_plan.specs.rules.Plan.{lentLine, doneText, starLine, planText}
 
-module _ {s : List ℕ} {day1 day2 : Float} {status : List ℕ} {asc dec : List Float}
-    {r : Batched} {status′ : List ℕ} {asc′ dec′ : List Float}
+module _ {s : List ℕ} {day1 day2 : Float} {status asc dec : List ℕ}
+    {r : Batched} {status′ asc′ dec′ : List ℕ}
     (b : Batch Crate s day1 day2 status asc dec r status′ asc′ dec′) (sidereal : Rad) (place : GeographPoint) (alt : Rad) where
   abbrev number : ℕ
   number = batchRefusal s day1 day2 (length status) (length asc) (length dec)
@@ -35,7 +35,7 @@ module _ {s : List ℕ} {day1 day2 : Float} {status : List ℕ} {asc dec : List 
       → texts (countOf s) (lentLine s status′ asc′ dec′ sidereal place alt) ≡ texts (countOf s) (starLine s day1 day2 sidereal place alt)
   accepted-text e =
       texts-same (countOf s) (lentLine s status′ asc′ dec′ sidereal place alt) (starLine s day1 day2 sidereal place alt)
-      (λ (i : ℕ) (h : i < countOf s). simp (status-at b e i h, asc-at b e i h, dec-at b e i h))
+      (λ (i : ℕ) (h : i < countOf s). simp (status-at b e i h, asc-read b e i h, dec-read b e i h))
 
   done-text : doneText s status′ asc′ dec′ (r .refusal) sidereal place alt
       ≡ cond (eqb all 0) (texts (countOf s) (starLine s day1 day2 sidereal place alt)) (refusedText all)

@@ -26,12 +26,12 @@ plannedOf status asc dec sidereal place alt =
     unless status (riseCulmSetRule (record { asc = asc .0; dec = dec .0 }) sidereal place alt)
 
 -- star i, whose status and angles stand in three slices
-abbrev pub lentLine : List ℕ → List ℕ → List Float → List Float → Rad → GeographPoint → Rad → ℕ → List ℕ
+abbrev pub lentLine : List ℕ → List ℕ → List ℕ → List ℕ → Rad → GeographPoint → Rad → ℕ → List ℕ
 lentLine s status asc dec sidereal place alt i =
     planLine (nth s i .number) (plannedOf (getD status i 0) (angleAt asc i) (angleAt dec i) sidereal place alt)
 
 -- what a call of the batch with such a refusal left
-unfoldable pub doneText : List ℕ → List ℕ → List Float → List Float → ℕ → Rad → GeographPoint → Rad → List ℕ
+unfoldable pub doneText : List ℕ → List ℕ → List ℕ → List ℕ → ℕ → Rad → GeographPoint → Rad → List ℕ
 doneText s status asc dec refusal sidereal place alt =
     let no = lower refusal (observerRefusal sidereal place alt) in
     cond (eqb no 0) (texts (countOf s) (lentLine s status asc dec sidereal place alt)) (refusedText no)

@@ -13,7 +13,7 @@ use Rattle.list.specs.rules.Stars.{mostStars, countOf}
 use Rattle.list_tally.specs.declared.Tally.{Tally}
 use Rattle.batch.specs.declared.Batched.{Batched}
 use Rattle.batch.specs.rules.Batch.{batchRefusal, Batch}
-use Rattle.batch.specs.laws.Batch.{tally-is, status-at, asc-at, dec-at}
+use Rattle.batch.specs.laws.Batch.{tally-is, status-at, asc-read, dec-read}
 use Rattle.text_number.specs.rules.Refused.{refusedText}
 use Rattle.text_report.specs.rules.Report.{texts, lentLine, tallyText, editionText, doneText, starText, starsText, reportOf}
 
@@ -24,8 +24,8 @@ texts-same (suc n) f g h =
     ap (λ (t : List ℕ). t ++ f n) (texts-same n f g (λ (i : ℕ) (k : i < n). h i (omega arith)))
     ∙ ap (λ (t : List ℕ). texts n g ++ t) (h n (omega arith))
 
-module _ {edition : Edition} {s : List ℕ} {day1 day2 : Float} {status : List ℕ} {asc dec : List Float}
-    {r : Batched} {status′ : List ℕ} {asc′ dec′ : List Float}
+module _ {edition : Edition} {s : List ℕ} {day1 day2 : Float} {status asc dec : List ℕ}
+    {r : Batched} {status′ asc′ dec′ : List ℕ}
     (b : Batch edition s day1 day2 status asc dec r status′ asc′ dec′) where
   abbrev number : ℕ
   number = batchRefusal s day1 day2 (length status) (length asc) (length dec)
@@ -37,7 +37,7 @@ module _ {edition : Edition} {s : List ℕ} {day1 day2 : Float} {status : List �
   accepted-text e =
       ap (λ (t : List ℕ). editionText edition ++ t ++ tallyText (r .tally))
       (texts-same (countOf s) (lentLine s status′ asc′ dec′) (starText edition s day1 day2)
-      (λ (i : ℕ) (h : i < countOf s). simp (status-at b e i h, asc-at b e i h, dec-at b e i h)))
+      (λ (i : ℕ) (h : i < countOf s). simp (status-at b e i h, asc-read b e i h, dec-read b e i h)))
       ∙ ap (λ (t : Tally). editionText edition ++ texts (countOf s) (starText edition s day1 day2) ++ tallyText t) (tally-is b e)
 
   done-text : doneText edition s status′ asc′ dec′ r ≡ cond (eqb number 0) (starsText edition s day1 day2) (refusedText number)

@@ -7,7 +7,7 @@ use lib.Dec.{eqb}
 use lib.Ieee.{Float}
 use lib.ListN.{getD}
 use Rattle.quantity.specs.rules.Answer.{statusOf}
-use Rattle.double.specs.rules.Operations.{zero as none}
+use Rattle.double.specs.rules.Operations.{bits}
 use Rattle.edition.specs.declared.Edition.{Edition}
 use Rattle.edition.specs.rules.Edition.{chosen}
 use Rattle.list.specs.rules.Stars.{mostStars, countOf, nth}
@@ -31,15 +31,15 @@ abbrev pub texts : ℕ → (ℕ → List ℕ) → List ℕ
 texts zero f = []
 texts (suc n) f = texts n f ++ f n
 
--- a number as radians, and number i of a slice of them
+-- a number as radians, and number i of a slice of their bits
 abbrev pub asRadians : Float → Rad
 asRadians x = record { 0 = x }
 
-abbrev pub angleAt : List Float → ℕ → Rad
-angleAt s i = asRadians (getD s i none)
+abbrev pub angleAt : List ℕ → ℕ → Rad
+angleAt s i = asRadians (bits (getD s i 0))
 
 -- star i, whose status and angles stand in three slices
-abbrev pub lentLine : List ℕ → List ℕ → List Float → List Float → ℕ → List ℕ
+abbrev pub lentLine : List ℕ → List ℕ → List ℕ → List ℕ → ℕ → List ℕ
 lentLine s status asc dec i = lineOf (nth s i .number) (getD status i 0) (angleAt asc i) (angleAt dec i)
 
 -- the count of each status from 0 to the highestStatus known
@@ -57,7 +57,7 @@ unfoldable pub editionText : Edition → List ℕ
 editionText edition = chosen edition [] (ascii "edition published" ++ (lineEnd ∷ []))
 
 -- what a call of the batch answered and left
-unfoldable pub doneText : Edition → List ℕ → List ℕ → List Float → List Float → Batched → List ℕ
+unfoldable pub doneText : Edition → List ℕ → List ℕ → List ℕ → List ℕ → Batched → List ℕ
 doneText edition s status asc dec done =
     cond (eqb (done .refusal) 0)
     (editionText edition ++ texts (countOf s) (lentLine s status asc dec) ++ tallyText (done .tally))

@@ -11,14 +11,14 @@ use Rattle.edition.specs.declared.Edition.{Edition}
 use Rattle.list.specs.rules.Stars.{mostStars, countOf}
 use Rattle.batch.specs.declared.Batched.{Batched}
 use Rattle.batch.specs.rules.Batch.{batchRefusal, Batch}
-use Rattle.batch.specs.laws.Batch.{status-at, asc-at, dec-at}
+use Rattle.batch.specs.laws.Batch.{status-at, asc-read, dec-read}
 use Rattle.text_report.specs.rules.Report.{texts, editionText}
 use Rattle.text_report.specs.laws.Report.{texts-same}
 use Rattle.text_refusal.specs.rules.Refusal.{refusalText}
 use Rattle.text_table.specs.rules.Table.{headingText, lentRow, doneText, starRow, tableOf}
 
-module _ {edition : Edition} {s : List ℕ} {day1 day2 : Float} {status : List ℕ} {asc dec : List Float}
-    {r : Batched} {status′ : List ℕ} {asc′ dec′ : List Float}
+module _ {edition : Edition} {s : List ℕ} {day1 day2 : Float} {status asc dec : List ℕ}
+    {r : Batched} {status′ asc′ dec′ : List ℕ}
     (b : Batch edition s day1 day2 status asc dec r status′ asc′ dec′) where
   abbrev number : ℕ
   number = batchRefusal s day1 day2 (length status) (length asc) (length dec)
@@ -31,7 +31,7 @@ module _ {edition : Edition} {s : List ℕ} {day1 day2 : Float} {status : List �
   accepted-text e =
       ap (λ (t : List ℕ). editionText edition ++ (headingText ++ t))
       (texts-same (countOf s) (lentRow s status′ asc′ dec′) (starRow edition s day1 day2)
-      (λ (i : ℕ) (h : i < countOf s). simp (status-at b e i h, asc-at b e i h, dec-at b e i h)))
+      (λ (i : ℕ) (h : i < countOf s). simp (status-at b e i h, asc-read b e i h, dec-read b e i h)))
 
   done-text : doneText edition s status′ asc′ dec′ (r .refusal)
       ≡ cond (eqb number 0) (tableBy (starRow edition s day1 day2)) (refusalText number)

@@ -21,11 +21,11 @@ abbrev pub headingText : List ℕ
 headingText = ascii "      star  right ascension  declination\n             h  m  s           d  '  \"\n"
 
 -- star i, whose status and angles stand in three slices
-abbrev pub lentRow : List ℕ → List ℕ → List Float → List Float → ℕ → List ℕ
+abbrev pub lentRow : List ℕ → List ℕ → List ℕ → List ℕ → ℕ → List ℕ
 lentRow s status asc dec i = rowOf (nth s i .number) (getD status i 0) (angleAt asc i) (angleAt dec i)
 
 -- what a call of the batch with such a refusal left
-unfoldable pub doneText : Edition → List ℕ → List ℕ → List Float → List Float → ℕ → List ℕ
+unfoldable pub doneText : Edition → List ℕ → List ℕ → List ℕ → List ℕ → ℕ → List ℕ
 doneText edition s status asc dec refusal =
     cond (eqb refusal 0) (editionText edition ++ (headingText ++ texts (countOf s) (lentRow s status asc dec))) (refusalText refusal)
 
