@@ -1,3 +1,4 @@
 -- What is proved of rise, culmination and set, for callers to cite. Theorems only.
 pub mod Limits
+pub mod Exactly
 pub mod Wrong

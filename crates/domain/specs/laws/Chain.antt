@@ -1,9 +1,12 @@
 -- The chain on arguments that are not refused: the steps at the precessed point refuse nothing but its declination, by 4, so that the
--- chain meets 14, 7 and 4 only; and each answer is finite. Assumes nothing.
+-- chain meets 14, 7 and 4 only, 14 exactly where precession does; and each answer is finite. Assumes nothing.
 use Prim.Native.Nat.{ℕ}
-use mathlib.Core.Path.{_≡_, refl, sym, _∙_, subst}
-use mathlib.Core.Logic.{_⊎_, inl, inr}
+use mathlib.Core.Path.{_≡_, refl, sym, ap, _∙_, subst}
+use mathlib.Core.Logic.{_↔_, Iff·trans, _⊎_, inl, inr}
 use mathlib.Core.Bool.{Bool, true, false, cond}
+use native.Mathlib.Omega.{arith}
+use std.Logic.{_≢_}
+use lib.Dec.{T}
 use lib.Ieee.{Float, neg, add, sub, mul, div, le, lt, ofBits, round}
 use lib.Ieee.Bits.{is-true}
 use Rattle.double.specs.rules.Sign.{size, isFinite}
@@ -18,6 +21,7 @@ use Rattle.quantity.specs.rules.Answer.{Answer, answered, refused, Pair, pair, 
 use Rattle.quantity.specs.rules.Refusal.{dayRefusal, farthest, steepest, angleRefusal, latitudeRefusal, steepRefusal}
 use Rattle.quantity.specs.laws.Answer.{then-unless}
 use Rattle.quantity.specs.laws.Refusal.{past-none}
+use Rattle.quantity.specs.laws.Steps.{refused-not-answered, same-number}
 use Rattle.edition.specs.declared.Edition.{Edition}
 use Rattle.elementary.specs.rules.Sine.{farthestAlone}
 use Rattle.elementary.specs.laws.Accepted.{answered-unless}
@@ -35,8 +39,9 @@ use Rattle.domain_accepted.specs.notions.Outcome.{Outcome, FourSevenOrFourteen}
 use Rattle.domain_accepted.specs.notions.Within.{Within, IsPlace, BothFinite, BothWithin}
 use Rattle.domain_accepted.specs.laws.Outcome.{outcome-answered, outcome-then}
 use Rattle.domain_accepted.specs.laws.Near.{within, near-far}
+use Rattle.domain.specs.notions.Turns.{noDirection}
 use Rattle.domain.specs.laws.Days.{century-within, second-accepted, place-accepted}
-use Rattle.domain.specs.laws.Equatorial.{precess-eq-coords-answers, precess-eq-coords-refuses}
+use Rattle.domain.specs.laws.Equatorial.{precess-eq-coords-answers, precess-eq-coords-refuses, precess-eq-coords-fourteen}
 use Rattle.domain.specs.laws.NutationSum.{nutation-outcome, nutation-answers, nutation-refuses}
 use Rattle.domain.specs.laws.NutationPoint.{nutation-in-eq-coords-answers, nutation-in-eq-coords-refuses}
 use Rattle.domain.specs.laws.StarAberration.{stell-aberr-in-eq-coords-answers, stell-aberr-in-eq-coords-refuses}
@@ -90,13 +95,23 @@ module _ (day : Float) (accepted : dayRefusal day ≡ 0) where
   obliquity-accepted =
       angle-near (trueObliquity (meanObliquityOf day) (nutationOf day .oblq)) (obliquity-within day (nutationOf day .oblq) accepted nutation-small)
 
+-- what goes on from an answer, and meets no 14 there
+fourteen-then : {A B : Type 0} (a : Answer A) (f : A → Answer B) → ((v : A) → a ≡ answered v → f v ≢ refused 14)
+    → then a f ≡ refused 14 ↔ a ≡ refused 14
+unfolding then
+fourteen-then (answered v) f none = (λ e. absurd (none v refl e), λ e. absurd (refused-not-answered (sym e)))
+fourteen-then (refused n) f none = (λ e. ap refused (same-number e), λ e. ap refused (same-number e))
+
 refused-four : (k : ℕ) (a : Answer Pair) (n : ℕ) → k ≡ 4 → unless k a ≡ refused n → n ≡ 4
 refused-four k a n f e = same (subst (λ (k : ℕ). unless k a ≡ refused n) f e)
   where
     same : _≡_ {A = Answer Pair} (refused 4) (refused n) → n ≡ 4
     same e = cc
 
--- ---- the steps at the precessed point p, for nutation n
+-- ---- the steps at the precessed point p, for nutation n, which meet 4 only
+
+abbrev Four : ℕ → Type 0
+Four n = n ≡ 4
 
 module _ (p n : Pair) (day : Float) (P : IsPlace p) (N : BothWithin 1 n) (D : dayRefusal day ≡ 0) where
   abbrev oblq : Rad
@@ -121,7 +136,7 @@ module _ (p n : Pair) (day : Float) (P : IsPlace p) (N : BothWithin 1 n) (D : da
   aberr-cases =
       elim (steep-cases (rad (second p)) (P .1)) [ inl z ↦ inl (rw (asc-none, z, D)) | inr f ↦ inr (rw (asc-none, f, D)) ]
 
-  nutation-step : Outcome (BothWithin 4194304) FourSevenOrFourteen (nutationInEqCoordsRule (point p) (rad (first n)) (rad (second n)) oblq)
+  nutation-step : Outcome (BothWithin 4194304) Four (nutationInEqCoordsRule (point p) (rad (first n)) (rad (second n)) oblq)
   unfolding nutationInEqCoordsRule
   nutation-step =
       let long = rad (first n) in
@@ -132,11 +147,11 @@ module _ (p n : Pair) (day : Float) (P : IsPlace p) (N : BothWithin 1 n) (D : da
             λ k e.
             elim nutation-cases [
               | inl z ↦ absurd (nutation-in-eq-coords-refuses (point p) long lat oblq z k e)
-              | inr f ↦ inl (refused-four (nutationInRefusal (point p) long lat oblq) (answered (pair (nutationInEqCoordsIn (point p) long lat oblq .asc .0) (nutationInEqCoordsIn (point p) long lat oblq .dec .0))) k f e)
+              | inr f ↦ refused-four (nutationInRefusal (point p) long lat oblq) (answered (pair (nutationInEqCoordsIn (point p) long lat oblq .asc .0) (nutationInEqCoordsIn (point p) long lat oblq .dec .0))) k f e
             ];
       }
 
-  aberr-step : Outcome (BothWithin 8) FourSevenOrFourteen (stellAberrInEqCoordsRule (point p) day)
+  aberr-step : Outcome (BothWithin 8) Four (stellAberrInEqCoordsRule (point p) day)
   unfolding stellAberrInEqCoordsRule
   aberr-step =
       record {
@@ -145,11 +160,11 @@ module _ (p n : Pair) (day : Float) (P : IsPlace p) (N : BothWithin 1 n) (D : da
             λ k e.
             elim aberr-cases [
               | inl z ↦ absurd (stell-aberr-in-eq-coords-refuses (point p) day z k e)
-              | inr f ↦ inl (refused-four (stellAberrRefusal (point p) day) (answered (pair (stellAberrInEqCoordsIn (point p) day .asc .0) (stellAberrInEqCoordsIn (point p) day .dec .0))) k f e)
+              | inr f ↦ refused-four (stellAberrRefusal (point p) day) (answered (pair (stellAberrInEqCoordsIn (point p) day .asc .0) (stellAberrInEqCoordsIn (point p) day .dec .0))) k f e
             ];
       }
 
-  from-outcome : Outcome BothFinite FourSevenOrFourteen (fromPoint p n day)
+  from-outcome : Outcome BothFinite Four (fromPoint p n day)
   unfolding isFinite le neg add ofBits round
   from-outcome =
       outcome-then (λ (s : Pair). then (stellAberrInEqCoordsRule (point p) day) (λ (a : Pair). answered (sum p s a)))
@@ -164,31 +179,55 @@ module _ (p n : Pair) (day : Float) (P : IsPlace p) (N : BothWithin 1 n) (D : da
 -- ---- the chain
 
 module _ (edition : Edition) (asc dec : Rad) (day1 day2 : Float) where
+  -- the steps after precession
+  abbrev after : Pair → Answer Pair
+  after p = then (nutationRule day2) (λ (n : Pair). fromPoint p n day2)
+
+  after-outcome : dayRefusal day2 ≡ 0 → (p : Pair) → IsPlace p → Outcome BothFinite Four (after p)
+  after-outcome D p P =
+      let nutated : Outcome (BothWithin 1) Four (nutationRule day2) = record {
+        answers = nutation-answers day2;
+        refuses = λ n e. absurd (nutation-refuses day2 D n e);
+      } in
+      outcome-then (λ (n : Pair). fromPoint p n day2) (λ n N. from-outcome p n day2 P N D) (nutationRule day2) nutated
+
+  second-day : placeRefusal asc dec day1 day2 ≡ 0 → dayRefusal day2 ≡ 0
+  second-day none = second-accepted day1 day2 (place-accepted asc dec day1 day2 none .2)
+
   outcome : placeRefusal asc dec day1 day2 ≡ 0 → Outcome BothFinite FourSevenOrFourteen (chainRule edition asc dec day1 day2)
   unfolding chainRule
   outcome none =
-      let D = second-accepted day1 day2 (place-accepted asc dec day1 day2 none .2) in
       let precessed : Outcome IsPlace FourSevenOrFourteen (precessEqCoordsRule edition asc dec day1 day2) = record {
         answers = precess-eq-coords-answers edition asc dec day1 day2;
         refuses = λ n e. inr (precess-eq-coords-refuses edition asc dec day1 day2 none n e);
       } in
-      let nutated : Outcome (BothWithin 1) FourSevenOrFourteen (nutationRule day2) = record {
-        answers = nutation-answers day2;
-        refuses = λ n e. absurd (nutation-refuses day2 D n e);
-      } in
-      outcome-then (λ (p : Pair). then (nutationRule day2) (λ (n : Pair). fromPoint p n day2))
-      (λ p P. outcome-then (λ (n : Pair). fromPoint p n day2) (λ n N. from-outcome p n day2 P N D) (nutationRule day2) nutated)
+      outcome-then after
+      (λ p P.
+      let o = after-outcome (second-day none) p P in
+      record { answers = o .answers; refuses = λ n e. inl (o .refuses n e) })
       (precessEqCoordsRule edition asc dec day1 day2) precessed
 
   -- 14 or 7 in precession, or 4 for the precessed declination
   pub chain-refuses : placeRefusal asc dec day1 day2 ≡ 0 → (n : ℕ) → chainRule edition asc dec day1 day2 ≡ refused n → FourSevenOrFourteen n
   chain-refuses none = outcome none .refuses
 
+  -- 14 exactly where precession meets it
+  pub chain-fourteen : placeRefusal asc dec day1 day2 ≡ 0
+      → chainRule edition asc dec day1 day2 ≡ refused 14 ↔ T (noDirection asc dec (eqTurnsOf edition day1 day2))
+  unfolding chainRule
+  chain-fourteen none =
+      Iff·trans
+      (fourteen-then (precessEqCoordsRule edition asc dec day1 day2) after
+      (λ p i e. not-four (after-outcome (second-day none) p (precess-eq-coords-answers edition asc dec day1 day2 p i) .refuses 14 e)))
+      (precess-eq-coords-fourteen edition asc dec day1 day2 none)
+    where
+      not-four : _≡_ {A = ℕ} 14 4 → ⊥
+      not-four h = omega arith
+
   pub chain-finite : (v : Pair) → chainRule edition asc dec day1 day2 ≡ answered v → BothFinite v
   unfolding chainRule
   chain-finite v e =
-      let f : Pair → Answer Pair = λ (p : Pair). then (nutationRule day2) (λ (n : Pair). fromPoint p n day2) in
       let n = placeRefusal asc dec day1 day2 in
       let work = turnedIn asc dec (eqTurnsOf edition day1 day2) in
-      let none = answered-unless n (then work f) v (sym (then-unless n work f) ∙ e) .0 in
+      let none = answered-unless n (then work after) v (sym (then-unless n work after) ∙ e) .0 in
       outcome none .answers v e

@@ -1,23 +1,27 @@
 -- Precession of equatorial coordinates, by either function, on arguments that are not refused: each angle that is worked out stays
--- far below 400000.0, each answer is finite, and the work meets 14 and 7 only. Assumes nothing.
+-- far below 400000.0, each answer is finite, and the work meets 14 and 7 only: 14 exactly where both arguments of the arctangent are
+-- zero, which is taken before the arcsine. Assumes nothing.
 use Prim.Native.Nat.{ℕ}
 use mathlib.Core.Path.{_≡_, refl}
-use mathlib.Core.Logic.{inl, inr}
+use mathlib.Core.Logic.{_↔_, inl, inr}
+use lib.Dec.{T}
 use lib.Ieee.{Float, neg, add, sub, mul, div, le, ofBits, round}
 use Rattle.double.specs.rules.Operations.{_⊕_, _⊖_, _⊗_}
 use Rattle.double.specs.rules.Sign.{size, isFinite}
 use Rattle.double.specs.rules.Order.{Between, _≼_}
 use Rattle.double.specs.notions.Range.{Expr, known, con, _⊞_, _⊟_, _⊠_}
 use Rattle.quantity.specs.declared.Rad.{Rad}
-use Rattle.quantity.specs.rules.Answer.{answered, refused, Pair, plus}
+use Rattle.quantity.specs.rules.Answer.{Answer, answered, refused, Pair, pair, then, plus, both}
 use Rattle.quantity.specs.rules.Refusal.{angleRefusal, latitudeRefusal}
 use Rattle.quantity.specs.rules.Angle.{HALF, rad}
+use Rattle.quantity.specs.laws.Steps.{with-refused}
 use Rattle.edition.specs.declared.Edition.{Edition}
 use Rattle.edition.specs.declared.Edition.the-variants.{Crate, Published}
 use Rattle.elementary.specs.rules.Direction.{directionOf}
 use Rattle.elementary.specs.rules.Sine.{sineOf, cosineOf, farthestAlone}
 use Rattle.elementary_arc.specs.rules.Arctangent.{arctangentIn}
 use Rattle.elementary_arc.specs.rules.Arcsine.{arcsineIn}
+use Rattle.elementary_arc.specs.laws.Arcsine.{arcsine-never-meets-fourteen}
 use Rattle.helpers.specs.rules.Angle.{arc, degree, radiansOf}
 use Rattle.helpers.specs.rules.Time.{centuryOf}
 use Rattle.precess.specs.declared.EqTurns.{EqTurns}
@@ -28,10 +32,11 @@ use Rattle.precess.specs.rules.Fk4.{fk4Century, fk4Span, fk4Xi, fk4Zeta, fk4The
 use Rattle.domain_accepted.specs.laws.Accepted.{angle-between, latitude-sine, latitude-cosine}
 use Rattle.domain_accepted.specs.notions.Outcome.{Outcome, SevenOrFourteen}
 use Rattle.domain_accepted.specs.notions.Within.{Within, IsPlace, BothFinite}
-use Rattle.domain.specs.notions.Turns.{EqTurnsNear}
+use Rattle.domain.specs.notions.Turns.{EqTurnsNear, upOf, acrossOf, noDirection}
 use Rattle.domain_accepted.specs.laws.Outcome.{outcome-with, outcome-both, rule-answers, rule-refuses}
 use Rattle.domain_accepted.specs.laws.Elementary.{arctangent-outcome, arcsine-outcome}
 use Rattle.domain_accepted.specs.laws.Near.{within, near-far, near-sine, near-cosine}
+use Rattle.domain.specs.laws.Elementary.{fourteen-of-zeros, fourteen-accepted}
 use Rattle.domain.specs.laws.Days.{century-within, span-within, fk4-century-within, fk4-span-within, first-accepted, place-accepted}
 
 -- ---- the angles that two days fix
@@ -163,13 +168,22 @@ module _ (asc dec : Rad) (turns : EqTurns) (A : angleRefusal asc ≡ 0) (D : lat
       let ca = known (near-cosine a turned-within) in
       let sd = known (latitude-sine dec D) in
       let cd = known (latitude-cosine dec D) in
-      let y = cosineOf dec ⊗ sineOf a in
-      let x = turns .cosine ⊗ cosineOf dec ⊗ cosineOf a ⊖ turns .sine ⊗ sineOf dec in
+      let y = upOf asc dec turns in
+      let x = acrossOf asc dec turns in
       let s = turns .sine ⊗ cosineOf dec ⊗ cosineOf a ⊕ turns .cosine ⊗ sineOf dec in
       outcome-both (Within 64) (Between (neg HALF) HALF) (plus (arctangentIn y x) (turns .zeta)) (arcsineIn s)
       (outcome-with (λ (v : Rad). rad (v .0 ⊕ turns .zeta .0)) (λ v i. within 64 (known i ⊞ known (N .zeta)) tt) (arctangentIn y x)
       (arctangent-outcome (inr refl) y x (within 2 (cd ⊠ sa) tt .finite) (within 4 (known (N .cosine) ⊠ cd ⊠ ca ⊟ known (N .sine) ⊠ sd) tt .finite)))
       (arcsine-outcome (inl refl) s (within 4 (known (N .sine) ⊠ cd ⊠ ca ⊞ known (N .cosine) ⊠ sd) tt .finite))
+
+turned-fourteen : (asc dec : Rad) (turns : EqTurns) → turnedIn asc dec turns ≡ refused 14 ↔ T (noDirection asc dec turns)
+unfolding turnedIn directionOf placed arcsOf plus both then
+turned-fourteen asc dec turns =
+    let s = turns .sine ⊗ cosineOf dec ⊗ cosineOf (rad (asc .0 ⊕ turns .xi .0)) ⊕ turns .cosine ⊗ sineOf dec in
+    fourteen-of-zeros (upOf asc dec turns) (acrossOf asc dec turns) (λ (a : Answer Rad). both (plus a (turns .zeta)) (arcsineIn s)) refl
+    (λ v e.
+    arcsine-never-meets-fourteen s
+    (with-refused (arcsineIn s) (λ (y : Rad). pair (v .0 ⊕ turns .zeta .0) (y .0)) 14 e))
 
 -- ---- the two functions
 
@@ -195,6 +209,12 @@ module _ (edition : Edition) (asc dec : Rad) (day1 day2 : Float) where
   pub precess-eq-coords-refuses : placeRefusal asc dec day1 day2 ≡ 0 → (n : ℕ) → precessEqCoordsRule edition asc dec day1 day2 ≡ refused n → SevenOrFourteen n
   precess-eq-coords-refuses = rule-refuses (placeRefusal asc dec day1 day2) (turnedIn asc dec (eqTurnsOf edition day1 day2)) eq-outcome
 
+  pub precess-eq-coords-fourteen : placeRefusal asc dec day1 day2 ≡ 0
+      → precessEqCoordsRule edition asc dec day1 day2 ≡ refused 14 ↔ T (noDirection asc dec (eqTurnsOf edition day1 day2))
+  precess-eq-coords-fourteen =
+      let turns = eqTurnsOf edition day1 day2 in
+      fourteen-accepted (placeRefusal asc dec day1 day2) (turnedIn asc dec turns) (turned-fourteen asc dec turns)
+
   pub precess-eq-coords-fk5-answers : (p : Pair) → precessEqCoordsFK5Rule edition asc dec day1 day2 ≡ answered p → IsPlace p
   precess-eq-coords-fk5-answers = rule-answers (placeRefusal asc dec day1 day2) (turnedIn asc dec (fk4TurnsOf edition day1 day2)) fk4-outcome
 
@@ -206,3 +226,9 @@ module _ (edition : Edition) (asc dec : Rad) (day1 day2 : Float) where
   pub precess-eq-coords-fk5-refuses : placeRefusal asc dec day1 day2 ≡ 0 → (n : ℕ)
       → precessEqCoordsFK5Rule edition asc dec day1 day2 ≡ refused n → SevenOrFourteen n
   precess-eq-coords-fk5-refuses = rule-refuses (placeRefusal asc dec day1 day2) (turnedIn asc dec (fk4TurnsOf edition day1 day2)) fk4-outcome
+
+  pub precess-eq-coords-fk5-fourteen : placeRefusal asc dec day1 day2 ≡ 0
+      → precessEqCoordsFK5Rule edition asc dec day1 day2 ≡ refused 14 ↔ T (noDirection asc dec (fk4TurnsOf edition day1 day2))
+  precess-eq-coords-fk5-fourteen =
+      let turns = fk4TurnsOf edition day1 day2 in
+      fourteen-accepted (placeRefusal asc dec day1 day2) (turnedIn asc dec turns) (turned-fourteen asc dec turns)

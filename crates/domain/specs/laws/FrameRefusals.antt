@@ -1,8 +1,9 @@
--- Which refusals the changes of frame meet in the work: those that end in an arctangent 14 only, right ascension from ecliptic coordinates
--- not even that, since a cosine is never zero; those that end in an arcsine never 14. Ecliptic coordinates from equatorial ones stand in
+-- Which refusals the changes of frame meet in the work: those that end in an arctangent 14 only, exactly where both its arguments are
+-- zero, right ascension from ecliptic coordinates not even that, since a cosine is never zero; those that end in an arcsine never 14. Ecliptic coordinates from equatorial ones stand in
 -- EclFrmEq. Assumes nothing.
 use Prim.Native.Nat.{ℕ}
 use mathlib.Core.Path.{_≡_, subst}
+use mathlib.Core.Logic.{_↔_}
 use std.Logic.{_≢_}
 use lib.Dec.{T, T-not}
 use lib.Ieee.{Float}
@@ -16,6 +17,7 @@ use Rattle.quantity.specs.rules.Refusal.{angleRefusal, steepRefusal}
 use Rattle.quantity.specs.laws.Steps.{with-refused}
 use Rattle.edition.specs.declared.Edition.{Edition}
 use Rattle.edition.specs.rules.Edition.{chosen}
+use Rattle.elementary.specs.declared.Folded.{Folded}
 use Rattle.elementary.specs.rules.Fold.{fold}
 use Rattle.elementary.specs.rules.Sine.{foldedSine, foldedCosine, foldedTangent, sineOf, cosineOf, tangentOf}
 use Rattle.elementary_arc.specs.rules.Arctangent.{bothZero, arctangentIn}
@@ -31,6 +33,7 @@ use Rattle.coords_gal.specs.rules.Arguments.{galRefusal, steepGalRefusal}
 use Rattle.coords_gal.specs.rules.Galactic.{southCelPoleLong, southGalPoleAsc, pole, fromPoleAsc, fromPoleLong, roundPole, galLongIn, galLongFrmEqRule, galLatIn, galLatFrmEqRule, ascFrmGalIn, ascFrmGalRule}
 use Rattle.domain_accepted.specs.laws.Accepted.{none-of-three}
 use Rattle.domain_accepted.specs.laws.Cosine.{cosine-never-zero}
+use Rattle.domain.specs.laws.Elementary.{fourteen-at-end, fourteen-changed, fourteen-accepted}
 
 -- ---- the two shapes of the work
 
@@ -53,15 +56,29 @@ module _ (h d p : Rad) where
   unfolding azimuthIn
   az-frm-eq-refuses none k e = by-arctangent (steepSkyRefusal h d p) (sineOf h) (southward h d p) none k e .0
 
+  pub az-frm-eq-fourteen : steepSkyRefusal h d p ≡ 0 → azFrmEqRule h d p ≡ refused 14 ↔ T (bothZero (sineOf h) (southward h d p))
+  unfolding azimuthIn
+  az-frm-eq-fourteen =
+      fourteen-accepted (steepSkyRefusal h d p) (azimuthIn h d p) (fourteen-at-end (sineOf h) (southward h d p))
+
   pub alt-frm-eq-never-meets-fourteen : skyRefusal h d p ≡ 0 → altFrmEqRule h d p ≢ refused 14
   unfolding altitudeIn
   alt-frm-eq-never-meets-fourteen = by-arcsine (skyRefusal h d p) (upward h d p)
 
 module _ (z a p : Rad) where
+  -- the arctangent's second argument
+  abbrev toPole : Float
+  toPole = cosineOf z ⊗ sineOf p ⊕ tangentOf a ⊗ cosineOf p
+
   pub hr-angl-frm-hz-refuses : steepSkyRefusal z a p ≡ 0 → (k : ℕ) → hrAnglFrmHzRule z a p ≡ refused k → k ≡ 14
   unfolding hrAnglFrmHzIn
   hr-angl-frm-hz-refuses none k e =
-      by-arctangent (steepSkyRefusal z a p) (sineOf z) (cosineOf z ⊗ sineOf p ⊕ tangentOf a ⊗ cosineOf p) none k e .0
+      by-arctangent (steepSkyRefusal z a p) (sineOf z) toPole none k e .0
+
+  pub hr-angl-frm-hz-fourteen : steepSkyRefusal z a p ≡ 0 → hrAnglFrmHzRule z a p ≡ refused 14 ↔ T (bothZero (sineOf z) toPole)
+  unfolding hrAnglFrmHzIn
+  hr-angl-frm-hz-fourteen =
+      fourteen-accepted (steepSkyRefusal z a p) (hrAnglFrmHzIn z a p) (fourteen-at-end (sineOf z) toPole)
 
   pub dec-frm-hz-never-meets-fourteen : (e : Edition) → skyRefusal z a p ≡ 0 → decFrmHzRule e z a p ≢ refused 14
   unfolding decFrmHzIn
@@ -84,17 +101,30 @@ module _ (l b e : Rad) where
 
 -- ---- equatorial and galactic
 
+-- the second argument of the arctangent round the pole, of an angle n there and a latitude b
+abbrev alongPole : Folded → Rad → Float
+alongPole n b = foldedSine pole ⊗ foldedCosine n ⊖ foldedCosine pole ⊗ foldedTangent (fold b)
+
 module _ (a d : Rad) where
   pub gal-long-frm-eq-refuses : steepGalRefusal a d ≡ 0 → (k : ℕ) → galLongFrmEqRule a d ≡ refused k → k ≡ 14
   unfolding galLongIn takenFrom roundPole
   gal-long-frm-eq-refuses none k e =
       let n = fromPoleAsc a in
       let z = radiansOf southCelPoleLong in
-      let x = foldedSine pole ⊗ foldedCosine n ⊖ foldedCosine pole ⊗ foldedTangent (fold d) in
+      let x = alongPole n d in
       arctangent-refuses-fourteen (foldedSine n) x k
       (with-refused (arctangentIn (foldedSine n) x) (λ (v : Rad). rad (z .0 ⊖ v .0)) k
       (subst (λ (m : ℕ). unless m (galLongIn a d) ≡ refused k) none e))
       .0
+
+  pub gal-long-frm-eq-fourteen : steepGalRefusal a d ≡ 0
+      → galLongFrmEqRule a d ≡ refused 14 ↔ T (bothZero (foldedSine (fromPoleAsc a)) (alongPole (fromPoleAsc a) d))
+  unfolding galLongIn takenFrom roundPole
+  gal-long-frm-eq-fourteen =
+      let n = fromPoleAsc a in
+      let z = radiansOf southCelPoleLong in
+      fourteen-accepted (steepGalRefusal a d) (galLongIn a d)
+      (fourteen-changed (foldedSine n) (alongPole n d) (λ (v : Rad). rad (z .0 ⊖ v .0)))
 
   pub gal-lat-frm-eq-never-meets-fourteen : galRefusal a d ≡ 0 → galLatFrmEqRule a d ≢ refused 14
   unfolding galLatIn
@@ -102,13 +132,23 @@ module _ (a d : Rad) where
       by-arcsine (galRefusal a d)
       (foldedSine (fold d) ⊗ foldedSine pole ⊕ foldedCosine (fold d) ⊗ foldedCosine pole ⊗ foldedCosine (fromPoleAsc a))
 
-pub asc-frm-gal-refuses : (l b : Rad) → steepGalRefusal l b ≡ 0 → (k : ℕ) → ascFrmGalRule l b ≡ refused k → k ≡ 14
-unfolding ascFrmGalIn addedTo roundPole
-asc-frm-gal-refuses l b none k e =
-    let n = fromPoleLong l in
-    let z = radiansOf southGalPoleAsc in
-    let x = foldedSine pole ⊗ foldedCosine n ⊖ foldedCosine pole ⊗ foldedTangent (fold b) in
-    arctangent-refuses-fourteen (foldedSine n) x k
-    (with-refused (arctangentIn (foldedSine n) x) (λ (v : Rad). rad (z .0 ⊕ v .0)) k
-    (subst (λ (m : ℕ). unless m (ascFrmGalIn l b) ≡ refused k) none e))
-    .0
+module _ (l b : Rad) where
+  pub asc-frm-gal-refuses : steepGalRefusal l b ≡ 0 → (k : ℕ) → ascFrmGalRule l b ≡ refused k → k ≡ 14
+  unfolding ascFrmGalIn addedTo roundPole
+  asc-frm-gal-refuses none k e =
+      let n = fromPoleLong l in
+      let z = radiansOf southGalPoleAsc in
+      let x = alongPole n b in
+      arctangent-refuses-fourteen (foldedSine n) x k
+      (with-refused (arctangentIn (foldedSine n) x) (λ (v : Rad). rad (z .0 ⊕ v .0)) k
+      (subst (λ (m : ℕ). unless m (ascFrmGalIn l b) ≡ refused k) none e))
+      .0
+
+  pub asc-frm-gal-fourteen : steepGalRefusal l b ≡ 0
+      → ascFrmGalRule l b ≡ refused 14 ↔ T (bothZero (foldedSine (fromPoleLong l)) (alongPole (fromPoleLong l) b))
+  unfolding ascFrmGalIn addedTo roundPole
+  asc-frm-gal-fourteen =
+      let n = fromPoleLong l in
+      let z = radiansOf southGalPoleAsc in
+      fourteen-accepted (steepGalRefusal l b) (ascFrmGalIn l b)
+      (fourteen-changed (foldedSine n) (alongPole n b) (λ (v : Rad). rad (z .0 ⊕ v .0)))

@@ -1,12 +1,12 @@
 -- Precession of orbital elements on arguments that are not refused: each angle that is worked out stays far below 400000.0, each
--- answer is finite, and the work meets 6 and 7 only. Assumes nothing.
+-- answer is finite, and the work meets 6 and 7 only: 6 where the node's arctangent would meet 14. Assumes nothing.
 use Prim.Native.Nat.{ℕ}
 use mathlib.Core.Path.{_≡_, refl, sym, _∙_}
 use mathlib.Core.Logic.{inl, inr}
 use mathlib.Core.Bool.{not}
 use lib.Dec.{T, T-not, not-T}
 use lib.Ieee.{Float, neg, add, sub, mul, eq, le, ofBits, round}
-use lib.Ieee.Bits.{is-false}
+use lib.Ieee.Bits.{is-true, is-false}
 use lib.Ieee.Fits.{and-l, and-r}
 use Rattle.double.specs.rules.Operations.{zero, _⊕_, _⊖_, _⊗_, _⊘_}
 use Rattle.double.specs.rules.Sign.{size, isFinite}
@@ -107,6 +107,10 @@ module _ (inc perih node : Rad) (turns : EclTurns) (I : angleRefusal inc ≡ 0) 
   inclination-of-zeros t z =
       rw (is-false (eq (inc .0) zero) t) (zeros-lean A B (and-l (isZero A) (isZero B) z) (and-r (isZero A) (isZero B) z))
 
+  zeros-six : T (not (eq (inc .0) zero)) → T (bothZero A B) → orbitIn inc perih node turns ≡ refused 6
+  unfolding orbitIn orbitFrom then
+  zeros-six t z = rw (inclination-of-zeros t z, is-true (isZero (sineOf (rad zero))) sine-of-zero)
+
   not-both-zero : (i : Rad) → newInclination inc (leanedOf (fold inc) (fold fromPi) turns) turns ≡ answered i → NonZero (sineOf i)
       → T (not (eq (inc .0) zero)) → T (not (bothZero A B))
   not-both-zero i e some t = not-T (bothZero A B) (λ (z : T (bothZero A B)). T-not (isZero (sineOf i)) some (at-zero z))
@@ -161,11 +165,17 @@ module _ (inc perih node : Rad) (turns : EclTurns) (I : angleRefusal inc ≡ 0) 
 -- ---- the function
 
 module _ (inc perih node : Rad) (day1 day2 : Float) where
-  outcome : orbitRefusal inc perih node day1 day2 ≡ 0 → Outcome AllFinite SixOrSeven (orbitIn inc perih node (eclTurnsOf day1 day2))
-  outcome e =
+  accepted : orbitRefusal inc perih node day1 day2 ≡ 0
+      → (angleRefusal inc ≡ 0) × (angleRefusal perih ≡ 0) × (angleRefusal node ≡ 0) × EclTurnsNear (eclTurnsOf day1 day2)
+  accepted e =
       let n = lower-none (lower (angleRefusal inc) (lower (angleRefusal perih) (angleRefusal node))) (daysRefusal day1 day2) e in
       let m = none-of-three (angleRefusal inc) (angleRefusal perih) (angleRefusal node) (n .0) in
-      orbit-outcome inc perih node (eclTurnsOf day1 day2) (m .0) (m .1) (m .2) (ecl-turns-near day1 day2 (n .1))
+      (m .0, m .1, m .2, ecl-turns-near day1 day2 (n .1))
+
+  outcome : orbitRefusal inc perih node day1 day2 ≡ 0 → Outcome AllFinite SixOrSeven (orbitIn inc perih node (eclTurnsOf day1 day2))
+  outcome e =
+      let n = accepted e in
+      orbit-outcome inc perih node (eclTurnsOf day1 day2) (n .0) (n .1) (n .2) (n .3)
 
   pub precess-orb-elements-finite : (t : Triple) → precessOrbElementsRule inc perih node day1 day2 ≡ answered t → AllFinite t
   precess-orb-elements-finite =
@@ -175,3 +185,13 @@ module _ (inc perih node : Rad) (day1 day2 : Float) where
       → precessOrbElementsRule inc perih node day1 day2 ≡ refused n → SixOrSeven n
   precess-orb-elements-refuses =
       rule-refuses (orbitRefusal inc perih node day1 day2) (orbitIn inc perih node (eclTurnsOf day1 day2)) outcome
+
+  -- 6 is tested before the node's arctangent: where both arguments of that are zero, 6 and not 14
+  pub precess-orb-elements-of-zeros : orbitRefusal inc perih node day1 day2 ≡ 0 → T (not (eq (inc .0) zero))
+      → let turns = eclTurnsOf day1 day2 in
+      let l = leanedOf (fold inc) (fold (rad (node .0 ⊖ turns .pi .0))) turns in
+      T (bothZero (l .a) (l .b)) → precessOrbElementsRule inc perih node day1 day2 ≡ refused 6
+  unfolding leanedOf
+  precess-orb-elements-of-zeros e t z =
+      let n = accepted e in
+      rw e (zeros-six inc perih node (eclTurnsOf day1 day2) (n .0) (n .1) (n .2) (n .3) t z)

@@ -1,15 +1,19 @@
--- What the batch stores of a star: its status is 0, 4, 7, 9 or 14 where the days are not refused, and both angles are finite. Assumes nothing.
+-- What the batch stores of a star: its status is 0, 4, 7, 9 or 14 where the days are not refused, 14 exactly where the star is in range
+-- and has no direction after precession; and both angles are finite. Assumes nothing.
 use Prim.Native.Nat.{ℕ}
 use mathlib.Core.Path.{_≡_, refl}
-use mathlib.Core.Logic.{inl, inr}
-use mathlib.Core.Bool.{Bool, true, false, cond}
+use mathlib.Core.Logic.{_↔_, inl, inr}
+use mathlib.Core.Bool.{Bool, true, false, cond, _&&_}
+use native.Mathlib.Omega.{arith}
+use lib.Dec.{T}
 use lib.Ieee.{Float}
 use Rattle.double.specs.rules.Order.{Finite}
 use Rattle.double.specs.laws.Between.{finite-zero}
 use Rattle.quantity.specs.rules.Answer.{Answer, answered, refused, Pair, statusOf}
-use Rattle.quantity.specs.laws.Steps.{refused-not-answered}
+use Rattle.quantity.specs.laws.Steps.{refused-not-answered, same-number}
 use Rattle.edition.specs.declared.Edition.{Edition}
 use Rattle.precess.specs.rules.Days.{daysRefusal}
+use Rattle.precess.specs.rules.Equatorial.{eqTurnsOf}
 use Rattle.chain.specs.rules.Chain.{chainRule}
 use Rattle.list.specs.declared.Star.{Star}
 use Rattle.list.specs.rules.Record.{inRange}
@@ -17,8 +21,9 @@ use Rattle.batch.specs.rules.Star.{ascOf, decOf, starRule, firstOf, secondOf}
 use Rattle.batch.specs.laws.Star.{place-taken}
 use Rattle.domain_accepted.specs.notions.Outcome.{FourSevenOrFourteen}
 use Rattle.domain_accepted.specs.notions.Within.{BothFinite}
-use Rattle.domain.specs.laws.Chain.{chain-refuses, chain-finite}
+use Rattle.domain.specs.laws.Chain.{chain-refuses, chain-fourteen, chain-finite}
 use Rattle.domain.specs.notions.Star.{OfAStar}
+use Rattle.domain.specs.notions.Turns.{noDirection}
 
 of-an-answer : (a : Answer Pair) → ((n : ℕ) → a ≡ refused n → FourSevenOrFourteen n) → OfAStar (statusOf a)
 of-an-answer (answered v) h = inl refl
@@ -52,3 +57,17 @@ module _ (edition : Edition) (star : Star) (day1 day2 : Float) (days : daysRefus
           of-an-answer (chainRule edition (ascOf star) (decOf star) day1 day2)
           (chain-refuses edition (ascOf star) (decOf star) day1 day2 (place-taken star day1 day2 days (r refl)))
       by-range false r = inr (inr (inr (inl refl)))
+
+  pub star-fourteen : starRule edition star day1 day2 ≡ refused 14
+      ↔ T (inRange star && noDirection (ascOf star) (decOf star) (eqTurnsOf edition day1 day2))
+  unfolding starRule
+  star-fourteen = by-range (inRange star) (λ e. e)
+    where
+      not-nine : _≡_ {A = ℕ} 9 14 → ⊥
+      not-nine h = omega arith
+
+      by-range : (b : Bool) → (b ≡ true → inRange star ≡ true)
+          → cond b (chainRule edition (ascOf star) (decOf star) day1 day2) (refused 9) ≡ refused 14
+          ↔ T (b && noDirection (ascOf star) (decOf star) (eqTurnsOf edition day1 day2))
+      by-range true r = chain-fourteen edition (ascOf star) (decOf star) day1 day2 (place-taken star day1 day2 days (r refl))
+      by-range false r = (λ e. absurd (not-nine (same-number e)), λ t. absurd t)

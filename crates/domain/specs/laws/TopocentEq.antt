@@ -1,7 +1,11 @@
 -- Topocentric equatorial coordinates of arguments that are not refused: each angle that is worked out stays far below 400000.0, each
--- answer is finite, and 14 is the only refusal that the work meets. Assumes nothing.
+-- answer is finite, and 14 is the only refusal that the work meets: exactly where both arguments of one of its two arctangents are
+-- zero. Assumes nothing.
 use Prim.Native.Nat.{ℕ}
-use mathlib.Core.Path.{_≡_, refl}
+use mathlib.Core.Path.{_≡_, refl, sym}
+use mathlib.Core.Bool.{Bool, true, false, cond, _||_}
+use mathlib.Core.Logic.{_↔_}
+use lib.Dec.{T}
 use lib.Ieee.{Float, neg, add, sub, mul, le, ofBits, round}
 use Rattle.double.specs.rules.Operations.{_⊕_, _⊖_, _⊗_}
 use Rattle.double.specs.rules.Sign.{size, isFinite}
@@ -11,15 +15,18 @@ use Rattle.double.specs.laws.Between.{between-neg}
 use Rattle.quantity.specs.declared.Rad.{Rad}
 use Rattle.quantity.specs.declared.EqPoint.{EqPoint}
 use Rattle.quantity.specs.declared.GeographPoint.{GeographPoint}
-use Rattle.quantity.specs.rules.Answer.{answered, refused, Pair, first, second}
+use Rattle.quantity.specs.rules.Answer.{Answer, answered, refused, Pair, first, second, then}
 use Rattle.quantity.specs.rules.Refusal.{lower, angleRefusal, latitudeRefusal}
 use Rattle.quantity.specs.rules.Angle.{rad}
+use Rattle.quantity.specs.laws.Steps.{refused-not-answered}
+use Rattle.elementary.specs.declared.Folded.{Folded}
 use Rattle.elementary.specs.rules.Fold.{fold}
-use Rattle.elementary.specs.rules.Sine.{sineOf, cosineOf, farthestAlone}
-use Rattle.elementary_arc.specs.rules.Arctangent.{arctangentIn}
+use Rattle.elementary.specs.rules.Sine.{foldedSine, sineOf, cosineOf, farthestAlone}
+use Rattle.elementary_arc.specs.rules.Arctangent.{arctangentOf, bothZero, arctangentIn}
 use Rattle.elementary.specs.laws.Accepted.{lower-none}
 use Rattle.helpers.specs.rules.Earth.{rhoIn}
 use Rattle.coords.specs.rules.HourAngle.{hrAnglFrmObserverLong}
+use Rattle.parallax.specs.declared.Centre.{Centre}
 use Rattle.parallax.specs.rules.Observer.{centreOf, observerRefusal}
 use Rattle.parallax.specs.rules.Equatorial.{eastward, ahead, topocentDec, topocentFrom, topocentAt, topocentIn, topocentRefusal, topocentEqCoordsRule}
 use Rattle.domain_accepted.specs.laws.Accepted.{angle-between, angle-sine, latitude-sine, latitude-cosine}
@@ -27,6 +34,7 @@ use Rattle.domain_accepted.specs.notions.Outcome.{Outcome, Fourteen}
 use Rattle.domain_accepted.specs.notions.Within.{Within, PointFinite}
 use Rattle.domain_accepted.specs.laws.Outcome.{outcome-answered, outcome-then, rule-answers, rule-refuses}
 use Rattle.domain_accepted.specs.laws.Near.{within, near-far, near-sine, near-cosine}
+use Rattle.domain.specs.laws.Elementary.{fourteen-of-zeros, fourteen-accepted}
 use Rattle.domain.specs.laws.Earth.{rho-outcome}
 use Rattle.domain.specs.laws.Observer.{observer-accepted, arctangent-near}
 
@@ -69,6 +77,32 @@ module _ (rs rc : Float) (p h d : Rad) (asc : Rad) (RS : Within 2 rs) (RC : With
       let y = neg rc ⊗ sineOf p ⊗ sineOf h in
       outcome-then (λ (change : Rad). topocentFrom (centreOf rs rc p) (fold d) asc change x) from-outcome
       (arctangentIn y x) (arctangent-near refl y x y-within x-within)
+
+-- ---- the two arctangents: the change of right ascension, and the declination; the second argument is the same
+
+module _ (c : Centre) (h d : Folded) where
+  abbrev change : Rad
+  change = arctangentOf (eastward c h) (ahead c h d)
+
+  -- the first argument of the declination's
+  abbrev northward : Float
+  northward = (foldedSine d ⊖ c .«rho_sin» ⊗ c .parallax) ⊗ cosineOf change
+
+  at-fourteen : (asc : Rad)
+      → topocentAt c h d asc ≡ refused 14 ↔ T (bothZero (eastward c h) (ahead c h d) || bothZero northward (ahead c h d))
+  unfolding topocentAt topocentFrom topocentDec arctangentIn then
+  at-fourteen asc = by-case (bothZero (eastward c h) (ahead c h d))
+    where
+      by-case : (b : Bool)
+          → then (cond b (refused 14) (answered change)) (λ (v : Rad). topocentFrom c d asc v (ahead c h d)) ≡ refused 14
+          ↔ T (b || bothZero northward (ahead c h d))
+      by-case true = (λ e. tt, λ t. refl)
+      by-case false =
+          fourteen-of-zeros northward (ahead c h d)
+          (λ (a : Answer Rad). then a (λ (dec : Rad). answered (record { asc = asc .0 ⊕ change .0; dec = dec .0 }))) refl
+          (λ v e. refused-not-answered (sym e))
+
+-- ---- the function
 
 module _ (q : EqPoint) (parallax : Rad) (place : GeographPoint) (height : Float) (sidereal : Rad) where
   abbrev asc : Rad
@@ -114,3 +148,17 @@ module _ (q : EqPoint) (parallax : Rad) (place : GeographPoint) (height : Float)
   topocent-eq-coords-refuses =
       rule-refuses (topocentRefusal q parallax place height sidereal) (topocentIn q parallax place height sidereal)
       eq-outcome
+
+  -- from ρ sin φ' and ρ cos φ', which are always answered
+  pub topocent-eq-coords-fourteen : (rho : Pair) → rhoIn (rad (place .lat)) height ≡ answered rho
+      → topocentRefusal q parallax place height sidereal ≡ 0
+      → let c = centreOf (first rho) (second rho) parallax in
+      let h = fold hour in
+      let d = fold dec in
+      topocentEqCoordsRule q parallax place height sidereal ≡ refused 14
+      ↔ T (bothZero (eastward c h) (ahead c h d) || bothZero (northward c h d) (ahead c h d))
+  unfolding topocentIn then
+  topocent-eq-coords-fourteen rho r =
+      let c = centreOf (first rho) (second rho) parallax in
+      fourteen-accepted (topocentRefusal q parallax place height sidereal) (topocentIn q parallax place height sidereal)
+      (rw r (at-fourteen c (fold hour) (fold dec) asc))

@@ -9,13 +9,13 @@ use Rattle.quantity.specs.declared.GeographPoint.{GeographPoint}
 use Rattle.quantity.specs.rules.Angle.{rad}
 use Rattle.quantity.specs.notions.Code.{ofTriple, ofAnswer, unread}
 use Rattle.quantity.specs.notions.Varies.{Varies}
-use Rattle.quantity.specs.notions.Stated.{r0, r1, origin, northPole}
+use Rattle.quantity.specs.notions.Stated.{r0, r½, r1, origin, northPole}
 use Rattle.transit.specs.rules.RiseCulmSet.{riseCulmSetRule}
-use Rattle.transit.specs.notions.Stated.{equator, westOfIt, northOfIt, zenith, nadir}
+use Rattle.transit.specs.notions.Stated.{equator, westOfIt, northOfIt, pole, zenith, nadir}
 use Rattle.transit.specs.notions.Computed.{computed}
-use Rattle.transit.specs.notions.Wrong.{riseAndSetTraded, foldLeftOut, arcHalved, longitudeTakenAsEast, culminationRegrouped}
+use Rattle.transit.specs.notions.Wrong.{riseAndSetTraded, foldLeftOut, arcHalved, culminationFoldedFirst, longitudeTakenAsEast, culminationRegrouped}
 use Rattle.transit.specs.notions.Wrong.{fifteenAndSixteenTraded, limitTakenIn, quotientNotTested}
-use Rattle.transit.specs.notions.Wrong.{arcsineForArccosine, altitudePassedOver, declinationNotSteep}
+use Rattle.transit.specs.notions.Wrong.{arcsineForArccosine, altitudePassedOver, declinationNotSteep, latitudeNotSteep, altitudeSteep}
 
 pub rise-culm-set-varies : Varies (riseCulmSetRule origin r0 westOfIt r0) (riseCulmSetRule origin r0 equator r0)
 unfolding computed
@@ -34,6 +34,11 @@ fold-left-out-excluded = apart (ofAnswer ofTriple) refl
 pub arc-halved-excluded : arcHalved origin r0 equator r0 ≢ riseCulmSetRule origin r0 equator r0
 unfolding computed
 arc-halved-excluded = apart (ofAnswer ofTriple) refl
+
+-- at the sidereal time 0.5, the culmination below zero
+pub culmination-folded-first-excluded : culminationFoldedFirst origin r½ equator r0 ≢ riseCulmSetRule origin r½ equator r0
+unfolding computed
+culmination-folded-first-excluded = apart (ofAnswer ofTriple) refl
 
 -- ---- the culmination
 
@@ -85,3 +90,12 @@ altitude-passed-over-excluded = apart (ofAnswer ofTriple) refl
 pub declination-not-steep-excluded : declinationNotSteep northPole r0 equator r0 ≢ riseCulmSetRule northPole r0 equator r0
 unfolding computed
 declination-not-steep-excluded = apart (ofAnswer unread) refl
+
+pub latitude-not-steep-excluded : latitudeNotSteep origin r0 pole r0 ≢ riseCulmSetRule origin r0 pole r0
+unfolding computed
+latitude-not-steep-excluded = apart (ofAnswer unread) refl
+
+-- a standard altitude beyond 1.57 is answered
+pub altitude-steep-excluded : altitudeSteep origin r0 equator zenith ≢ riseCulmSetRule origin r0 equator zenith
+unfolding computed
+altitude-steep-excluded = apart (ofAnswer unread) refl

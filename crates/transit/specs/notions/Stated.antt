@@ -14,6 +14,10 @@ westOfIt = record { long = one; lat = zero }
 abbrev pub northOfIt : GeographPoint
 northOfIt = record { long = zero; lat = one }
 
+-- at the pole
+abbrev pub pole : GeographPoint
+pole = record { long = zero; lat = HALF }
+
 -- the zenith and the point opposite to it
 abbrev pub zenith : Rad
 zenith = rad HALF

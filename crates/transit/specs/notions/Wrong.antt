@@ -1,4 +1,5 @@
 -- Wrong variants of rise, culmination and set.
+use Prim.Native.Nat.{ℕ}
 use mathlib.Core.Bool.{cond}
 use lib.Ieee.{Float, neg, le, lt}
 use Rattle.double.specs.rules.Operations.{zero, one, _⊕_, _⊖_, _⊘_}
@@ -7,7 +8,7 @@ use Rattle.quantity.specs.declared.EqPoint.{EqPoint}
 use Rattle.quantity.specs.declared.GeographPoint.{GeographPoint}
 use Rattle.quantity.specs.rules.Angle.{rad, HALF}
 use Rattle.quantity.specs.rules.Answer.{Answer, answered, refused, Triple, triple, unless, then, takenFrom}
-use Rattle.quantity.specs.rules.Refusal.{lower, angleRefusal, latitudeRefusal}
+use Rattle.quantity.specs.rules.Refusal.{lower, angleRefusal, latitudeRefusal, steepRefusal}
 use Rattle.elementary_arc.specs.rules.Arcsine.{arcsineIn}
 use Rattle.helpers.specs.rules.Angle.{turnInRadians}
 use Rattle.transit.specs.rules.Arc.{arcCosine, arcIn}
@@ -38,6 +39,10 @@ foldLeftOut =
 -- the whole arc from rise to set taken for its half
 abbrev pub arcHalved : EqPoint → Rad → GeographPoint → Rad → Answer Triple
 arcHalved = by arcIn culminationOf (λ (m : Float) (arc : Rad). fractions m (rad (arc .0 ⊘ (one ⊕ one))))
+
+-- rise and set taken from the culmination once that is folded
+abbrev pub culminationFoldedFirst : EqPoint → Rad → GeographPoint → Rad → Answer Triple
+culminationFoldedFirst = by arcIn culminationOf (λ (m : Float) (arc : Rad). fractions (withinADay m) arc)
 
 -- ---- the culmination
 
@@ -84,3 +89,19 @@ abbrev pub declinationNotSteep : EqPoint → Rad → GeographPoint → Rad → A
 declinationNotSteep p sidereal place alt =
     unless (lower (lower (angleRefusal (rad (p .asc))) (latitudeRefusal (rad (p .dec)))) (observerRefusal sidereal place alt))
     (riseCulmSetIn p sidereal place alt)
+
+-- with other refusals of the observer's latitude and of the altitude
+abbrev observed : (Rad → ℕ) → (Rad → ℕ) → EqPoint → Rad → GeographPoint → Rad → Answer Triple
+observed latRefusal altRefusal p sidereal place alt =
+    unless
+    (lower (lower (angleRefusal (rad (p .asc))) (steepRefusal (rad (p .dec))))
+    (lower (lower (angleRefusal (rad (place .long))) (latRefusal (rad (place .lat)))) (lower (angleRefusal sidereal) (altRefusal alt))))
+    (riseCulmSetIn p sidereal place alt)
+
+-- 3 where 4 is meant, for the observer's latitude
+abbrev pub latitudeNotSteep : EqPoint → Rad → GeographPoint → Rad → Answer Triple
+latitudeNotSteep = observed latitudeRefusal latitudeRefusal
+
+-- 4 asked of the standard altitude too
+abbrev pub altitudeSteep : EqPoint → Rad → GeographPoint → Rad → Answer Triple
+altitudeSteep = observed steepRefusal steepRefusal
