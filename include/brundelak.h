@@ -460,11 +460,11 @@ uint8_t brundelak_topopcent_ecl_coords_published(double ecl_long, double ecl_lat
  *            long_, lat    observer's longitude, latitude (size at most 1.57)
  *            alt           standard altitude, at which the star rises and sets (size at most a quarter turn)
  * Returned:  rise, culmination, set
- *                          fractions of that day in universal time, 0 to 1; 1.0 itself just before 0h
+ *                          fractions of the sidereal day since that 0h, 0 to 1; 1.0 itself just before it
  * Refusals:  1, 3, 4, then 15, 16
- * Note:      a fraction is a part of the sidereal day: divided by 1.0027379 it is that of the clock, up to 4 minutes
- *            earlier. A star that only touches the standard altitude is answered: all three fall together, or rise and
- *            set half a day from the culmination. */
+ * Note:      divided by 1.0027379 a fraction is that of the clock's day, up to 4 minutes earlier. A star that only
+ *            touches the standard altitude is answered: all three fall together, or rise and set half a day from the
+ *            culmination. */
 uint8_t brundelak_rise_culm_set(double asc, double dec, double sidereal, double long_, double lat, double alt,
                                 double *rise, double *culmination, double *set);
 

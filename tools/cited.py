@@ -44,8 +44,28 @@ def defined(pattern):
     return found
 
 
+def functions(crate):
+    """The functions of a crate: name to (path, line counted from 0, its signature with its contract)."""
+    found = {}
+    for path in sorted(glob.glob('crates/%s/src/**/*.rt' % crate, recursive=True)):
+        text = read(path)
+        for match in re.finditer(r'^ *((?:pub )?(?:extern "C" )?fn (\w+).*?)^ *\{$', text, re.M | re.S):
+            found[match.group(2)] = path, text.count('\n', 0, match.start(1)), match.group(1).rstrip()
+    return found
+
+
+def promised(crate, name):
+    """A function that promises something whatever it is called with, or with * the first of all exported ones, which all do."""
+    every = functions(crate)
+    names = [n for n, f in every.items() if 'extern "C"' in f[2]] if name == '*' else [name]
+    sound = [n for n in names if n in every and 'ensures {' in every[n][2] and 'requires {' not in every[n][2]]
+    return every[sound[0]][:2] if sound and sound == names else None
+
+
 def place(column, cited):
     """Where a name of a column stands, as (path, line) or (path, None) for a whole file; None where it does not exist."""
+    if column == 'theorem' and '::' in cited:
+        return promised(*cited.split('::'))
     if column == 'test':
         for path in (cited, os.path.join('crates', cited)):
             if os.path.exists(path):

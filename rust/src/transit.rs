@@ -2,7 +2,7 @@
 use crate::coords::{EqPoint, GeographPoint};
 use crate::{ffi, Refusal};
 
-/// Three times of one day, as fractions of it: 0 to 1, and 1.0 itself just before 0h.
+/// Three times as fractions of the sidereal day since 0h: 0 to 1, and 1.0 itself just before it.
 #[derive(Clone, Copy, Debug, PartialEq)]
 pub struct DayFractions {
     /// When the star comes up through the standard altitude.
@@ -13,9 +13,9 @@ pub struct DayFractions {
     pub set: f64,
 }
 
-/// Rise, culmination and set of a star, in universal time. Given: its point on the day, the sidereal time at Greenwich at 0h of the day,
-/// the observer's place and the standard altitude. Before interpolation a fraction is a part of the sidereal day: divided by 1.0027379
-/// it is that of the clock, up to four minutes earlier. Refusals: 1, 3, 4, 15, 16.
+/// Rise, culmination and set of a star. Given: its point on the day, the sidereal time at Greenwich at 0h universal time of the day, the
+/// observer's place and the standard altitude. Before interpolation a fraction is a part of the sidereal day since that 0h: divided by
+/// 1.0027379 it is that of the clock's day, up to four minutes earlier. Refusals: 1, 3, 4, 15, 16.
 pub fn rise_culm_set(
     eq_point: &EqPoint,
     greenw_sidr: f64,

@@ -161,7 +161,8 @@ fn new_inclination(inc: Rad, l: Leaned, turns: EclTurns) -> Radians
     }
 }
 
-// The new node; half a turn on where the old inclination is zero. Refusals: 14.
+// The new node; half a turn on where the old inclination is zero. Where it has no direction the new inclination is zero, and
+// `orbit_from` refuses by 6 before it looks at the node.
 fn new_node(inc: Rad, l: Leaned, turns: EclTurns) -> Radians
     ensures { λ r. ⌜ shownRadians r ≡ newNode inc l turns ⌝ }
 {
@@ -172,7 +173,7 @@ fn new_node(inc: Rad, l: Leaned, turns: EclTurns) -> Radians
     quantity::added_to(Rad(phi), elementary_arc::arctangent_in(l.a, l.b))
 }
 
-// The new node and perihelion, where the new inclination's sine s is not zero. Refusals: 14; 7.
+// The new node and perihelion, where the new inclination's sine s is not zero. Refusals: 7.
 fn node_and_perihelion(s: f64, node: Radians, perih: Rad, n: Folded, turns: EclTurns) -> Two
     ensures { λ r. ⌜ shownTwo r ≡ nodeAndPerihelion s (shownRadians node) perih n turns ⌝ }
 {
@@ -185,7 +186,7 @@ fn node_and_perihelion(s: f64, node: Radians, perih: Rad, n: Folded, turns: EclT
     )
 }
 
-// The elements with their new inclination i. Refusals: 6 where its sine is zero; then 14; 7.
+// The elements with their new inclination i. Refusals: 6 where its sine is zero; then 7.
 fn orbit_from(i: Rad, node: Radians, perih: Rad, n: Folded, turns: EclTurns) -> Three
     ensures { λ r. ⌜ shownThree r ≡ orbitFrom i (shownRadians node) perih n turns ⌝ }
 {
@@ -199,7 +200,7 @@ fn orbit_from(i: Rad, node: Radians, perih: Rad, n: Folded, turns: EclTurns) -> 
     }
 }
 
-// The elements of arguments that are not refused. Refusals: 7; 6; 14; 7.
+// The elements of arguments that are not refused. Refusals: 7; 6; 7.
 fn orbit_in(inc: Rad, perih: Rad, node: Rad, turns: EclTurns) -> Three
     ensures { λ r. ⌜ shownThree r ≡ orbitIn inc perih node turns ⌝ }
 {
@@ -228,7 +229,7 @@ fn orbit_refusal(inc: Rad, perih: Rad, node: Rad, day1: f64, day2: f64) -> u8
 }
 
 // Inclination, argument of perihelion and ascending node reduced from the first day to the second.
-// Refusals: 1; 2; 3; then 7 for the new inclination; 6 where its sine is zero, which leaves no node for 14; 7 for the perihelion.
+// Refusals: 1; 2; 3; then 7 for the new inclination; 6 where its sine is zero; 7 for the perihelion.
 pub fn precess_orb_elements(
     old_inc: Rad,
     old_arg_perih: Rad,

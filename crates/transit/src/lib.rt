@@ -1,5 +1,5 @@
 // Rise, culmination and set (document 02, request (v); Meeus, chapter 15, before interpolation). Angles are in radians, a longitude is
-// positive west of Greenwich, and a time is a fraction of a day.
+// positive west of Greenwich, and a time is a fraction of the sidereal day since 0h.
 // Rules: specs/rules, in reading order in specs/rules.antt.
 ghost use mathlib.Core.Path.{_≡_};
 ghost use Rattle.quantity.specs.rules.Answer.{shownRadians, shownThree};
@@ -109,9 +109,9 @@ fn rise_culm_set_refusal(p: EqPoint, sidereal: Rad, place: GeographPoint, alt: R
     )
 }
 
-// Rise, culmination and set of a star as fractions of a day, in this order. Given: its point, the sidereal time at Greenwich at 0h, the
-// observer's place and the standard altitude. Refusals: 1; 3; 4 past 1.57 for declination and the observer's latitude; then 15 where
-// the star never rises and 16 where it never sets.
+// Rise, culmination and set of a star as fractions of the sidereal day since 0h, in this order. Given: its point, the sidereal time at
+// Greenwich at 0h, the observer's place and the standard altitude. Refusals: 1; 3; 4 past 1.57 for declination and the observer's
+// latitude; then 15 where the star never rises and 16 where it never sets.
 pub fn rise_culm_set(
     eq_point: EqPoint,
     greenw_sidr: Rad,

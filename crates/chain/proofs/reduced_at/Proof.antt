@@ -18,7 +18,7 @@ returns-2 c =
     let c1 = c .before in
     let c2 = c1 .before in
     let c3 = c2 .before in
-    goes-on (rw (c3 .before .point-refusal .ensures) at (c3 .lower .ensures)) (c2 .if1 .left) 
+    goes-on (rw (c3 .before .point-refusal .ensures) at (c3 .lower .ensures)) (c2 .if1 .left)
     (ap (λ (p : EqPoint). answered (pairOf p)) (rw (c1 .toward .ensures) at (c .moved-under .ensures)))
 
 pub reduced-at-spec : {M : Type 1} → statement M

@@ -1,6 +1,6 @@
 -- `root::subnormal_root` meets its contract: the digits are `Raised` by their leading zeros. Assumes nothing.
 use mathlib.Core.Path.{_≡_, sym, ap, _∙_, subst}
-use Prim.Native.Nat.{_-_, _*_, _^_}
+use Prim.Native.Nat.{_-_, _*_, _^_, _<_}
 use native.Mathlib.Omega.{arith}
 use lib.Count.{leadingZeros}
 use lib.Dec.{T}
@@ -10,9 +10,8 @@ use Rattle.root.specs.rules.Nearest.{twiceRootSquared}
 use Rattle.root.specs.rules.Root.{rootPattern, rootOf}
 use Rattle.double.specs.notions.Count.{Raised}
 use Rattle.root.specs.notions.Steps.{IsSubnormal}
-use Rattle.double.specs.laws.Raised.{raised}
 use Rattle.double.specs.laws.Patterns.{above-zero-pattern, finite-no-nan, pattern-no-nan}
-use Rattle.root.specs.laws.Normal.{above-zero-normal, low-square, handed-on}
+use Rattle.root.specs.laws.Normal.{above-zero-normal, brought-up, handed-on}
 use Rattle.root.specs.laws.Nearest.{pattern-finite}
 use Rattle.root.specs.laws.Tests.{subnormal-tested}
 use Rattle.root.proofs.subnormal_root.Statement.{statement}
@@ -22,8 +21,11 @@ use Rattle.root.proofs.subnormal_root.Tie as tie
 tested : (c : tie.Start) → IsSubnormal (c .args .x)
 tested c = subnormal-tested (c .args .x) (subst T (sym (c .good .0 .1)) tt) (c .pre .0) (c .pre .1)
 
+some : (c : tie.Start) → 0 < toBits binary64 (c .args .x)
+some c = above-zero-pattern (c .args .x) (tested c .above) .0
+
 up : (c : tie.Start) → Raised (toBits binary64 (c .args .x)) (leadingZeros 64 (toBits binary64 (c .args .x)))
-up c = raised (toBits binary64 (c .args .x)) (above-zero-pattern (c .args .x) (tested c .above) .0) (omega (arith, tested c .most))
+up c = brought-up (toBits binary64 (c .args .x)) (some c) (tested c .most) .0
 
 packed : (c : tie.After-pack) → c .pack .result ≡ rootPattern (twiceRootSquared (c .before .args .x))
 packed c =
@@ -33,7 +35,7 @@ packed c =
     let z = leadingZeros 64 b in
     let r = up (c .before) in
     handed-on _ (b * 2 ^ (z - 11)) (1022 - (z - 11)) (c .pack .ensures) (omega (arith, r)) (r .least) (r .most)
-    ∙ ap rootPattern (low-square b z (n .most) r ∙ ap twiceRootSquared (ofBits-toBits binary64 x (n .above .held)))
+    ∙ ap rootPattern (brought-up b (some (c .before)) (n .most) .1 ∙ ap twiceRootSquared (ofBits-toBits binary64 x (n .above .held)))
 
 float-to-bits-b : tie.Need-float-to-bits-b
 float-to-bits-b c = finite-no-nan (c .args .x) (tested c .above .finite)

@@ -43,7 +43,7 @@ normal d e lo hi h =
 
 -- ---- what the digits and the exponent of a pattern b stand for
 
-pub low-square : (b z : ℕ) → b < 2 ^ 52 → Raised b z → b * 2 ^ (z - 11) * 2 ^ (1022 - (z - 11) + 54) ≡ twiceRootSquared (bits b)
+low-square : (b z : ℕ) → b < 2 ^ 52 → Raised b z → b * 2 ^ (z - 11) * 2 ^ (1022 - (z - 11) + 54) ≡ twiceRootSquared (bits b)
 low-square b z h r =
     join b (z - 11) (1022 - (z - 11) + 54) 1076 (omega (arith, r .few)) ∙ ap (λ (x : ℕ). 2 ^ 1076 * x) (sym (count-low b h))
   where
@@ -51,6 +51,11 @@ low-square b z h r =
     join d i j k e =
         mul-assoc d (2 ^ i) (2 ^ j) ∙ ap (λ (x : ℕ). d * x) (sym (pow-add 2 i j) ∙ ap (λ (x : ℕ). 2 ^ x) e)
         ∙ mul-comm d (2 ^ k)
+
+-- a subnormal: its digits brought up by their leading zeros are 53, and with the exponent down by as many they stand for the same
+pub brought-up : (b : ℕ) → 0 < b → b < 2 ^ 52
+    → Raised b (leadingZeros 64 b) × (b * 2 ^ (leadingZeros 64 b - 11) * 2 ^ (1022 - (leadingZeros 64 b - 11) + 54) ≡ twiceRootSquared (bits b))
+brought-up b p h = let r = raised b p (omega arith) in (r, low-square b (leadingZeros 64 b) h r)
 
 pub high-square : (b : ℕ) → 2 ^ 52 ≤ b → b < 2047 * 2 ^ 52
     → (2 ^ 52 + b % 2 ^ 52) * 2 ^ (b / 2 ^ 52 + 1021 + 54) ≡ twiceRootSquared (bits b)

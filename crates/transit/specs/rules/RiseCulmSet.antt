@@ -1,4 +1,4 @@
--- Rise, culmination and set as fractions of a day.
+-- Rise, culmination and set as fractions of the sidereal day since 0h.
 use Prim.Native.Nat.{ℕ}
 use lib.Ieee.{Float}
 use Rattle.double.specs.rules.Operations.{one, _⊕_, _⊖_, _⊘_}
