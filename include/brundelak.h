@@ -43,12 +43,17 @@
  * the name with _published is Meeus's, for new files. Arguments and answers are the same.
  *
  * The archive is x86-64 code and needs nothing of libm; pkg-config brundelak says how to compile and link.
+ *
+ * Floats are assumed to round to nearest and to keep subnormal numbers, as they do where a C program starts; not in one
+ * that is linked with -ffast-math, nor after fesetround. Under another rounding, or where subnormals are flushed, answers
+ * have other bits and status 0 all the same: brundelak_float_environment() says whether all is well.
  */
 #ifndef BRUNDELAK_H
 #define BRUNDELAK_H
 
 #include <stddef.h>
 #include <stdint.h>
+#include <string.h>
 
 #ifdef __cplusplus
 extern "C" {
@@ -64,6 +69,10 @@ extern "C" {
 
 /* How many counts a tally has. */
 #define BRUNDELAK_COUNTS 20
+
+/* What brundelak_float_environment finds wrong. */
+#define BRUNDELAK_ENVIRONMENT_ROUNDING 1
+#define BRUNDELAK_ENVIRONMENT_SUBNORMALS 2
 
 /* ---- statuses ---------------------------------------------------------------------------------------------------- */
 
@@ -131,6 +140,51 @@ static inline const char *brundelak_sentence(uint8_t status)
     default:
         return "the call was refused";
     }
+}
+
+/* ---- floats as they are assumed ---------------------------------------------------------------------------------- */
+
+/* Whether floats are as the functions assume them, in the thread that asks.
+ * Returned:  0, or a sum: BRUNDELAK_ENVIRONMENT_ROUNDING where they do not round to nearest, ties to even,
+ *            BRUNDELAK_ENVIRONMENT_SUBNORMALS where subnormal results are flushed to zero or operands taken as zero
+ * Note:      what is volatile is worked out at the call, also under -ffast-math. */
+static inline int brundelak_float_environment(void)
+{
+    /* Two numbers and their sum to nearest: a tie that falls, a tie that rises, a little less and a little more than half
+     * of the last place. */
+    static const volatile double sums[8][3] = {
+        {1.0, 1.1102230246251565e-16, 1.0},
+        {1.0000000000000002, 1.1102230246251565e-16, 1.0000000000000004},
+        {1.0, 5.551115123125783e-17, 1.0},
+        {1.0, 1.6653345369377348e-16, 1.0000000000000002},
+        {-1.0, -1.1102230246251565e-16, -1.0},
+        {-1.0000000000000002, -1.1102230246251565e-16, -1.0000000000000004},
+        {-1.0, -5.551115123125783e-17, -1.0},
+        {-1.0, -1.6653345369377348e-16, -1.0000000000000002}
+    };
+    volatile double least_normal = 2.2250738585072014e-308, half = 0.5, high = 1.0715086071862673e301, operand, result;
+    uint64_t bits = 1;
+    double number;
+    int wrong = 0;
+    size_t i;
+    for (i = 0; i < 8; i++) {
+        result = sums[i][0] + sums[i][1];
+        if (result != sums[i][2])
+            wrong |= BRUNDELAK_ENVIRONMENT_ROUNDING;
+    }
+    /* 2^-1074, given by its bits, times 2^1000: an operand taken as zero gives zero. */
+    memcpy(&number, &bits, sizeof number);
+    operand = number;
+    result = operand * high;
+    if (result != 5.293955920339377e-23)
+        wrong |= BRUNDELAK_ENVIRONMENT_SUBNORMALS;
+    /* 2^-1022 halved, looked at by its bits, as a comparison may take it as zero. */
+    result = least_normal * half;
+    number = result;
+    memcpy(&bits, &number, sizeof bits);
+    if (bits != (uint64_t)1 << 51)
+        wrong |= BRUNDELAK_ENVIRONMENT_SUBNORMALS;
+    return wrong;
 }
 
 /* ---- elementary functions ---------------------------------------------------------------------------------------- */

@@ -1,6 +1,16 @@
 /* Eight functions, each put in the place of the archive's by the linker, with one slip of the boundary: fuzz must report each. */
 #include "brundelak.h"
 
+/* A NaN tidied, any other number kept: made quiet, made the one without sign and payload, or its sign taken away. */
+static inline void tidy(double *x, uint64_t set, uint64_t clear)
+{
+    uint64_t b;
+    memcpy(&b, x, sizeof b);
+    if (*x != *x)
+        b = (b & ~clear) | set;
+    memcpy(x, &b, sizeof b);
+}
+
 uint8_t __real_brundelak_root(double x, double *out);
 uint8_t __real_brundelak_find(const uint8_t *bytes, size_t len, uint32_t number, size_t *index, uint32_t *asc, int32_t *dec);
 uint8_t __real_brundelak_batch(const uint8_t *bytes, size_t len, double day1, double day2, uint8_t *status, size_t status_len,
@@ -37,6 +47,9 @@ uint8_t __wrap_brundelak_root(double x, double *out)
 #elif SLIP == 4 /* an answer that is no number */
     if (status == 0 && x < 1.0)
         *out = (x - x) / (x - x);
+#elif SLIP == 21 /* a signalling NaN made quiet at a refusal */
+    if (status != 0)
+        tidy(out, (uint64_t)1 << 51, 0);
 #endif
     return status;
 }
@@ -70,6 +83,13 @@ uint8_t __wrap_brundelak_batch(const uint8_t *bytes, size_t len, double day1, do
 #elif SLIP == 10 /* a record mended in the list */
     if (answer == 0 && len > 0)
         ((uint8_t *)bytes)[len - 1] &= 0x7F;
+#elif SLIP == 22 /* a NaN past the stars made the one without sign and payload */
+    if (answer == 0 && asc_len > len / 12)
+        tidy(&asc[len / 12], (uint64_t)0x7FF8 << 48, UINT64_MAX);
+#elif SLIP == 23 /* the signs of NaNs lost at a refusal */
+    if (answer != 0)
+        for (size_t i = 0; i < dec_len; i++)
+            tidy(&dec[i], 0, (uint64_t)1 << 63);
 #endif
     return answer;
 }

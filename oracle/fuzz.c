@@ -1,7 +1,8 @@
 /* fuzz N [SEED]: N calls in all at every function, any bits and any bytes, lengths and places at their limits. It needs no Rust.
  * What is lent lies against a page that nobody may touch, on one side or the other, with canaries on the free side: a byte read or
  * written past it on the one side ends the program, one written on the other is seen. Checked after each call: canaries and given
- * bytes kept; a status that the function has; after a refusal all that is lent kept, after an answer each number finite. */
+ * bytes kept; a status that the function has; after a refusal all that is lent kept, after an answer each number finite. Floats are lent
+ * as NaNs of any sign and payload, signalling ones among them, and are kept bit for bit. */
 #define _GNU_SOURCE
 #include <inttypes.h>
 #include <math.h>
@@ -38,6 +39,13 @@ static double as_double(uint64_t b)
     return x;
 }
 
+static uint64_t as_bits(double x)
+{
+    uint64_t b;
+    memcpy(&b, &x, sizeof b);
+    return b;
+}
+
 /* Any bits, limits and doubles beside them, or small enough to be answered. */
 static double any_double(void)
 {
@@ -50,7 +58,7 @@ static double any_double(void)
         return as_double(bits());
     case 1:
         x = at[below(sizeof at / sizeof *at)];
-        memcpy(&b, &x, sizeof b);
+        b = as_bits(x);
         return as_double((b + below(3) - (b == 0 ? 0 : 1)) ^ (bits() & 1) << 63);
     case 2:
         return 1721045.0 + (double)(bits() >> 11) / 9007199254740992.0 * 1461000.0;
@@ -64,6 +72,16 @@ static double any_double(void)
 static double any_day(void)
 {
     return below(8) == 0 ? any_double() : 1721045.0 + (double)(bits() >> 11) / 9007199254740992.0 * 1461000.0;
+}
+
+/* Bits of a NaN, which no function answers: some that are known for their edges, or any sign and payload, quiet or signalling. */
+static uint64_t any_nan(void)
+{
+    static const uint64_t at[] = {0x7FF0000000000001, 0xFFF0000000000001, 0x7FF4A5A5A5A50003, 0x7FF7FFFFFFFFFFFF,
+                                  0x7FF8000000000000, 0xFFF8000000000000, 0x7FFFFFFFFFFFFFFF, 0xFFFFFFFFFFFFFFFF};
+    if (below(4) == 0)
+        return at[below(sizeof at / sizeof *at)];
+    return bits() | 0x7FF0000000000000 | (uint64_t)1 << below(52);
 }
 
 /* ---- guarded memory ---- */
@@ -117,6 +135,18 @@ static void given(struct room *r)
     memcpy(r->kept, from, n);
 }
 
+/* Lends so many floats, each a NaN by its bits. */
+static double *lend_floats(struct room *r, size_t count)
+{
+    uint8_t *to = lend(r, count * sizeof(double));
+    for (size_t i = 0; i < count; i++) {
+        uint64_t nan = any_nan();
+        memcpy(to + i * sizeof nan, &nan, sizeof nan);
+    }
+    given(r);
+    return (double *)to;
+}
+
 static int kept(const struct room *r)
 {
     size_t n;
@@ -150,11 +180,8 @@ static void tell(const char *what)
 {
     char line[512];
     int n = snprintf(line, sizeof line, "fuzz: call %" PRIu64 ", %s: %s;", at_call, name, what);
-    for (int i = 0; i < 9 && n < 480; i++) {
-        uint64_t b;
-        memcpy(&b, &args[i], sizeof b);
-        n += snprintf(line + n, sizeof line - (size_t)n, " %016" PRIx64, b);
-    }
+    for (int i = 0; i < 9 && n < 480; i++)
+        n += snprintf(line + n, sizeof line - (size_t)n, " %016" PRIx64, as_bits(args[i]));
     line[n++] = '\n';
     if (write(1, line, (size_t)n) < 0)
         _exit(1);
@@ -201,7 +228,7 @@ static void numbers(const struct function *f)
             args[i] = any_double();
     }
     for (size_t i = 0; i < f->answered; i++)
-        to[i] = lend(&places[i], sizeof(double));
+        to[i] = lend_floats(&places[i], 1);
     uint8_t status = f->f(args, to);
     for (size_t i = 0; i < f->answered; i++) {
         all_kept &= kept(&places[i]);
@@ -300,7 +327,7 @@ static void batch_by(batch_call *call)
     args[0] = any_day();
     args[1] = any_day();
     uint8_t *status_of = lend(&statuses, lens[0]);
-    double *asc = lend(&ascs, 8 * lens[1]), *dec = lend(&decs, 8 * lens[2]);
+    double *asc = lend_floats(&ascs, lens[1]), *dec = lend_floats(&decs, lens[2]);
     uint32_t *counts = lend(&tally, TALLY), sum = 0;
     uint8_t status = call(bytes.at, len, args[0], args[1], status_of, lens[0], asc, lens[1], dec, lens[2], counts);
     int bad = bad_list(len) || lens[0] < stars || lens[1] < stars || lens[2] < stars;
@@ -311,7 +338,7 @@ static void batch_by(batch_call *call)
     }
     sound &= kept_beyond(&statuses, stars) && kept_beyond(&ascs, 8 * stars) && kept_beyond(&decs, 8 * stars) && kept_beyond(&tally, TALLY);
     for (size_t i = 0; i < stars; i++) {
-        sound &= status_of[i] == 0 ? isfinite(asc[i]) && isfinite(dec[i]) : asc[i] == 0.0 && dec[i] == 0.0;
+        sound &= status_of[i] == 0 ? isfinite(asc[i]) && isfinite(dec[i]) : as_bits(asc[i]) == 0 && as_bits(dec[i]) == 0;
         sound &= status_of[i] == 0 || status_of[i] == 4 || status_of[i] == 7 || status_of[i] == 9 || status_of[i] == 14;
     }
     for (size_t i = 0; i < BRUNDELAK_COUNTS; i++)

@@ -61,8 +61,15 @@ static long long whole(void)
     return word == NULL ? -1 : (long long)strtoull(word, NULL, 10);
 }
 
-/* What a refused call must leave. */
+/* What a refused call must leave. Floats are NaNs, signalling and quiet, of either sign, which nothing answers. */
 static const uint32_t UNTOUCHED = 0xA5A5A5A5;
+static const uint64_t UNTOUCHED_FLOATS[] = {0x7FF4A5A5A5A50003, 0xFFF0000000000001, 0xFFFC000000000000, 0x7FF8000000000001};
+
+static void untouched(double *to, size_t count)
+{
+    for (size_t i = 0; i < count; i++)
+        memcpy(&to[i], &UNTOUCHED_FLOATS[i % 4], sizeof *to);
+}
 
 /* Each answers the status expected, or 999 where the call differs. */
 static unsigned star(void)
@@ -105,8 +112,8 @@ static unsigned batch(batch_call *call)
     unsigned status = (unsigned)whole();
     memset(statuses, 0xA5, sizeof statuses);
     memset(tally, 0xA5, sizeof tally);
-    for (size_t i = 0; i < ROOM; i++)
-        asc[i] = dec[i] = -1e300;
+    untouched(asc, ROOM);
+    untouched(dec, ROOM);
     memcpy(want_statuses, statuses, sizeof statuses);
     memcpy(want_asc, asc, sizeof asc);
     memcpy(want_dec, dec, sizeof dec);
@@ -212,10 +219,11 @@ int main(void)
     const struct function *f = NULL;
     unsigned calls = 0, answered = 0, refused = 0, differing = 0, seen = 0, lists = 0;
     while (fgets(line, sizeof line, stdin) != NULL) {
-        /* Numbers that nothing answers: what a refused call must leave. */
-        double given[9] = {0}, expected[3] = {-1e300, -2e300, -3e300}, out[3] = {-1e300, -2e300, -3e300};
+        double given[9] = {0}, expected[3], out[3];
         double *const places[3] = {&out[0], &out[1], &out[2]};
         unsigned status;
+        untouched(expected, 3);
+        untouched(out, 3);
         if (line[0] == '#')
             continue;
         int is_call = strchr(line, '=') != NULL;

@@ -39,6 +39,11 @@ int main(void)
     double asc, dec, longitude, latitude, untouched = 0.25;
     uint8_t status;
 
+    if (brundelak_float_environment() != 0) {
+        printf("floats do not round to nearest here, or do not keep subnormal numbers: the answers would be wrong\n");
+        return 1;
+    }
+
     /* theta Persei of J2000 on 2028 November 13.19, seen from 3 h (45 degrees) west of Greenwich, 52.3 degrees north. The
        sidereal time at Greenwich, in radians, comes from an almanac for that moment: 8h 04m 53s. */
     brundelak_to_radians(41.054063, &asc);

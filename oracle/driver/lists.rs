@@ -284,7 +284,8 @@ fn compare_batch(
 ) {
     let stars = bytes.len() / 12;
     let expected = batch_status(bytes, lens, (day1, day2));
-    let mut want = (lent(lens[0], 0xA5u8), lent(lens[1], -1e300), lent(lens[2], -2e300), [0xA5A5A5A5u32; 22]);
+    let (asc, dec) = (f64::from_bits(0x7FF4A5A5A5A50003), f64::from_bits(0xFFF0000000000001));
+    let mut want = (lent(lens[0], 0xA5u8), lent(lens[1], asc), lent(lens[2], dec), [0xA5A5A5A5u32; 22]);
     let mut got = want.clone();
     if expected == 0 {
         want.3[1..21].iter_mut().for_each(|c| *c = 0);

@@ -26,11 +26,11 @@ use std::process::exit;
 
 const SEED: u64 = 0x6272756e64656c61;
 
-/// Floats that no function answers: each place its own NaN.
+/// Floats that no function answers: each place its own NaN, signalling and of either sign.
 fn fresh() -> Lent {
     let mut lent = [0.0; 7];
     for (i, x) in lent.iter_mut().enumerate() {
-        *x = f64::from_bits(0x7FF4A5A5A5A50000 + i as u64);
+        *x = f64::from_bits(0x7FF4A5A5A5A50000 + i as u64 | (i as u64 / 2 % 2) << 63);
     }
     lent
 }

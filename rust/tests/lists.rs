@@ -93,6 +93,32 @@ fn a_refused_batch_has_no_results() {
     assert_eq!(batch::reduced(&[0; 60012], 2451545.0, 2451545.0), Err(Refusal::List));
 }
 
+/// Bits of NaNs, signalling and quiet, of either sign.
+const NANS: [u64; 5] = [0x7FF4A5A5A5A50003, 0xFFF0000000000001, 0xFFFC000000000000, 0x7FF8000000000001, 0xFFFFFFFFFFFFFFFF];
+
+#[test]
+fn what_a_batch_does_not_write_stays_bit_for_bit() {
+    let bits = |xs: &[f64]| xs.iter().map(|x| x.to_bits()).collect::<Vec<u64>>();
+    for edition in [Edition::Crate, Edition::Published] {
+        let (mut status, mut asc) = ([77; 5], NANS.map(f64::from_bits));
+        let mut dec = asc;
+        for (list, day2, stars, refusal) in [
+            (&LIST[..], f64::NAN, 5, Refusal::NotFinite),
+            (&LIST[..], 0.0, 5, Refusal::Day),
+            (&LIST[1..], 2462088.69, 5, Refusal::List),
+            (&LIST[..], 2462088.69, 2, Refusal::List),
+        ] {
+            let answer = batch::batch_by(edition, list, 2451545.0, day2, &mut status, &mut asc, &mut dec[..stars]);
+            assert_eq!((answer, status), (Err(refusal), [77; 5]));
+            assert_eq!((bits(&asc), bits(&dec)), (NANS.to_vec(), NANS.to_vec()));
+        }
+        batch::batch_by(edition, &LIST, 2451545.0, 2462088.69, &mut status, &mut asc, &mut dec).unwrap();
+        assert_eq!(status, [0, 9, 0, 77, 77]);
+        assert!(asc[..3].iter().chain(&dec[..3]).all(|x| x.is_finite()));
+        assert_eq!((bits(&asc[3..]), bits(&dec[3..])), (NANS[3..].to_vec(), NANS[3..].to_vec()));
+    }
+}
+
 #[test]
 fn what_a_batch_left_is_read_without_memory() {
     let (mut status, mut asc, mut dec) = ([0; 3], [0.0; 3], [0.0; 3]);
