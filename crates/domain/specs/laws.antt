@@ -10,6 +10,7 @@ pub mod Conversions
 pub mod Earth
 pub mod Annual
 pub mod Equatorial
+pub mod Editions
 pub mod Ecliptic
 pub mod Orbit
 pub mod NutationArguments
@@ -30,6 +31,7 @@ pub mod Moved
 pub mod AtmosAngle
 pub mod Atmos
 pub mod Chain
+pub mod MeanObliquity
 pub mod Star
 pub mod Fourteen
 pub mod Wrong

@@ -1,6 +1,9 @@
 -- What the theorems are stated by. Definitions only.
 pub mod Star
 pub mod Answers
+pub mod Alike
+pub mod Editions
+pub mod Pole
 pub mod Turns
 pub mod Nutation
 pub mod Aberration

@@ -9,6 +9,7 @@ pub mod RoundTrips
 pub mod Order
 pub mod Streams
 pub mod Room
+pub mod Calls
 pub mod Unique
 pub mod Cases
 pub mod Wrong

@@ -7,19 +7,22 @@ use Rattle.quantity.specs.declared.Rad.{Rad}
 use Rattle.quantity.specs.declared.EqPoint.{EqPoint}
 use Rattle.quantity.specs.declared.Shift.{Shift}
 use Rattle.quantity.specs.rules.Angle.{deg, rad}
-use Rattle.quantity.specs.rules.Answer.{Answer, answered, Pair, unless}
+use Rattle.quantity.specs.rules.Answer.{Answer, answered, Pair, first, second, unless, then}
 use Rattle.quantity.specs.rules.Refusal.{lower, epoch, angleRefusal, steepRefusal}
 use Rattle.edition.specs.declared.Edition.{Edition}
 use Rattle.elementary.specs.rules.Direction.{directionOf}
 use Rattle.helpers.specs.rules.Angle.{arc}
 use Rattle.precess.specs.rules.Days.{placeRefusal}
-use Rattle.precess.specs.rules.Equatorial.{eqTurnsOf}
+use Rattle.precess.specs.rules.Equatorial.{eqTurnsOf, precessEqCoordsRule}
 use Rattle.nutation_table.specs.rules.Day.{nutationOf}
+use Rattle.nutation.specs.rules.Day.{nutationRule}
+use Rattle.nutation.specs.rules.Point.{nutationInEqCoordsRule}
 use Rattle.aberr_table.specs.rules.Velocity.{velocityOf}
+use Rattle.aberr.specs.rules.Star.{stellAberrInEqCoordsRule}
 use Rattle.chain.specs.declared.Night.{Night}
 use Rattle.chain.specs.rules.Numbers.{n84381·448, n46·8150, n0·00059, n0·001813}
 use Rattle.chain.specs.rules.Obliquity.{meanObliquityOf, trueObliquity}
-use Rattle.chain.specs.rules.Chain.{pointRefusal}
+use Rattle.chain.specs.rules.Chain.{point, sum, pointRefusal}
 use Rattle.chain.specs.rules.Night.{nightFrom, nightOf, movedUnder, pairOf, reducedIn}
 
 -- that of 2451545.0
@@ -36,6 +39,14 @@ meanForTrue mean nutation = mean
 
 abbrev pub nutationTakenAway : Rad → Rad → Rad
 nutationTakenAway mean nutation = rad (mean .0 ⊖ nutation .0)
+
+-- the chain by another obliquity, of the mean one and nutation in it
+abbrev pub chainBy : (Rad → Rad → Rad) → Edition → Rad → Rad → Float → Float → Answer Pair
+chainBy obliquity edition asc dec day1 day2 =
+    then (precessEqCoordsRule edition asc dec day1 day2)
+    (λ (p : Pair). then (nutationRule day2)
+    (λ (n : Pair). then (nutationInEqCoordsRule (point p) (rad (first n)) (rad (second n)) (obliquity (meanObliquityOf day2) (rad (second n))))
+    (λ (dn : Pair). then (stellAberrInEqCoordsRule (point p) day2) (λ (da : Pair). answered (sum p dn da)))))
 
 -- precession from the first day to itself
 abbrev pub nightOfOneDay : Edition → Float → Float → Night

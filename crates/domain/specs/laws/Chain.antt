@@ -48,7 +48,7 @@ use Rattle.domain.specs.laws.StarAberration.{stell-aberr-in-eq-coords-an
 
 -- ---- what is not refused
 
-angle-near : (x : Rad) → Within 64 (x .0) → angleRefusal x ≡ 0
+pub angle-near : (x : Rad) → Within 64 (x .0) → angleRefusal x ≡ 0
 unfolding angleRefusal isFinite le ofBits round
 angle-near x i =
     past-none (x .0) farthest 3 tt (le-trans (size (x .0)) (over 64 1) farthest (between→size (over 64 1) (x .0) i) tt)
@@ -67,7 +67,7 @@ steep-cases x i =
     by-case true = inr refl
     by-case false = inl refl
 
-mean-obliquity-within : (day : Float) → dayRefusal day ≡ 0 → Within 32 (meanObliquityOf day .0)
+pub mean-obliquity-within : (day : Float) → dayRefusal day ≡ 0 → Within 32 (meanObliquityOf day .0)
 unfolding meanObliquityOf meanObliquity isFinite le neg add sub mul div ofBits round
 mean-obliquity-within day none =
     let C = known (century-within day none) in
@@ -75,7 +75,7 @@ mean-obliquity-within day none =
     ((con (arc n84381·448) ⊟ C ⊠ (con (arc n46·8150) ⊞ C ⊠ (con (arc n0·00059) ⊟ C ⊠ con (arc n0·001813)))) ⊠ con degree) tt
 
 -- the true obliquity, with nutation of 1.0 at most in size
-obliquity-within : (day : Float) (n : Rad) → dayRefusal day ≡ 0 → Within 1 (n .0) → Within 64 (trueObliquity (meanObliquityOf day) n .0)
+pub obliquity-within : (day : Float) (n : Rad) → dayRefusal day ≡ 0 → Within 1 (n .0) → Within 64 (trueObliquity (meanObliquityOf day) n .0)
 unfolding trueObliquity isFinite le neg add ofBits round
 obliquity-within day n none N = within 64 (known (mean-obliquity-within day none) ⊞ known N) tt
 

@@ -5,7 +5,8 @@ use mathlib.Core.Logic.{inl, inr}
 use lib.Dec.{T}
 use lib.IntN.{pos}
 use lib.Ieee.{Float, binary64, neg, fits}
-use Rattle.double.specs.rules.Operations.{bits, zero, _⊗_}
+use Rattle.double.specs.rules.Operations.{bits, zero, half, _⊗_}
+use Rattle.double.specs.rules.Sign.{size}
 use Rattle.double.specs.rules.Order.{_≼_, Finite, Between}
 use Rattle.double.specs.rules.Table.{over}
 use Rattle.double.specs.notions.Greatest.{greatest}
@@ -16,19 +17,19 @@ use Rattle.quantity.specs.declared.Rad.{Rad}
 use Rattle.quantity.specs.declared.EclPoint.{EclPoint}
 use Rattle.quantity.specs.declared.GeographPoint.{GeographPoint}
 use Rattle.quantity.specs.rules.Angle.{HALF, rad}
-use Rattle.quantity.specs.rules.Answer.{refused, statusOf}
+use Rattle.quantity.specs.rules.Answer.{answered, refused, triple, statusOf}
 use Rattle.quantity.specs.rules.Refusal.{epoch}
-use Rattle.helpers.specs.rules.Angle.{degreesOfHour}
+use Rattle.helpers.specs.rules.Angle.{degreesOfHour, limited}
 use Rattle.helpers.specs.rules.Earth.{rhoIn}
 use Rattle.edition.specs.declared.Edition.{Edition}
-use Rattle.edition.specs.declared.Edition.the-variants.{Crate}
+use Rattle.edition.specs.declared.Edition.the-variants.{Crate, Published}
 use Rattle.precess.specs.rules.Days.{placeRefusal}
 use Rattle.precess.specs.rules.Equatorial.{precessEqCoordsRule}
 use Rattle.nutation_args.specs.rules.Sum.{summed, none}
 use Rattle.nutation_args.specs.notions.Computed as nutation
 use Rattle.nutation_table.specs.rules.Rows.{rows}
 use Rattle.parallax.specs.rules.Observer.{centreOf, observerRefusal}
-use Rattle.parallax_ecl.specs.rules.Ecliptic.{nearby, eclipticAt, eclipticIn, topopcentRefusal, topopcentEclCoordsRule}
+use Rattle.parallax_ecl.specs.rules.Ecliptic.{nearby, longTop, upward, latPublished, latTop, semidiameterIn, eclipticFrom, eclipticAlong, eclipticAt, eclipticIn, topopcentRefusal, topopcentEclCoordsRule}
 use Rattle.atmos.specs.rules.Refraction.{refracFrmApprntAltOf, refracFrmTrueAltOf, altRefusal}
 use Rattle.atmos.specs.notions.Computed as atmos
 use Rattle.atmos.specs.notions.Stated.{lowest}
@@ -72,6 +73,14 @@ pub ecliptic-never-meets-six-excluded : (e : Edition) → ¬ ((q : EclPoint) (pa
 unfolding computed rhoIn centreOf observerRefusal nearby eclipticAt eclipticIn
 ecliptic-never-meets-six-excluded e wrong =
     apart ofNumber refl (wrong point (rad HALF) place zero (rad zero) (rad zero) (rad zero) refl 6 refl)
+
+-- seen from there at the sidereal time 5/16 under the obliquity 1/2, a body at the parallax 17/1024: N is −2^−56, the longitude a quarter
+-- turn to the last bit, and its cosine above zero, so that the published latitude is 3.13 radians
+pub published-latitude-never-past-the-pole-excluded : ¬ ((q : EclPoint) (parallax : Rad) (place : GeographPoint) (height : Float) (sidereal oblq semidiameter : Rad) (a b c : Float) → topopcentEclCoordsRule Published q parallax place height sidereal oblq semidiameter ≡ answered (triple a b c) → size b ≼ HALF)
+unfolding computed rhoIn centreOf observerRefusal nearby longTop upward latPublished latTop semidiameterIn eclipticFrom eclipticAlong eclipticAt eclipticIn limited
+published-latitude-never-past-the-pole-excluded wrong =
+    wrong (record { long = bits 0x3ff8e1468199cdec; lat = zero }) (rad (bits 0x3f91000000000000)) place zero (rad (bits 0x3fd4000000000000)) (rad half) (rad zero)
+    HALF (bits 0x40090bdf4150a068) zero refl
 
 -- the arguments all 0.0
 abbrev moon : Moon

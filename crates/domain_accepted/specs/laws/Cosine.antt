@@ -1,29 +1,30 @@
--- The cosine of an angle up to 80.0 in size is 2^−100 at least in size, so that it is never zero. Assumes nothing.
+-- The cosine of an angle up to 80.0 in size is 2^−100 at least in size, so that it is never zero; up to half a turn its sign is known.
+-- Assumes nothing.
 use Prim.Native.Nat.{ℕ, zero, suc, _%_, _^_, _≤_, _<_}
 use native.Mathlib.Nat.{le-trans as le-trans-ℕ, le-of-suc-le-suc, eq-or-lt-of-le}
 use native.Mathlib.Omega.{arith}
-use mathlib.Core.Path.{_≡_, sym, subst}
+use mathlib.Core.Path.{_≡_, refl, sym, _∙_, subst}
 use mathlib.Core.Logic.{_⊎_, inl, inr}
-use mathlib.Core.Bool.{Bool, _&&_}
+use mathlib.Core.Bool.{Bool, true, false, not, _&&_}
 use lib.Dec.{T, leb, leb→le, lit≤}
 use lib.Ieee.{Float, binary64, neg, add, sub, mul, div, le, ofBits, ofInt, toUnsigned, round}
 use lib.Ieee.Fits.{and-l, and-r, sub-fits}
 use lib.Ieee.Positive.{positive}
 use Rattle.double.specs.rules.Operations as operations
 use Rattle.double.specs.rules.Operations.{half, one, two, _⊕_, _⊖_, _⊗_}
-use Rattle.double.specs.rules.Sign.{size, isFinite}
+use Rattle.double.specs.rules.Sign.{bearsMinus, size, isFinite}
 use Rattle.double.specs.rules.Order.{_≼_, NonZero, Between}
-use Rattle.double.specs.rules.Whole.{fromWhole}
+use Rattle.double.specs.rules.Whole.{wholePart, fromWhole}
 use Rattle.double.specs.rules.Table.{over, minusOver}
 use Rattle.double.specs.notions.Range.{Expr, known, con, _⊞_, _⊟_, _⊠_, value, range, inside}
 use Rattle.double.specs.laws.Order.{le-trans, neg-le}
 use Rattle.double.specs.laws.Zero.{zero-neg}
-use Rattle.double.specs.laws.Sign.{neg-neg}
-use Rattle.double.specs.laws.Between.{between, between-neg, between-cut, size-between, nonzero-of-positive}
+use Rattle.double.specs.laws.Sign.{neg-neg, minus-neg, no-minus-of-plus}
+use Rattle.double.specs.laws.Between.{between, between-neg, between-cut, size-between, plus-of-positive, nonzero-of-positive}
 use Rattle.double.specs.laws.Interval.{bounded}
 use Rattle.double.specs.laws.WholePart.{whole-part-mono}
 use Rattle.quantity.specs.declared.Rad.{Rad}
-use Rattle.quantity.specs.rules.Angle.{HALF}
+use Rattle.quantity.specs.rules.Angle.{HALF, PI}
 use Rattle.quantity.specs.rules.Refusal.{farthest, angleRefusal, latitudeRefusal}
 use Rattle.elementary.specs.rules.Fold.{I, P1, P2, P3, fold, quarters, rest}
 use Rattle.elementary.specs.rules.Series.{sineSeries, cosineSeries}
@@ -31,7 +32,7 @@ use Rattle.elementary.specs.rules.Sine.{cosineQuarter, foldedCosine, cosineOf, 
 use Rattle.elementary.specs.laws.Accepted.{angle-accepted, latitude-accepted}
 use Rattle.elementary.specs.laws.Fold.{rest-at-most-one}
 use Rattle.elementary.specs.laws.Sine.{sineExpr, cosineExpr, square-one}
-use Rattle.domain_accepted.specs.notions.Away.{away, Away, stepAt, pointAt, lastBelow, firstAbove, fullLength, withinReach, staysBelow, staysAbove, sidesApart, keepsAway, allBelow}
+use Rattle.domain_accepted.specs.notions.Away.{away, Away, pastHalf, stepAt, pointAt, lastBelow, firstAbove, fullLength, withinReach, staysBelow, staysAbove, sidesApart, keepsAway, allBelow}
 use Rattle.domain_accepted.specs.laws.Neighbours.{neighbours}
 
 -- ---- the series
@@ -206,3 +207,57 @@ product-not-zero v w i j = not-zero-of least (v ⊗ w) tt (by-signs i j)
     by-signs (inl i) (inr j) = inl (below (known i ⊠ known j) tt)
     by-signs (inr i) (inl j) = inl (below (known i ⊠ known j) tt)
     by-signs (inr i) (inr j) = inr (above (known i ⊠ known j) tt)
+
+-- ---- its sign: plus up to a quarter turn, minus from the next double on to half a turn
+
+abbrev restExpr : ℕ → Expr → Expr
+restExpr n a = ((a ⊟ con (fromWhole n ⊗ P1)) ⊟ con (fromWhole n ⊗ P2)) ⊟ con (fromWhole n ⊗ P3)
+
+ahead-at : (n : ℕ) (a : Float) → n ≤ 1 → Between operations.zero HALF a → Between (neg one) one (restAt n a)
+    → Between away two (cosineQuarter (n % 4) (restAt n a))
+unfolding isFinite le neg add sub mul ofBits ofInt round
+ahead-at zero a k i r = cosine-above (restAt 0 a) r
+ahead-at (suc zero) a k i r =
+    let j = bounded binary64 (minusOver 256 1) (neg away) (restExpr 1 (known i)) tt in
+    rw (neg-neg two, neg-neg away) at (between-neg (sine-below (restAt 1 a) (between (r .start) (j .end) (r .from) (j .to))))
+ahead-at (suc (suc n)) a k i r = absurd (omega arith)
+
+behind-at : (n : ℕ) (a : Float) → 1 ≤ n → n ≤ 2 → Between pastHalf PI a → Between (neg one) one (restAt n a)
+    → Between (neg two) (neg away) (cosineQuarter (n % 4) (restAt n a))
+unfolding isFinite le neg add sub mul ofBits ofInt round
+behind-at zero a h k i r = absurd (omega arith)
+behind-at (suc zero) a h k i r =
+    let j = bounded binary64 away (over 256 1) (restExpr 1 (known i)) tt in
+    between-neg (sine-above (restAt 1 a) (between (j .start) (r .end) (j .from) (r .to)))
+behind-at (suc (suc zero)) a h k i r = between-neg (cosine-above (restAt 2 a) r)
+behind-at (suc (suc (suc n))) a h k i r = absurd (omega arith)
+
+pub cosine-ahead : (x : Rad) → size (x .0) ≼ HALF → bearsMinus (cosineOf x) ≡ false
+unfolding fold foldedCosine isFinite le mul add ofBits round
+cosine-ahead x h =
+    let a = size (x .0) in
+    let i = size-between (x .0) HALF tt h in
+    let s = bounded binary64 half (over 7 4) (known i ⊠ con I ⊞ con half) tt in
+    let k : quarters a ≤ 1 = le-trans-ℕ (whole-part-mono (a ⊗ I ⊕ half) (over 7 4) (s .finite) (s .end) tt (s .to)) (unfold toUnsigned in lit≤ tt) in
+    let c = ahead-at (quarters a) a k i (rest-at-most-one (x .0) (le-trans a HALF farthestAlone h tt)) in
+    no-minus-of-plus (cosineOf x) (plus-of-positive away (cosineOf x) tt (c .from))
+
+pub cosine-behind : (x : Rad) → pastHalf ≼ size (x .0) → size (x .0) ≼ PI → bearsMinus (cosineOf x) ≡ true
+unfolding fold foldedCosine isFinite le mul add ofBits round
+cosine-behind x g h =
+    let a = size (x .0) in
+    let i : Between pastHalf PI a = between tt tt g h in
+    let s = bounded binary64 (over 5 4) (over 11 4) (known i ⊠ con I ⊞ con half) tt in
+    let k : quarters a ≤ 2 = le-trans-ℕ (whole-part-mono (a ⊗ I ⊕ half) (over 11 4) (s .finite) (s .end) tt (s .to)) (unfold toUnsigned in lit≤ tt) in
+    let one-more : 1 ≤ wholePart (over 5 4) = unfold toUnsigned in lit≤ tt in
+    let m : 1 ≤ quarters a =
+    le-trans-ℕ one-more
+    (whole-part-mono (over 5 4) (a ⊗ I ⊕ half) (s .start) (s .finite) (plus-of-positive (over 5 4) (a ⊗ I ⊕ half) tt (s .from)) (s .from)) in
+    let c = behind-at (quarters a) a m k i (rest-at-most-one (x .0) (le-trans a PI farthestAlone h tt)) in
+    let up = rw (neg-neg away) at (neg-le (cosineOf x) (neg away) (c .to)) in
+    turned (bearsMinus (cosineOf x))
+    (sym (minus-neg (cosineOf x) (c .finite)) ∙ no-minus-of-plus (neg (cosineOf x)) (plus-of-positive away (neg (cosineOf x)) tt up))
+  where
+    turned : (b : Bool) → not b ≡ false → b ≡ true
+    turned true e = refl
+    turned false e = sym e

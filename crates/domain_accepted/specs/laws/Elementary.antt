@@ -24,12 +24,13 @@ use Rattle.double.specs.laws.NearZero.{add-plus}
 use Rattle.quantity.specs.declared.Rad.{Rad}
 use Rattle.quantity.specs.rules.Angle.{PI, HALF}
 use Rattle.quantity.specs.rules.Answer.{answered}
+use Rattle.quantity.specs.laws.Steps.{same-value}
 use Rattle.double.specs.rules.Count.{IsFromZero}
 use Rattle.root.specs.rules.Root.{rootOf, rootRule}
 use Rattle.root.specs.laws.Root.{root-from-zero, root-answered}
 use Rattle.elementary_arc.specs.rules.Arctangent.{turned, bothZero, arctangentOf, arctangentIn}
 use Rattle.elementary_arc.specs.rules.Arcsine.{arcsineIn}
-use Rattle.elementary_arc.specs.laws.Arctangent.{arctangent-in-at-most-pi, arctangent-refuses-fourteen, arctangent-answered}
+use Rattle.elementary_arc.specs.laws.Arctangent.{arctangent-in-at-most-half, arctangent-in-at-most-pi, arctangent-refuses-fourteen, arctangent-answered}
 use Rattle.elementary_arc.specs.laws.Arcsine.{arcsine-at-most-half, arcsine-refuses-seven}
 use Rattle.domain_accepted.specs.notions.Outcome.{Outcome}
 use Rattle.domain_accepted.specs.notions.Within.{Angle}
@@ -85,6 +86,24 @@ arctangent-number-outcome {Q} (fin s m e) (inf t) p q z =
     (sym (arctangent-answered (fin s m e) (inf t) (second-not-zero (fin s m e) (inf t) z)))
     (outcome-answered (arctangentOf (fin s m e) (inf t)) (at-infinity s t m e))
 
+level-at-infinity : (s : Bool) (m : ℕ) (e : ℤ) → size (arctangentOf (fin s m e) (inf false) .0) ≼ HALF
+unfolding arctangentOf bearsMinus size neg le div mul add ofBits round
+level-at-infinity true m e = tt
+level-at-infinity false m e = tt
+
+-- a quarter turn at most, where the second number bears no minus sign
+pub arctangent-number-at-most-half : (y x : Float) → Finite y → (x ≡ nan → ⊥) → bearsMinus x ≡ false → (v : Rad)
+    → arctangentIn y x ≡ answered v → size (v .0) ≼ HALF
+unfolding bearsMinus
+arctangent-number-at-most-half y nan p q h v e = absurd (q refl)
+arctangent-number-at-most-half y (fin t m c) p q h v e = arctangent-in-at-most-half y (fin t m c) v e p (unfold isFinite in tt) h
+arctangent-number-at-most-half nan (inf t) p q h v e = absurd (unfold isFinite in p)
+arctangent-number-at-most-half (inf s) (inf t) p q h v e = absurd (unfold isFinite in p)
+arctangent-number-at-most-half (fin s m c) (inf t) p q h v e =
+    let z : T (not (bothZero (fin s m c) (inf t))) = second-not-zero (fin s m c) (inf t) (unfold eq ofBits in tt) in
+    subst (λ (w : Rad). size (w .0) ≼ HALF) (same-value (sym (arctangent-answered (fin s m c) (inf t) z) ∙ e))
+    (subst (λ (u : Bool). size (arctangentOf (fin s m c) (inf u) .0) ≼ HALF) (sym h) (level-at-infinity s m c))
+
 -- ---- arcsine
 
 module _ {Q : ℕ → Type 0} (seven : Q 7) where
@@ -132,6 +151,28 @@ quotient-not-nan (fin s m c) (fin t n d) p q z e = by-case (eqb n 0) refl e
         → ⊥
     by-case true k e = T-not (isZero (fin t n d)) z (rw (eqb→eq n 0 (holds k)) (zero-is-zero t d))
     by-case false k e = round-not-nan binary64 (unlike s t) (m * up c * down d) (n * up d * down c) e
+
+-- and bears no minus sign where both bear the same
+pub quotient-no-minus : (x y : Float) → Finite x → Finite y → bearsMinus x ≡ bearsMinus y → bearsMinus (x ⊘ y) ≡ false
+unfolding isFinite bearsMinus div
+quotient-no-minus nan y p q same = absurd p
+quotient-no-minus (inf s) y p q same = absurd p
+quotient-no-minus (fin s m c) nan p q same = absurd q
+quotient-no-minus (fin s m c) (inf t) p q same = absurd q
+quotient-no-minus (fin s m c) (fin t n d) p q same = rw (alike s t same) (by-case (eqb n 0) (eqb m 0))
+  where
+    alike : (s t : Bool) → s ≡ t → unlike s t ≡ false
+    alike true true e = refl
+    alike true false e = e
+    alike false true e = sym e
+    alike false false e = refl
+
+    by-case : (a b : Bool)
+        → bearsMinus (cond a (cond b nan (inf false)) (round binary64 false (m * up c * down d) (n * up d * down c))) ≡ false
+    by-case true true = refl
+    by-case true false = refl
+    by-case false b =
+        no-minus-of-plus (round binary64 false (m * up c * down d) (n * up d * down c)) (round-plus binary64 (m * up c * down d) (n * up d * down c))
 
 -- nor is it zero, of what is not zero by a number of size 1 at most
 pub quotient-not-zero : (x y : Float) → T (fits binary64 x) → Finite x → NonZero x → NonZero y → size y ≼ one → NonZero (x ⊘ y)

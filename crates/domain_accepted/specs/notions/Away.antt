@@ -23,6 +23,10 @@ away = over 1 (2 ^ 100)
 abbrev pub Away : Float → Type 0
 Away x = Between (neg two) (neg away) x ⊎ Between away two x
 
+-- the double after HALF, from which on a cosine bears a minus sign
+abbrev pub pastHalf : Float
+pastHalf = operations.bits 0x3ff921fb54442d19
+
 -- ---- the doubles on either side: pointAt n and the next over 2^(stepAt n + 1), of 53 digits
 
 -- P2 + P3 is this over 2^121

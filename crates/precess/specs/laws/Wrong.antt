@@ -17,7 +17,7 @@ use Rattle.precess.specs.rules.Annual.{annualPrecessRule}
 use Rattle.precess.specs.rules.Equatorial.{precessEqCoordsRule}
 use Rattle.precess.specs.rules.Fk4.{precessEqCoordsFK5Rule}
 use Rattle.precess.specs.notions.Computed.{computed}
-use Rattle.precess.specs.notions.Wrong.{annualTangentIsSine, oneSignOfEach, spanBackward, xiTakenAway, daysInAnyOrder, arcsineFirst, fk4AnglesOfEach}
+use Rattle.precess.specs.notions.Wrong.{annualTangentIsSine, oneSignOfEach, spanBackward, xiTakenAway, daysInAnyOrder, arcsineFirst, fk4AnglesOfEach, fk4ZetaFromConvertedXi}
 
 -- ---- annual precession
 
@@ -97,3 +97,7 @@ fk4-third-angle-converted-excluded = apart (ofAnswer ofFirst) refl
 pub fk4-third-angle-in-degrees-excluded : fk4AnglesOfEach Published Crate r0 r0 earlier epoch ≢ precessEqCoordsFK5Rule Published r0 r0 earlier epoch
 unfolding computed
 fk4-third-angle-in-degrees-excluded = apart (ofAnswer ofFirst) refl
+
+pub fk4-zeta-from-a-converted-xi-excluded : fk4ZetaFromConvertedXi Published r0 r0 earlier epoch ≢ precessEqCoordsFK5Rule Published r0 r0 earlier epoch
+unfolding computed
+fk4-zeta-from-a-converted-xi-excluded = apart (ofAnswer ofFirst) refl

@@ -2,6 +2,7 @@
 use lib.Ieee.{Float}
 use Rattle.double.specs.rules.Operations.{_⊕_, _⊖_, _⊗_}
 use Rattle.quantity.specs.declared.Rad.{Rad}
+use Rattle.quantity.specs.rules.Angle.{deg}
 use Rattle.quantity.specs.rules.Answer.{Answer, answered, Pair, pair, unless, then}
 use Rattle.edition.specs.declared.Edition.{Edition}
 use Rattle.elementary.specs.rules.Direction.{directionOf}
@@ -72,3 +73,13 @@ fk4AnglesOfEach e f =
     let c = fk4Century day1 in
     let t = fk4Span day1 day2 in
     turnsOf (fk4Angle e (fk4Xi c t)) (fk4Angle e (fk4Zeta (fk4Xi c t) t)) (fk4Angle f (fk4Theta c t)))
+
+-- the second angle from a first one that was converted before
+abbrev pub fk4ZetaFromConvertedXi : Edition → Rad → Rad → Float → Float → Answer Pair
+fk4ZetaFromConvertedXi e =
+    under
+    (λ (day1 day2 : Float).
+    let c = fk4Century day1 in
+    let t = fk4Span day1 day2 in
+    let xi = fk4Angle e (fk4Xi c t) in
+    turnsOf xi (fk4Angle e (fk4Zeta (deg (xi .0)) t)) (fk4Angle e (fk4Theta c t)))
