@@ -32,7 +32,7 @@ pub fn room(r: &mut Random, place: usize, text: &Answer<Vec<u8>>) -> usize {
 
 /// A call that writes into a slice of some length from a place on, eight bytes on either side of it. No two bytes beside each other are
 /// the same before it.
-pub fn compare_put<F>(name: &str, text: Answer<Vec<u8>>, len: usize, place: usize, count: &mut Count, call: F)
+pub(crate) fn compare_put<F>(name: &str, text: Answer<Vec<u8>>, len: usize, place: usize, count: &mut Count, call: F)
 where
     F: FnOnce(*mut u8, *mut usize) -> u8,
 {
