@@ -2,7 +2,9 @@
 // Rules: specs/rules, in reading order in specs/rules.antt.
 ghost use mathlib.Core.Path.{_≡_};
 ghost use Rattle.aberr_args.specs.rules.Arguments.{argumentsOf};
-ghost use Rattle.aberr_args.specs.rules.Row.{angleOf, multipliersOf, partsOf, xTerms, yTerms, zTerms, times, plus, argumentOf, grouped, term, withTerm, moved, spread, shareOf, added, withRow};
+ghost use Rattle.aberr_args.specs.rules.Row.{angleOf, multipliersOf, xTerms, yTerms, zTerms, times, plus, argumentOf, grouped, term, withTerm, moved, spread, shareOf, added};
+ghost use Rattle.elementary.specs.rules.Sine.{turnOf};
+use elementary::Turn;
 use quantity::Rad;
 
 // ---- the arguments
@@ -46,8 +48,8 @@ pub fn arguments_at(t: f64) -> Arguments
 
 // ---- a row
 
-// How often which angle enters the argument, up to three times; the mark; the number of the parts in T; and for x, y and z the
-// coefficients of sine and cosine.
+// How often which angle enters the argument, up to three times; the mark; which row of the table holds the parts in T, by its index, or 0
+// for none; and for x, y and z the coefficients of sine and cosine.
 pub struct Row(
     pub i8,
     pub u8,
@@ -64,9 +66,6 @@ pub struct Row(
     pub i32,
     pub i32,
 );
-
-// The parts in T of a row's six coefficients.
-pub struct Parts(pub i16, pub i16, pub i16, pub i16, pub i16, pub i16);
 
 // The angle of a number: 1 is L', 2 to 8 are L2 to L8, 9 is D, 10 M' and 11 F.
 fn angle_of(g: Arguments, n: u8) -> Rad
@@ -106,13 +105,6 @@ pub struct Terms {
     pub cosine_t: f64,
 }
 
-// The parts in T of a number, which is not 0.
-fn parts_of(parts: [Parts; 3], n: u8) -> Parts
-    ensures { λ r. ⌜ r ≡ partsOf parts n ⌝ }
-{
-    parts[(n % 3) as usize]
-}
-
 // A row's multipliers.
 fn multipliers_of(x: Row) -> Multipliers
     ensures { λ r. ⌜ r ≡ multipliersOf x ⌝ }
@@ -125,45 +117,45 @@ fn multipliers_of(x: Row) -> Multipliers
     }
 }
 
-// A row's terms of x.
-fn x_terms(x: Row, q: Parts) -> Terms
+// A row's terms of x; q holds their parts in T.
+fn x_terms(x: Row, q: Row) -> Terms
     ensures { λ r. ⌜ r ≡ xTerms x q ⌝ }
 {
     Terms {
         kept: x.6 / 2 % 2 == 1,
         moving: x.7 != 0,
         sine: x.8 as f64,
-        sine_t: q.0 as f64,
+        sine_t: q.8 as f64,
         cosine: x.9 as f64,
-        cosine_t: q.1 as f64,
+        cosine_t: q.9 as f64,
     }
 }
 
 // A row's terms of y.
-fn y_terms(x: Row, q: Parts) -> Terms
+fn y_terms(x: Row, q: Row) -> Terms
     ensures { λ r. ⌜ r ≡ yTerms x q ⌝ }
 {
     Terms {
         kept: false,
         moving: x.7 != 0,
         sine: x.10 as f64,
-        sine_t: q.2 as f64,
+        sine_t: q.10 as f64,
         cosine: x.11 as f64,
-        cosine_t: q.3 as f64,
+        cosine_t: q.11 as f64,
     }
 }
 
 // A row's terms of z.
-fn z_terms(x: Row, q: Parts) -> Terms
+fn z_terms(x: Row, q: Row) -> Terms
     ensures { λ r. ⌜ r ≡ zTerms x q ⌝ }
 {
     Terms {
         kept: x.6 / 4 % 2 == 1,
         moving: x.7 != 0,
         sine: x.12 as f64,
-        sine_t: q.4 as f64,
+        sine_t: q.12 as f64,
         cosine: x.13 as f64,
-        cosine_t: q.5 as f64,
+        cosine_t: q.13 as f64,
     }
 }
 
@@ -288,8 +280,15 @@ fn share(e: Terms, t: f64, sine: f64, cosine: f64, sum: f64) -> f64
     }
 }
 
+// The sine and the cosine of a row's argument.
+pub fn turn_in(x: Row, g: Arguments) -> Turn
+    ensures { λ r. ⌜ r ≡ turnOf (argumentOf x g) ⌝ }
+{
+    elementary::turn_of(argument(x, g))
+}
+
 // The sums with a row's terms, from the sine and cosine of its argument.
-fn added(x: Row, q: Parts, t: f64, sine: f64, cosine: f64, v: Velocity) -> Velocity
+fn added(x: Row, q: Row, t: f64, sine: f64, cosine: f64, v: Velocity) -> Velocity
     ensures { λ r. ⌜ r ≡ added x q t sine cosine v ⌝ }
 {
     Velocity {
@@ -299,17 +298,20 @@ fn added(x: Row, q: Parts, t: f64, sine: f64, cosine: f64, v: Velocity) -> Veloc
     }
 }
 
-// The sums with one row more. Few rows have parts in T, and the others are not to pay for them.
-pub fn with_row(x: Row, parts: [Parts; 3], g: Arguments, v: Velocity) -> Velocity
-    ensures { λ r. ⌜ r ≡ withRow x parts g v ⌝ }
+// The same. Few rows have parts in T, and the others are not to pay for them.
+pub fn with_terms(x: Row, q: Row, t: f64, sine: f64, cosine: f64, v: Velocity) -> Velocity
+    ensures { λ r. ⌜ r ≡ added x q t sine cosine v ⌝ }
 {
-    let t = g.t;
     let n = x.7;
-    let a = elementary::turn_of(argument(x, g));
-    let sine = a.sine;
-    let cosine = a.cosine;
     if n == 0 {
-        return added(x, Parts(0, 0, 0, 0, 0, 0), t, sine, cosine, v);
+        return added(
+            x,
+            Row(0, 0, 0, 0, 0, 0, 0, 0, 0, 0, 0, 0, 0, 0),
+            t,
+            sine,
+            cosine,
+            v,
+        );
     }
-    added(x, parts_of(parts, n), t, sine, cosine, v)
+    added(x, q, t, sine, cosine, v)
 }

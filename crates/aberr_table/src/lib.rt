@@ -1,10 +1,11 @@
-// The table of aberration (section 4; Ron and Vondrák; Meeus, chapter 23): 36 rows in source order, and the Earth's velocity, their sums.
+// The table of aberration (section 4; Ron and Vondrák; Meeus, chapter 23): 36 rows in source order, behind them the parts in T of three,
+// and the Earth's velocity, the rows' sums.
 // Angles are in radians. Rules: specs/rules, in reading order in specs/rules.antt.
 ghost use mathlib.Core.Path.{_≡_};
-ghost use Rattle.aberr_table.specs.rules.Table.{table, partsInT, walked};
+ghost use lib.Dec.{T};
+ghost use Rattle.aberr_table.specs.rules.Table.{table, named, walk};
 ghost use Rattle.aberr_table.specs.rules.Velocity.{rows, summed, none, velocityOf};
 use aberr_args::Arguments;
-use aberr_args::Parts;
 use aberr_args::Row;
 use aberr_args::Velocity;
 use helpers::time;
@@ -50,17 +51,18 @@ const AZ: u8 = 5;
 
 const AXZ: u8 = 7;
 
-// A row's parts in T: none, or from 3 on the lines of PARTS, of rows 1, 2 and 5.
+// The row that holds a row's parts in T, by its index in ROWS: none, or those of rows 1, 2 and 5, behind the 36.
 const T0: u8 = 0;
 
-const T1: u8 = 3;
+const T1: u8 = 36;
 
-const T2: u8 = 4;
+const T2: u8 = 37;
 
-const T5: u8 = 5;
+const T5: u8 = 38;
 
-// The argument, the mark, the parts in T, and for x, y and z: sine, cosine.
-const ROWS: [Row; 36] = [
+// The argument, the mark, the row of the parts in T, and for x, y and z: sine, cosine. The last three are parts in T, with no argument of
+// their own.
+const ROWS: [Row; 39] = [
     Row(
         1,
         L3,
@@ -142,43 +144,55 @@ const ROWS: [Row; 36] = [
     Row(3, L2, -3, L3, 0, NO, A, T0, 0, -7, -6, 0, -3, 0),
     Row(2, L3, -2, L4, 0, NO, AXZ, T0, 5, -5, -4, -5, -2, -2),
     Row(1, L1, -2, D, 0, NO, PLAIN, T0, 5, 0, 0, -5, 0, -2),
-];
-
-// The parts in T, of the sines and cosines of x, y and z in rows 1, 2 and 5.
-const PARTS: [Parts; 3] = [
-    Parts(-2, 0, -13, 156, 32, -358),
-    Parts(141, -107, -95, -130, -48, -55),
-    Parts(-5, -4, -4, 5, 0, 0),
+    Row(0, NO, 0, NO, 0, NO, PLAIN, T0, -2, 0, -13, 156, 32, -358),
+    Row(
+        0,
+        NO,
+        0,
+        NO,
+        0,
+        NO,
+        PLAIN,
+        T0,
+        141,
+        -107,
+        -95,
+        -130,
+        -48,
+        -55,
+    ),
+    Row(0, NO, 0, NO, 0, NO, PLAIN, T0, -5, -4, -4, 5, 0, 0),
 ];
 
 // The table, for the walk and for whoever prints it.
-pub fn table() -> [Row; 36]
+pub fn table() -> [Row; 39]
     ensures { λ r. ⌜ r ≡ table ⌝ }
 {
     ROWS
 }
 
-// Its parts in T.
-pub fn parts_in_t() -> [Parts; 3]
-    ensures { λ r. ⌜ r ≡ partsInT ⌝ }
-{
-    PARTS
-}
-
 // ---- the sums
 
-// The sums over a table of rows.
-fn sum_over(table: [Row; 36], parts: [Parts; 3], g: Arguments) -> Velocity
-    ensures { λ r. ⌜ r ≡ walked parts table g none ⌝ }
+// The sums over a table's first 36 rows, each of which names a row of it. That row is read when sine and cosine are known: before, it would
+// have to be kept while they are worked out.
+fn sum_over(table: [Row; 39], g: Arguments) -> Velocity
+    requires { ⌜ T (named 39 table) ⌝ }
+    ensures { λ r. ⌜ r ≡ walk table g none ⌝ }
 {
     let mut v = Velocity {
         x: 0.0,
         y: 0.0,
         z: 0.0,
     };
+    let t = g.t;
     let mut i: usize = 0;
     while i < 36 {
-        v = aberr_args::with_row(table[i], parts, g, v);
+        let x = table[i];
+        let n = x.7 as usize;
+        let a = aberr_args::turn_in(x, g);
+        let sine = a.sine;
+        let cosine = a.cosine;
+        v = aberr_args::with_terms(x, table[n], t, sine, cosine, v);
         i += 1;
     }
     v
@@ -188,7 +202,7 @@ fn sum_over(table: [Row; 36], parts: [Parts; 3], g: Arguments) -> Velocity
 fn rows_sum(g: Arguments) -> Velocity
     ensures { λ r. ⌜ r ≡ summed rows g none ⌝ }
 {
-    sum_over(table(), parts_in_t(), g)
+    sum_over(table(), g)
 }
 
 // The Earth's velocity on a day.

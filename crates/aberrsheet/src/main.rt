@@ -1,13 +1,8 @@
 // The table of aberration by program: a line for each row, its argument, mark and coefficients, and the parts in T of these.
 // `tools/aberrsheet` reads the lines and prints them as the printed table stands.
-use aberr_args::Parts;
 use aberr_args::Row;
 
 fn of_8_bits(z: i8) -> i32 {
-    z as i32
-}
-
-fn of_16_bits(z: i16) -> i32 {
     z as i32
 }
 
@@ -48,35 +43,26 @@ fn coefficients(x: Row) {
     signed(x.13);
 }
 
-// Their parts in T.
-fn parts_in_t(q: Parts) {
-    signed(of_16_bits(q.0));
-    signed(of_16_bits(q.1));
-    signed(of_16_bits(q.2));
-    signed(of_16_bits(q.3));
-    signed(of_16_bits(q.4));
-    signed(of_16_bits(q.5));
-}
-
-// A row's line.
-fn line(x: Row, parts: [Parts; 3]) {
+// A row's line: q holds the parts in T of its coefficients, where it has any.
+fn line(x: Row, q: Row) {
     let n = x.7;
     argument(x);
     coefficients(x);
     if n == 0 {
-        parts_in_t(Parts(0, 0, 0, 0, 0, 0));
+        coefficients(Row(0, 0, 0, 0, 0, 0, 0, 0, 0, 0, 0, 0, 0, 0));
     } else {
-        parts_in_t(parts[(n % 3) as usize]);
+        coefficients(q);
     }
     io::write_all(1, b"\n");
 }
 
 fn main() {
     let table = aberr_table::table();
-    let parts = aberr_table::parts_in_t();
     let mut i: usize = 0;
     while i < 36 {
-        line(table[i], parts);
+        let x = table[i];
+        let n = x.7 as usize;
+        line(x, table[n]);
         i += 1;
     }
 }

@@ -4,3 +4,4 @@ pub mod Night
 pub mod Two
 pub mod Point
 pub mod Wrong
+pub mod Stated

@@ -11,7 +11,9 @@ use Rattle.double.specs.rules.Operations.{zero, one, _⊕_, _⊖_, _⊗_}
 use Rattle.double.specs.rules.Sign.{bearsMinus, size}
 use Rattle.double.specs.laws.Exact.{round-own}
 use Rattle.double.specs.laws.Mirror.{mul-neg-l, add-neg-r}
-use Rattle.aberr_args.specs.rules.Row.{isOne, times, plus, term, withTerm}
+use Rattle.aberr_args.specs.declared.Row.{Row}
+use Rattle.aberr_args.specs.declared.Velocity.{Velocity}
+use Rattle.aberr_args.specs.rules.Row.{isOne, times, plus, grouped, term, withTerm, spread, shareOf, added}
 
 -- ---- a factor 1
 
@@ -87,3 +89,9 @@ with-term-written p k d t w F e = rw (e) (go (eq d zero))
         → p ⊕ cond b k more ⊗ w ≡ cond b (cond (bearsMinus k) (p ⊖ times (size k) w) (p ⊕ times k w)) (p ⊕ cond b k more ⊗ w)
     go true = rw (e) at (plus-written p k w F e)
     go false = refl
+
+-- a row that has no parts in T reads none
+pub still-written : (x q r : Row) (t sine cosine : Float) (v : Velocity) → eqb (x .7) 0 ≡ true
+    → added x q t sine cosine v ≡ added x r t sine cosine v
+unfolding added shareOf spread grouped
+still-written x q r t sine cosine v none = rw (none)

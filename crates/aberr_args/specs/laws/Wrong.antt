@@ -1,15 +1,15 @@
 -- Wrong variants are excluded: each differs from the rule at the input stated. Assumes nothing.
 use mathlib.Core.Path.{refl}
-use mathlib.Core.Bool.{true, false}
+use mathlib.Core.Bool.{false}
 use std.Logic.{_≢_}
-use lib.Ieee.{inf, neg}
+use lib.Ieee.{inf}
 use Rattle.double.specs.rules.Operations.{zero, one}
 use Rattle.double.specs.laws.Apart.{apart}
 use Rattle.quantity.specs.notions.Code.{ofFloat, ofRad}
 use Rattle.aberr_args.specs.declared.Arguments.{Arguments}
 use Rattle.aberr_args.specs.declared.Terms.{Terms}
 use Rattle.aberr_args.specs.rules.Arguments.{argumentsOf}
-use Rattle.aberr_args.specs.rules.Row.{spread, shareOf}
+use Rattle.aberr_args.specs.rules.Row.{spread}
 use Rattle.aberr_args.specs.notions.Computed.{computed}
 use Rattle.aberr_args.specs.notions.Wrong.{anotherArgument, absentTermAdded}
 
@@ -25,12 +25,3 @@ cosineAlone = record { kept = false; moving = false; sine = zero; «sine_t» = z
 pub absent-term-added-excluded : absentTermAdded cosineAlone zero (inf false) one zero ≢ spread cosineAlone zero (inf false) one zero
 unfolding computed
 absent-term-added-excluded = apart ofFloat refl
-
--- −1·(sin A + cos A), as row 32 has it
-abbrev bothTaken : Terms
-bothTaken = record { kept = true; moving = false; sine = neg one; «sine_t» = zero; cosine = neg one; «cosine_t» = zero }
-
--- the sign of a zero
-pub both-taken-spread-excluded : spread bothTaken zero one (neg one) (neg zero) ≢ shareOf bothTaken zero one (neg one) (neg zero)
-unfolding computed
-both-taken-spread-excluded = apart ofFloat refl

@@ -14,7 +14,6 @@ use Rattle.quantity.specs.rules.Angle.{rad}
 use Rattle.elementary.specs.rules.Sine.{turnOf}
 use Rattle.aberr_args.specs.declared.Arguments.{Arguments}
 use Rattle.aberr_args.specs.declared.Row.{Row}
-use Rattle.aberr_args.specs.declared.Parts.{Parts}
 use Rattle.aberr_args.specs.declared.Multipliers.{Multipliers}
 use Rattle.aberr_args.specs.declared.Terms.{Terms}
 use Rattle.aberr_args.specs.declared.Velocity.{Velocity}
@@ -37,48 +36,41 @@ angleOf g n =
 abbrev whole : ℤ → Float
 whole z = ofInt binary64 z
 
--- no parts in T
-abbrev still : Parts
-still = record { 0 = pos 0; 1 = pos 0; 2 = pos 0; 3 = pos 0; 4 = pos 0; 5 = pos 0 }
-
--- the parts in T of a number, which is not 0
-abbrev pub partsOf : List Parts → ℕ → Parts
-partsOf parts n = getD parts (n % 3) still
-
 abbrev pub multipliersOf : Row → Multipliers
 multipliersOf x = record { kept = eqb (x .6 % 2) 1; first = whole (x .0); second = whole (x .2); third = whole (x .4) }
 
-abbrev pub xTerms : Row → Parts → Terms
+-- a row's terms; q is the row that holds their parts in T, and x .7 is 0 where they have none
+abbrev pub xTerms : Row → Row → Terms
 xTerms x q =
     record {
       kept = eqb (x .6 / 2 % 2) 1;
       moving = not (eqb (x .7) 0);
       sine = whole (x .8);
-      «sine_t» = whole (q .0);
+      «sine_t» = whole (q .8);
       cosine = whole (x .9);
-      «cosine_t» = whole (q .1);
+      «cosine_t» = whole (q .9);
     }
 
-abbrev pub yTerms : Row → Parts → Terms
+abbrev pub yTerms : Row → Row → Terms
 yTerms x q =
     record {
       kept = false;
       moving = not (eqb (x .7) 0);
       sine = whole (x .10);
-      «sine_t» = whole (q .2);
+      «sine_t» = whole (q .10);
       cosine = whole (x .11);
-      «cosine_t» = whole (q .3);
+      «cosine_t» = whole (q .11);
     }
 
-abbrev pub zTerms : Row → Parts → Terms
+abbrev pub zTerms : Row → Row → Terms
 zTerms x q =
     record {
       kept = eqb (x .6 / 4 % 2) 1;
       moving = not (eqb (x .7) 0);
       sine = whole (x .12);
-      «sine_t» = whole (q .4);
+      «sine_t» = whole (q .12);
       cosine = whole (x .13);
-      «cosine_t» = whole (q .5);
+      «cosine_t» = whole (q .13);
     }
 
 -- k is 1.0
@@ -136,7 +128,7 @@ unfoldable pub shareOf : Terms → Float → Float → Float → Float → Float
 shareOf e t sine cosine v = cond (e .kept) (v ⊕ grouped e sine cosine) (spread e t sine cosine v)
 
 -- the sums v with a row's terms
-unfoldable pub added : Row → Parts → Float → Float → Float → Velocity → Velocity
+unfoldable pub added : Row → Row → Float → Float → Float → Velocity → Velocity
 added x q t sine cosine v =
     record {
       x = shareOf (xTerms x q) t sine cosine (v .x);
@@ -144,8 +136,28 @@ added x q t sine cosine v =
       z = shareOf (zTerms x q) t sine cosine (v .z);
     }
 
--- the sums v with a row
-unfoldable pub withRow : Row → List Parts → Arguments → Velocity → Velocity
-withRow x parts g v =
+-- for a row that is not there
+abbrev nothing : Row
+nothing =
+    record {
+      0 = pos 0;
+      1 = 0;
+      2 = pos 0;
+      3 = 0;
+      4 = pos 0;
+      5 = 0;
+      6 = 0;
+      7 = 0;
+      8 = pos 0;
+      9 = pos 0;
+      10 = pos 0;
+      11 = pos 0;
+      12 = pos 0;
+      13 = pos 0;
+    }
+
+-- the sums v with a row x of a table
+unfoldable pub withRow : Row → List Row → Arguments → Velocity → Velocity
+withRow x table g v =
     let a = turnOf (argumentOf x g) in
-    added x (cond (eqb (x .7) 0) still (partsOf parts (x .7))) (g .t) (a .sine) (a .cosine) v
+    added x (getD table (x .7) nothing) (g .t) (a .sine) (a .cosine) v

@@ -11,11 +11,11 @@ use Rattle.quantity.specs.notions.Code.{ofFloat}
 use Rattle.quantity.specs.notions.Stated.{r0}
 use Rattle.aberr_args.specs.declared.Arguments.{Arguments}
 use Rattle.aberr_args.specs.declared.Velocity.{Velocity}
-use Rattle.aberr_table.specs.rules.Rows.{row1, row19, row21, row29, row30, row31, row33, row34, row35, row36}
+use Rattle.aberr_table.specs.rules.Rows.{row1, row19, row21, row29, row30, row31, row32, row33, row34, row35, row36}
 use Rattle.aberr_table.specs.rules.Velocity.{none}
 use Rattle.aberr_table.specs.rules.Table.{plain, A, Z, AZ}
 use Rattle.aberr_table.specs.notions.Computed.{computed}
-use Rattle.aberr_table.specs.notions.Wrong.{oneCoefficientChanged, partsInTDropped, twoRowsTraded, oneRowFewer, AX, XZ, marked}
+use Rattle.aberr_table.specs.notions.Wrong.{oneCoefficientChanged, partsInTDropped, anotherRowsPartsInT, twoRowsTraded, oneRowFewer, partsInTWalked, AX, XZ, marked}
 
 abbrev ofX : Velocity → ℕ
 ofX v = ofFloat (v .x)
@@ -69,6 +69,10 @@ pub parts-in-t-dropped-excluded : partsInTDropped still none ≢ row1 still none
 unfolding computed
 parts-in-t-dropped-excluded = apart ofZ refl
 
+pub another-rows-parts-in-t-excluded : anotherRowsPartsInT still none ≢ row1 still none
+unfolding computed
+another-rows-parts-in-t-excluded = apart ofZ refl
+
 pub two-rows-traded-excluded : twoRowsTraded quarter onward ≢ row30 quarter (row29 quarter onward)
 unfolding computed
 two-rows-traded-excluded = apart ofX refl
@@ -76,6 +80,10 @@ two-rows-traded-excluded = apart ofX refl
 pub one-row-fewer-excluded : oneRowFewer still none ≢ row36 still none
 unfolding computed
 one-row-fewer-excluded = apart ofZ refl
+
+pub parts-in-t-walked-excluded : partsInTWalked still none ≢ row36 still none
+unfolding computed
+parts-in-t-walked-excluded = apart ofZ refl
 
 -- ---- marks
 
@@ -119,3 +127,14 @@ row-33-z-unmarked-excluded = apart ofZ refl
 pub row-35-z-unmarked-excluded : marked 34 AX (at zero far zero zero) none ≢ row35 (at zero far zero zero) none
 unfolding computed
 row-35-z-unmarked-excluded = apart ofZ refl
+
+-- −1·(sin A + cos A), where the two take each other away: the sign of a zero, in a sum so far of −0.0
+abbrev opposed : Arguments
+opposed = at zero (bits 0x435f310e448536fb) zero zero
+
+abbrev below : Velocity
+below = record { x = neg zero; y = zero; z = zero }
+
+pub row-32-unmarked-excluded : marked 31 plain opposed below ≢ row32 opposed below
+unfolding computed
+row-32-unmarked-excluded = apart ofX refl

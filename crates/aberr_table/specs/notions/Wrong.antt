@@ -5,11 +5,11 @@ use lib.ListN.{take, drop}
 use Rattle.aberr_args.specs.declared.Arguments.{Arguments}
 use Rattle.aberr_args.specs.declared.Row.{Row}
 use Rattle.aberr_args.specs.declared.Velocity.{Velocity}
-use Rattle.aberr_table.specs.rules.Table.{p, m, o, no, L3, plain, T0, T1, row, table, partsInT, walked}
+use Rattle.aberr_table.specs.rules.Table.{p, m, o, no, L3, plain, T0, T1, T2, row, table, walked}
 
 -- the row after so many, changed
 abbrev changed : ℕ → (Row → Row) → Arguments → Velocity → Velocity
-changed after new = walked partsInT (over (take 1 (drop after table)))
+changed after new = walked table (over (take 1 (drop after table)))
   where
     over : List Row → List Row
     over [] = []
@@ -25,9 +25,14 @@ abbrev pub partsInTDropped : Arguments → Velocity → Velocity
 partsInTDropped =
     changed 0 (λ (x : Row). row (p 1) L3 o no o no plain T0 (m 1719914) (m 25) (p 25) (p 1578089) (p 10) (p 684185))
 
+-- row 1 with the parts in T of row 2
+abbrev pub anotherRowsPartsInT : Arguments → Velocity → Velocity
+anotherRowsPartsInT =
+    changed 0 (λ (x : Row). row (p 1) L3 o no o no plain T2 (m 1719914) (m 25) (p 25) (p 1578089) (p 10) (p 684185))
+
 -- row 30 before row 29
 abbrev pub twoRowsTraded : Arguments → Velocity → Velocity
-twoRowsTraded = walked partsInT (traded (take 2 (drop 28 table)))
+twoRowsTraded = walked table (traded (take 2 (drop 28 table)))
   where
     traded : List Row → List Row
     traded [] = []
@@ -36,7 +41,11 @@ twoRowsTraded = walked partsInT (traded (take 2 (drop 28 table)))
 
 -- the rows from the last on, without it
 abbrev pub oneRowFewer : Arguments → Velocity → Velocity
-oneRowFewer = walked partsInT (drop 35 (take 35 table))
+oneRowFewer = walked table (drop 35 (take 35 table))
+
+-- the rows from the last on, and those of the parts in T behind it
+abbrev pub partsInTWalked : Arguments → Velocity → Velocity
+partsInTWalked = walked table (drop 35 table)
 
 -- marks that no row has
 abbrev pub AX : ℕ

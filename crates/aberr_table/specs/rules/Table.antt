@@ -1,12 +1,14 @@
--- The table of 36 rows: how often which angle enters the argument, up to three times; the mark; the number of the parts in T; and for x,
--- y and z the coefficients of sine and cosine. p is plus, m is minus, o is nothing.
+-- The table: how often which angle enters the argument, up to three times; the mark; the index of the row that holds the parts in T; and
+-- for x, y and z the coefficients of sine and cosine. p is plus, m is minus, o is nothing.
 use mathlib.Core.List.{List, [], _∷_}
+use mathlib.Core.Bool.{Bool, true, _&&_}
 use Prim.Native.Nat.{ℕ}
+use lib.Dec.{ltb}
 use lib.IntN.{ℤ, pos, negℤ}
+use lib.ListN.{take}
 use Rattle.aberr_args.specs.declared.Arguments.{Arguments}
 use Rattle.aberr_args.specs.declared.Velocity.{Velocity}
 use Rattle.aberr_args.specs.declared.Row.{Row}
-use Rattle.aberr_args.specs.declared.Parts.{Parts}
 use Rattle.aberr_args.specs.rules.Row.{withRow}
 
 abbrev pub p : ℕ → ℤ
@@ -74,18 +76,18 @@ AZ = 5
 abbrev AXZ : ℕ
 AXZ = 7
 
--- a row's parts in T: none, or from 3 on the lines below, of rows 1, 2 and 5
+-- the row that holds a row's parts in T, by its index: none, or those of rows 1, 2 and 5, behind the 36
 abbrev pub T0 : ℕ
 T0 = 0
 
 abbrev pub T1 : ℕ
-T1 = 3
+T1 = 36
 
-abbrev T2 : ℕ
-T2 = 4
+abbrev pub T2 : ℕ
+T2 = 37
 
 abbrev T5 : ℕ
-T5 = 5
+T5 = 38
 
 abbrev pub row : ℤ → ℕ → ℤ → ℕ → ℤ → ℕ → ℕ → ℕ → ℤ → ℤ → ℤ → ℤ → ℤ → ℤ → Row
 row k a l b n c mark parts xs xc ys yc zs zc =
@@ -106,9 +108,7 @@ row k a l b n c mark parts xs xc ys yc zs zc =
       13 = zc;
     }
 
-abbrev part : ℤ → ℤ → ℤ → ℤ → ℤ → ℤ → Parts
-part xs xc ys yc zs zc = record { 0 = xs; 1 = xc; 2 = ys; 3 = yc; 4 = zs; 5 = zc }
-
+-- the 36 rows; then the parts in T of three of them, which have no argument of their own
 abbrev pub table : List Row
 table =
     row (p 1) L3 o no o no plain T1 (m 1719914) (m 25) (p 25) (p 1578089) (p 10) (p 684185)
@@ -147,17 +147,21 @@ table =
     ∷ row (p 3) L2 (m 3) L3 o no A T0 o (m 7) (m 6) o (m 3) o
     ∷ row (p 2) L3 (m 2) L4 o no AXZ T0 (p 5) (m 5) (m 4) (m 5) (m 2) (m 2)
     ∷ row (p 1) L1 (m 2) D o no plain T0 (p 5) o o (m 5) o (m 2)
+    ∷ row o no o no o no plain T0 (m 2) o (m 13) (p 156) (p 32) (m 358)
+    ∷ row o no o no o no plain T0 (p 141) (m 107) (m 95) (m 130) (m 48) (m 55)
+    ∷ row o no o no o no plain T0 (m 5) (m 4) (m 4) (p 5) o o
     ∷ []
 
--- the parts in T, of the sines and cosines of x, y and z in rows 1, 2 and 5
-abbrev pub partsInT : List Parts
-partsInT =
-    part (m 2) o (m 13) (p 156) (p 32) (m 358)
-    ∷ part (p 141) (m 107) (m 95) (m 130) (m 48) (m 55)
-    ∷ part (m 5) (m 4) (m 4) (p 5) o o
-    ∷ []
+-- each row names one of so many
+abbrev pub named : ℕ → List Row → Bool
+named n [] = true
+named n (x ∷ xs) = ltb (x .7) n && named n xs
 
--- the sums v with the rows of a table, in its order
-unfoldable pub walked : List Parts → List Row → Arguments → Velocity → Velocity
-walked parts [] g v = v
-walked parts (x ∷ xs) g v = walked parts xs g (withRow x parts g v)
+-- the sums v with rows of a table, in their order
+unfoldable pub walked : List Row → List Row → Arguments → Velocity → Velocity
+walked table [] g v = v
+walked table (x ∷ xs) g v = walked table xs g (withRow x table g v)
+
+-- the walk over a table's first 36 rows
+abbrev pub walk : List Row → Arguments → Velocity → Velocity
+walk table = walked table (take 36 table)
