@@ -24,7 +24,7 @@ use Rattle.list_radio.specs.rules.Moves.{toList}
 use Rattle.list_radio.specs.notions.Computed as radio
 use Rattle.edition.specs.declared.Edition.{Edition}
 use Rattle.batch.specs.declared.Batched.{Batched}
-use Rattle.list.specs.rules.Stars.{isList}
+use Rattle.list.specs.rules.Stars.{isList, countOf, stars}
 use Rattle.batch.specs.rules.Batch.{batchRefusal, answersOf}
 use Rattle.brundelak.specs.rules.Stored.{ToldFound, ToldBatch, ToldRaise}
 use Rattle.brundelak.specs.rules.Put.{ToldNumber, ToldPut}
@@ -49,7 +49,7 @@ nan-of-a-refused-batch-tidied-excluded edition wrong = apart (λ (l : List ℕ).
 -- an empty list is reduced, and of the places past its stars a NaN is made the quiet one
 pub nan-past-the-stars-tidied-excluded : (edition : Edition) (counts′ : List ℕ)
     → ¬ ToldBatch edition [] epoch epoch [] [] (0x7ff0000000000001 ∷ []) [] 0 [] [] (0x7ff8000000000000 ∷ []) counts′
-unfolding computed batchRefusal daysRefusal isList answersOf
+unfolding computed batchRefusal daysRefusal isList countOf stars answersOf
 nan-past-the-stars-tidied-excluded edition counts′ wrong = apart (λ (l : List ℕ). getD l 0 0) refl (wrong .batch .decs)
 
 -- the status 3, and 0 is counted

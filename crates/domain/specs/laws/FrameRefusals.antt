@@ -1,6 +1,6 @@
 -- Which refusals the changes of frame meet in the work: those that end in an arctangent 14 only, exactly where both its arguments are
--- zero, right ascension from ecliptic coordinates not even that, since a cosine is never zero; those that end in an arcsine never 14. Ecliptic coordinates from equatorial ones stand in
--- EclFrmEq. Assumes nothing.
+-- zero, right ascension from ecliptic coordinates not even that, since a cosine is never zero; those that end in an arcsine never 14.
+-- Ecliptic coordinates from equatorial ones stand in EclFrmEq. Assumes nothing.
 use Prim.Native.Nat.{ℕ}
 use mathlib.Core.Path.{_≡_, subst}
 use mathlib.Core.Logic.{_↔_}

@@ -3,7 +3,7 @@ use mathlib.Core.Path.{_≡_, refl, sym, subst}
 use mathlib.Core.Logic.{_⊎_, inl, inr}
 use mathlib.Core.Bool.{Bool, true, false, cond}
 use Prim.Native.Nat.{ℕ, zero, suc, _+_, _-_, _*_, _/_, _%_, _^_, _≤_, _<_}
-use native.Mathlib.Nat.{lt-of-lt-of-le, lt-of-le-of-lt, le-antisymm, le-div-iff-mul-le, div-lt-iff-lt-mul}
+use native.Mathlib.Nat.{lt-of-lt-of-le, lt-of-le-of-lt, le-div-iff-mul-le, div-lt-iff-lt-mul}
 use native.Mathlib.Nat.{le-of-mul-le-mul-left, mul-le-mul, mul-le-mul-left, mul-le-mul-right, mul-lt-mul-of-pos-right, pow-succ'}
 use native.Mathlib.Omega.{arith}
 use lib.Dec.{leb, ltb}
@@ -41,9 +41,6 @@ whole-root-least {n} {s} m r h =
 
 pub whole-root-most : {n s : ℕ} (m : ℕ) → IsWholeRoot n s → n < m * m → s < m
 whole-root-most {n} {s} m r h = square-lt-back s m (lt-of-le-of-lt (r .under) h)
-
-pub whole-root-only : {n s t : ℕ} → IsWholeRoot n s → IsWholeRoot n t → s ≡ t
-whole-root-only {s = s} {t = t} p q = le-antisymm (whole-root-least s q (p .under)) (whole-root-least t p (q .under))
 
 -- ---- a root rounded to nearest
 
