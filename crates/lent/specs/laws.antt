@@ -3,5 +3,7 @@ pub mod Writing
 pub mod Put
 pub mod Upto
 pub mod Rows
+pub mod Texts
+pub mod Walk
 pub mod Flags
 pub mod Wrong

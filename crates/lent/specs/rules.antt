@@ -2,3 +2,4 @@
 pub mod Writing
 pub mod Put
 pub mod Rows
+pub mod Texts

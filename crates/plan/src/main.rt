@@ -1,8 +1,10 @@
 // Prints the plan of the star list that stands on standard input. Arguments: the day of its places and the night's at 0h; then, in degrees,
 // the sidereal time at Greenwich there, the observer's longitude, west positive, and latitude, and the standard altitude.
-use quantity::Deg;
+use edition::Edition;
+use text_answers::Style;
 use text_day::Day;
 use text_degrees::Written;
+use transit::Observer;
 
 // The day that argument i says. A missing one, and one of more than 64 bytes, is none.
 fn day_of(i: usize) -> Day {
@@ -49,12 +51,19 @@ fn write(text: &[u8]) {
     }
 }
 
-// The plan of the list.
-fn print(day1: f64, day2: f64, sidereal: Deg, long: Deg, lat: Deg, alt: Deg) {
+// The plan of the list, in the crate's edition.
+fn print(day1: f64, day2: f64, o: Observer) {
     let mut input = [0u8; list::READ];
     let n = io::read_full(0, &mut input);
-    let mut out = [0u8; text_plan::ROOM];
-    let k = text_plan::put_plan(&mut out, &input[..n], day1, day2, sidereal, long, lat, alt);
+    let mut out = [0u8; report::ROOM];
+    let k = report::put_report(
+        &mut out,
+        Style::Plan(o),
+        Edition::Crate,
+        &input[..n],
+        day1,
+        day2,
+    );
     write(&out[..k]);
 }
 
@@ -76,7 +85,11 @@ fn on_days(day1: f64, day2: f64) {
         no_angle(b"ALTITUDE");
         return;
     };
-    print(day1, day2, sidereal, long, lat, alt);
+    print(
+        day1,
+        day2,
+        transit::observer_in_degrees(sidereal, long, lat, alt),
+    );
 }
 
 fn main() {

@@ -2,6 +2,7 @@
 // that the third names: the crate's where there is none. Where `--table` stands before them it is a table for people.
 ghost use Prim.Native.Nat.{_≤_};
 use edition::Edition;
+use text_answers::Style;
 use text_day::Day;
 
 // An edition, or that the text names none.
@@ -62,31 +63,18 @@ fn write(text: &[u8]) {
     }
 }
 
-// The report of the list.
-fn print_lines(edition: Edition, day1: f64, day2: f64) {
+// The list in its style, with the days and the edition read.
+fn print(style: Style, edition: Edition, day1: f64, day2: f64) {
     let mut input = [0u8; list::READ];
     let n = io::read_full(0, &mut input);
-    let mut out = [0u8; text_report::ROOM];
-    let k = text_report::put_report(&mut out, edition, &input[..n], day1, day2);
+    let mut out = [0u8; report::ROOM];
+    let k = report::put_report(&mut out, style, edition, &input[..n], day1, day2);
     write(&out[..k]);
 }
 
-// The table of the list.
-fn print_table(edition: Edition, day1: f64, day2: f64) {
-    let mut input = [0u8; list::READ];
-    let n = io::read_full(0, &mut input);
-    let mut out = [0u8; text_table::ROOM];
-    let k = text_table::put_table(&mut out, edition, &input[..n], day1, day2);
-    write(&out[..k]);
-}
-
-// With the days and the edition read.
-fn print(table: bool, edition: Edition, day1: f64, day2: f64) {
-    if table {
-        print_table(edition, day1, day2);
-    } else {
-        print_lines(edition, day1, day2);
-    }
+// A table, or lines.
+fn style_of(table: bool) -> Style {
+    if table { Style::Table } else { Style::Lines }
 }
 
 // How many arguments stand before the days.
@@ -114,5 +102,5 @@ fn main() {
         );
         return;
     };
-    print(table, edition, day1, day2);
+    print(style_of(table), edition, day1, day2);
 }

@@ -5,9 +5,10 @@ ghost use mathlib.Core.Bool.{cond};
 ghost use Prim.Native.Nat.{_≤_};
 ghost use lib.ListN.{length};
 ghost use Rattle.lent.specs.rules.Writing.{Wrote};
+ghost use Rattle.lent.specs.rules.Texts.{texts};
 ghost use Rattle.list.specs.rules.Record.{inRange};
 ghost use Rattle.list.specs.rules.Stars.{stars};
-ghost use Rattle.text_sheet.specs.rules.Sheet.{line, lines, goods, heading, footing, sheetOf};
+ghost use Rattle.text_sheet.specs.rules.Sheet.{line, lineAt, goods, heading, footing, sheetOf};
 ghost use Rattle.text_sheet.specs.rules.Render.{shownWritten, bytesOf, renderRule, rendered};
 use list::Star;
 
@@ -35,11 +36,10 @@ fn put_line(out: &mut [u8], at: usize, star: Star) -> usize
     lent::put(out, a, b" bad\n")
 }
 
-// A line for each star.
-fn put_lines(out: &mut [u8], at: usize, bytes: &[u8]) -> usize
-    ensures { λ r. ⌜ Wrote (now (out .entry)) at (lines (stars (now (bytes .entry)))) (now (out .exit)) r ⌝ }
+// A line for each of so many stars.
+fn put_lines(out: &mut [u8], at: usize, bytes: &[u8], n: usize) -> usize
+    ensures { λ r. ⌜ Wrote (now (out .entry)) at (texts n (lineAt (now (bytes .entry)))) (now (out .exit)) r ⌝ }
 {
-    let n = list::count(bytes);
     let mut place = lent::within(at, out.len());
     let mut i: usize = 0;
     while i < n {
@@ -100,7 +100,7 @@ fn put_sheet(out: &mut [u8], bytes: &[u8]) -> usize
     let n = list::count(bytes);
     let good = goods(bytes);
     let a = put_heading(out, 0, n);
-    let b = put_lines(out, a, bytes);
+    let b = put_lines(out, a, bytes, n);
     put_footing(out, b, good, n - good)
 }
 

@@ -6,7 +6,9 @@ ghost use Rattle.quantity.specs.rules.Answer.{shownRadians, shownThree};
 ghost use Rattle.transit.specs.rules.Arc.{arcCosine, arcIn};
 ghost use Rattle.transit.specs.rules.RiseCulmSet.{withinADay, culminationOf, fractions, riseCulmSetIn};
 ghost use Rattle.transit.specs.rules.RiseCulmSet.{observerRefusal, riseCulmSetRefusal, riseCulmSetRule};
+ghost use Rattle.transit.specs.rules.Observer.{planRefusal, plannedOf, placeInDegrees, observerInDegrees};
 use helpers::angle;
+use quantity::Deg;
 use quantity::EqPoint;
 use quantity::GeographPoint;
 use quantity::HALF;
@@ -81,7 +83,7 @@ fn rise_culm_set_in(p: EqPoint, sidereal: Rad, place: GeographPoint, alt: Rad) -
 }
 
 // Refusals of what belongs to the observer and his night: 1; 3; 4.
-pub fn observer_refusal(sidereal: Rad, place: GeographPoint, alt: Rad) -> u8
+fn observer_refusal(sidereal: Rad, place: GeographPoint, alt: Rad) -> u8
     ensures { λ r. ⌜ r ≡ observerRefusal sidereal place alt ⌝ }
 {
     quantity::lower(
@@ -125,4 +127,64 @@ pub fn rise_culm_set(
         return Three::Refused(no);
     }
     rise_culm_set_in(eq_point, greenw_sidr, geograph_point, alt)
+}
+
+// ---- an observer's plan
+
+// An observer and his night: the sidereal time at Greenwich at 0h, his place, and the standard altitude.
+pub struct Observer {
+    pub sidereal: Rad,
+    pub place: GeographPoint,
+    pub alt: Rad,
+}
+
+// Refusals of an observer, whatever the star: 1; 3; 4.
+pub fn plan_refusal(o: Observer) -> u8
+    ensures { λ r. ⌜ r ≡ planRefusal o ⌝ }
+{
+    let sidereal = o.sidereal;
+    let place = o.place;
+    let alt = o.alt;
+    observer_refusal(sidereal, place, alt)
+}
+
+// The rise, culmination and set of a star that was given a status and two angles. Refusals: the status; then those of `rise_culm_set`.
+pub fn planned(status: u8, asc: Rad, dec: Rad, o: Observer) -> Three
+    ensures { λ r. ⌜ shownThree r ≡ plannedOf status asc dec o ⌝ }
+{
+    if status != 0 {
+        return Three::Refused(status);
+    }
+    let sidereal = o.sidereal;
+    let place = o.place;
+    let alt = o.alt;
+    let point = EqPoint {
+        asc: asc.0,
+        dec: dec.0,
+    };
+    rise_culm_set(point, sidereal, place, alt)
+}
+
+// A place from its longitude, west positive, and latitude in degrees.
+fn place_in_degrees(long: Deg, lat: Deg) -> GeographPoint
+    ensures { λ r. ⌜ r ≡ placeInDegrees long lat ⌝ }
+{
+    GeographPoint {
+        long: angle::radians(long).0,
+        lat: angle::radians(lat).0,
+    }
+}
+
+// An observer from degrees.
+pub fn observer_in_degrees(sidereal: Deg, long: Deg, lat: Deg, alt: Deg) -> Observer
+    ensures { λ r. ⌜ r ≡ observerInDegrees sidereal long lat alt ⌝ }
+{
+    let theta = angle::radians(sidereal);
+    let place = place_in_degrees(long, lat);
+    let height = angle::radians(alt);
+    Observer {
+        sidereal: theta,
+        place,
+        alt: height,
+    }
 }

@@ -1,72 +1,29 @@
 -- `text_sheet::put_lines` meets its contract: after i turns the first i lines are written. Assumes nothing.
 use borrow.Author.Needs.{needs}
-use mathlib.Core.Path.{_≡_, ap, _∙_}
-use mathlib.Core.List.{_++_}
-use Prim.Native.Nat.{_+_, _-_, _≤_, _<_}
-use native.Mathlib.Omega.{arith}
-use lib.ListN.{take}
+use Prim.Native.Nat.{_-_}
+use mathlib.Core.Path.{ap}
 use Rattle.double.specs.laws.Calls.{asks-nothing}
-use Rattle.lent.specs.rules.Writing.{Wrote}
-use Rattle.lent.specs.laws.Writing.{after, same, nothing, kept}
-use Rattle.list.specs.rules.Stars.{countOf, stars}
-use Rattle.list.specs.laws.Stars.{all-stars}
-use Rattle.list.specs.declared.Star.{Star}
-use Rattle.text_sheet.specs.rules.Sheet.{line, lines}
-use Rattle.text_sheet.specs.laws.Sheet.{lines-more}
+use Rattle.lent.specs.notions.Walk.{Walked}
+use Rattle.lent.specs.laws.Writing.{same}
+use Rattle.lent.specs.laws.Walk.{begun, turned, ended, stays}
+use Rattle.text_sheet.specs.rules.Sheet.{line, lineAt}
 use Rattle.text_sheet.proofs.put_lines.Statement.{statement}
 use Rattle.text_sheet.proofs.put_lines.Tie as tie
 
 abbrev Inv-loop : tie.InvT-loop
-Inv-loop out₀ at bytes n place₀ i₀ out place i = (i ≤ n) × ((n ≡ countOf bytes) × Wrote out₀ at (lines (take i (stars bytes))) out place)
+Inv-loop out₀ at bytes n place₀ i₀ out place i = Walked out₀ at n (lineAt bytes) out place i
 
 abbrev μ-loop : tie.MeasureT-loop
 μ-loop out₀ at bytes n place₀ i₀ out place i = n - i
 
-loop-holds : tie.Need-loop-holds Inv-loop μ-loop
-loop-holds c = (search needs, (c .before .count .ensures, nothing _ _ _ (c .within .ensures)))
-
--- in a turn i is an index of the list
-index : (c : tie.In-loop Inv-loop μ-loop) → c .before .loop .i < countOf (c .before .before .before .before .before .before .args .bytes .now)
-index c = omega arith
-
-add-i : tie.Need-add-i Inv-loop μ-loop
-add-i c = search needs
-
-loop-less : tie.Need-loop-less Inv-loop μ-loop
-loop-less c = search needs
-
 loop-again : tie.Need-loop-again Inv-loop μ-loop
 loop-again c =
-    let turn = c .before .before .before .before .before .before in
-    let s = turn .before .before .before .before .before .args .bytes .now in
-    let i = turn .loop .i in (
-      omega arith,
-      (
-        turn .loop .inv .1 .0,
-        same (ap (λ (r : Star). lines (take i (stars s)) ++ line r) (c .before .before .before .nth .ensures) ∙ lines-more s i (index (c .before .before .before .before .before)))
-            (after (turn .loop .inv .1 .1) (c .before .before .put-line .ensures)),
-      ),
-    )
-
-same-length : tie.Need-same-length Inv-loop μ-loop
-same-length c = kept (c .before .loop .inv .1 .1)
-
-returns : tie.Need-returns Inv-loop μ-loop
-returns c = same (ap lines (all-stars (c .before .before .before .before .before .before .args .bytes .now) (c .before .loop .i) (omega arith))) (c .before .loop .inv .1 .1)
+    let turn = c .before .before .before .before .before in
+    turned (turn .before .loop .inv) (turn .loop-test .taken)
+    (same (ap line (c .before .before .before .nth .ensures)) (c .before .before .put-line .ensures))
 
 pub put-lines-spec : {M : Type 1} → statement M
 put-lines-spec =
     tie.close
-    (tie.spec
-    Inv-loop
-    μ-loop
-    asks-nothing
-    asks-nothing
-    loop-holds
-    asks-nothing
-    asks-nothing
-    add-i
-    loop-less
-    loop-again
-    same-length
-    returns)
+    (tie.spec Inv-loop μ-loop asks-nothing (λ c. begun (c .within .ensures)) asks-nothing asks-nothing (λ c. search needs)
+    (λ c. search needs) loop-again (λ c. stays (c .before .loop .inv)) (λ c. ended (c .before .loop .inv) (c .loop-test .left)))

@@ -8,10 +8,11 @@ use native.Mathlib.Omega.{arith}
 use borrow.Author.Tests.{not-true, not-false}
 use Rattle.double.specs.laws.Calls.{asks-nothing}
 use Rattle.lent.specs.laws.Writing.{after, same}
+use Rattle.lent.specs.rules.Texts.{texts}
 use Rattle.list.specs.rules.Stars.{isList, countOf, stars}
 use Rattle.list.specs.laws.Stars.{length-stars}
 use Rattle.text_number.specs.rules.Refused.{refusedText}
-use Rattle.text_sheet.specs.rules.Sheet.{lines, goods, heading, footing, sheetOf}
+use Rattle.text_sheet.specs.rules.Sheet.{lineAt, goods, heading, footing, sheetOf}
 use Rattle.text_sheet.specs.laws.Sheet.{goods-most}
 use Rattle.text_sheet.proofs.put_sheet.Statement.{statement}
 use Rattle.text_sheet.proofs.put_sheet.Tie as tie
@@ -21,7 +22,7 @@ unfolding sheetOf
 no-list s e = simp e
 
 -- n and good are what was counted
-a-list : (s : List ℕ) (n good : ℕ) → isList s ≡ true → n ≡ countOf s → good ≡ goods (stars s) → heading n ++ lines (stars s) ++ footing good (n - good) ≡ sheetOf s
+a-list : (s : List ℕ) (n good : ℕ) → isList s ≡ true → n ≡ countOf s → good ≡ goods (stars s) → heading n ++ texts n (lineAt s) ++ footing good (n - good) ≡ sheetOf s
 unfolding sheetOf
 a-list s n good t e g = simp (append-assoc, t, e, g)
 

@@ -1,22 +1,24 @@
 -- The sheet of any bytes has room in `room` bytes. Assumes nothing.
 use mathlib.Core.Path.{_≡_, refl}
 use mathlib.Core.Bool.{Bool, true, false, cond}
-use mathlib.Core.List.{List, [], _∷_, _++_}
+use mathlib.Core.List.{List, _∷_, _++_}
 use Prim.Native.Nat.{ℕ, _*_, _-_, _≤_, _<_}
 use native.Mathlib.Omega.{arith}
 use lib.IntN.{ℤ, pos, negsuc, natAbs}
 use lib.ListN.{length, length-append}
+use Rattle.lent.specs.rules.Texts.{texts}
+use Rattle.lent.specs.laws.Texts.{texts-short}
 use Rattle.list_words.specs.rules.Signed.{HasWord}
-use Rattle.list.specs.rules.Record.{inRange, Fitting}
-use Rattle.list.specs.rules.Stars.{isList, countOf, stars, AllFitting, Bytes}
-use Rattle.list.specs.laws.Stars.{whole, few, length-stars}
-use Rattle.list.specs.laws.RoundTrips.{bytes-back}
+use Rattle.list.specs.rules.Record.{inRange, width, Fitting}
+use Rattle.list.specs.rules.Stars.{isList, countOf, stars, nth, Bytes}
+use Rattle.list.specs.laws.Stars.{few, length-stars, nth-is}
+use Rattle.list.specs.laws.Record.{star-fits}
 use Rattle.list.specs.declared.Star.{Star}
 use Rattle.text_number.specs.rules.Bytes.{space}
 use Rattle.text_number.specs.rules.Number.{decimalText, integerText}
 use Rattle.text_number.specs.rules.Refused.{refusedText}
 use Rattle.text_number.specs.laws.Number.{decimal-short, integer-short, refused-short}
-use Rattle.text_sheet.specs.rules.Sheet.{okEnd, badEnd, line, lines, goods, heading, footing, sheetOf}
+use Rattle.text_sheet.specs.rules.Sheet.{okEnd, badEnd, line, lineAt, goods, heading, footing, sheetOf}
 use Rattle.text_sheet.specs.rules.Render.{room}
 use Rattle.text_sheet.specs.laws.Sheet.{goods-most}
 
@@ -42,10 +44,6 @@ line-short r f =
     by-case true n a d = simp length-append (omega arith)
     by-case false n a d = simp length-append (omega arith)
 
-lines-short : (rs : List Star) → AllFitting rs → length (lines rs) ≤ 40 * length rs
-lines-short [] f = omega arith
-lines-short (r ∷ rs) f = omega (arith, length-append (line r) (lines rs), line-short r (f .0), lines-short rs (f .1))
-
 heading-short : (n : ℕ) → n < 4294967296 → length (heading n) ≤ 20
 unfolding heading
 heading-short n h = let d = decimal-short n h in simp length-append (omega arith)
@@ -56,13 +54,13 @@ footing-short g b h k = let d = decimal-short g h in let e = decimal-short b k i
 
 module _ (s : List ℕ) (y : Bytes s) where
   list-short : isList s ≡ true
-      → length (heading (countOf s) ++ (lines (stars s) ++ footing (goods (stars s)) (countOf s - goods (stars s)))) ≤ room
+      → length (heading (countOf s) ++ (texts (countOf s) (lineAt s) ++ footing (goods (stars s)) (countOf s - goods (stars s)))) ≤ room
   list-short t =
       let n = few s t in
       let g = goods-most (stars s) in
       let l = length-stars s in
       let a = heading-short (countOf s) (omega arith) in
-      let b = lines-short (stars s) (bytes-back s (whole s t .1) y .fitting) in
+      let b = texts-short 40 (countOf s) (lineAt s) (λ (i : ℕ) h. line-short (nth s i) (rw (nth-is s i h) (star-fits s y (i * width)))) in
       let c = footing-short (goods (stars s)) (countOf s - goods (stars s)) (omega arith) (omega arith) in
       simp length-append (omega arith)
 
@@ -73,7 +71,7 @@ module _ (s : List ℕ) (y : Bytes s) where
       by-case : (b : Bool) → isList s ≡ b
           → length
           (cond b
-          (heading (countOf s) ++ (lines (stars s) ++ footing (goods (stars s)) (countOf s - goods (stars s))))
+          (heading (countOf s) ++ (texts (countOf s) (lineAt s) ++ footing (goods (stars s)) (countOf s - goods (stars s))))
           (refusedText 8))
           ≤ room
       by-case true t = list-short t

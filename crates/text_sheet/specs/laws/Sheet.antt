@@ -1,7 +1,7 @@
--- The lines and the good stars of a list, star by star. Assumes nothing.
+-- The good stars of a list, star by star. Assumes nothing.
 use mathlib.Core.Path.{_≡_, refl, sym, ap, _∙_}
 use mathlib.Core.Bool.{cond}
-use mathlib.Core.List.{List, [], _∷_, _++_, append-assoc, append-nil}
+use mathlib.Core.List.{List, [], _∷_, _++_}
 use Prim.Native.Nat.{ℕ, _+_, _≤_, _<_}
 use native.Mathlib.Nat.{add-assoc, add-zero, zero-add}
 use native.Mathlib.Omega.{arith}
@@ -11,11 +11,7 @@ use Rattle.list.specs.rules.Record.{inRange}
 use Rattle.list.specs.rules.Stars.{countOf, stars, nth}
 use Rattle.list.specs.laws.Stars.{one-more}
 use Rattle.list.specs.declared.Star.{Star}
-use Rattle.text_sheet.specs.rules.Sheet.{line, lines, goods}
-
-lines-append : (a b : List Star) → lines (a ++ b) ≡ lines a ++ lines b
-lines-append [] b = refl
-lines-append (r ∷ a) b = ap (λ (l : List ℕ). line r ++ l) (lines-append a b) ∙ sym (append-assoc (line r) (lines a) (lines b))
+use Rattle.text_sheet.specs.rules.Sheet.{goods}
 
 goods-append : (a b : List Star) → goods (a ++ b) ≡ goods a + goods b
 goods-append [] b = sym (zero-add (goods b))
@@ -23,13 +19,6 @@ goods-append (r ∷ a) b =
     ap (λ (n : ℕ). cond (inRange r) 1 0 + n) (goods-append a b) ∙ sym (add-assoc (cond (inRange r) 1 0) (goods a) (goods b))
 
 module _ (s : List ℕ) (i : ℕ) (h : i < countOf s) where
-  pub lines-more : lines (take i (stars s)) ++ line (nth s i) ≡ lines (take (i + 1) (stars s))
-  lines-more =
-      sym
-      (ap lines (one-more s i h)
-      ∙ lines-append (take i (stars s)) (nth s i ∷ [])
-      ∙ ap (λ (l : List ℕ). lines (take i (stars s)) ++ l) (append-nil (line (nth s i))))
-
   pub goods-more : goods (take i (stars s)) + cond (inRange (nth s i)) 1 0 ≡ goods (take (i + 1) (stars s))
   goods-more =
       sym

@@ -2,8 +2,9 @@
 use Prim.Native.Nat.{ℕ, _+_, _-_}
 use mathlib.Core.Bool.{cond}
 use mathlib.Core.List.{List, [], _∷_, _++_}
+use Rattle.lent.specs.rules.Texts.{texts}
 use Rattle.list.specs.rules.Record.{inRange}
-use Rattle.list.specs.rules.Stars.{isList, countOf, stars}
+use Rattle.list.specs.rules.Stars.{isList, countOf, stars, nth}
 use Rattle.list.specs.declared.Star.{Star}
 use Rattle.text_number.specs.rules.Bytes.{ascii, space, lineEnd}
 use Rattle.text_number.specs.rules.Number.{decimalText, integerText}
@@ -31,9 +32,9 @@ line r =
     decimalText (r .number)
     ++ cond (inRange r) (space ∷ (decimalText (r .asc) ++ (space ∷ (integerText (r .dec) ++ okEnd)))) badEnd
 
-abbrev pub lines : List Star → List ℕ
-lines [] = []
-lines (r ∷ rs) = line r ++ lines rs
+-- of star i of the list
+abbrev pub lineAt : List ℕ → ℕ → List ℕ
+lineAt s i = line (nth s i)
 
 -- how many are in range
 abbrev pub goods : List Star → ℕ
@@ -49,5 +50,5 @@ footing good bad = goodWord ++ (decimalText good ++ (badWord ++ (decimalText bad
 unfoldable pub sheetOf : List ℕ → List ℕ
 sheetOf s =
     cond (isList s)
-    (heading (countOf s) ++ (lines (stars s) ++ footing (goods (stars s)) (countOf s - goods (stars s))))
+    (heading (countOf s) ++ (texts (countOf s) (lineAt s) ++ footing (goods (stars s)) (countOf s - goods (stars s))))
     (refusedText 8)

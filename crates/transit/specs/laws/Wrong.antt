@@ -4,18 +4,22 @@ use mathlib.Core.Path.{refl}
 use std.Logic.{_≢_}
 use Rattle.double.specs.rules.Operations.{bits, zero}
 use Rattle.double.specs.laws.Apart.{apart}
+use Rattle.quantity.specs.declared.Deg.{Deg}
 use Rattle.quantity.specs.declared.EqPoint.{EqPoint}
 use Rattle.quantity.specs.declared.GeographPoint.{GeographPoint}
-use Rattle.quantity.specs.rules.Angle.{rad}
-use Rattle.quantity.specs.notions.Code.{ofTriple, ofAnswer, unread}
+use Rattle.quantity.specs.rules.Angle.{rad, deg}
+use Rattle.quantity.specs.notions.Code.{ofRad, ofFloat, ofTriple, ofAnswer, unread}
 use Rattle.quantity.specs.notions.Varies.{Varies}
 use Rattle.quantity.specs.notions.Stated.{r0, r½, r1, origin, northPole}
 use Rattle.transit.specs.rules.RiseCulmSet.{riseCulmSetRule}
+use Rattle.transit.specs.rules.Observer.{plannedOf, observerInDegrees}
+use Rattle.transit.specs.declared.Observer.{Observer}
 use Rattle.transit.specs.notions.Stated.{equator, westOfIt, northOfIt, pole, zenith, nadir}
 use Rattle.transit.specs.notions.Computed.{computed}
 use Rattle.transit.specs.notions.Wrong.{riseAndSetTraded, foldLeftOut, arcHalved, culminationFoldedFirst, longitudeTakenAsEast, culminationRegrouped}
 use Rattle.transit.specs.notions.Wrong.{fifteenAndSixteenTraded, limitTakenIn, quotientNotTested}
 use Rattle.transit.specs.notions.Wrong.{arcsineForArccosine, altitudePassedOver, declinationNotSteep, latitudeNotSteep, altitudeSteep}
+use Rattle.transit.specs.notions.Wrong.{statusPassedOver, degreesAsRadians, longitudeForLatitude}
 
 pub rise-culm-set-varies : Varies (riseCulmSetRule origin r0 westOfIt r0) (riseCulmSetRule origin r0 equator r0)
 unfolding computed
@@ -99,3 +103,27 @@ latitude-not-steep-excluded = apart (ofAnswer unread) refl
 pub altitude-steep-excluded : altitudeSteep origin r0 equator zenith ≢ riseCulmSetRule origin r0 equator zenith
 unfolding computed
 altitude-steep-excluded = apart (ofAnswer unread) refl
+
+-- ---- an observer's plan
+
+abbrev onEquator : Observer
+onEquator = record { sidereal = r0; place = equator; alt = r0 }
+
+pub status-passed-over-excluded : statusPassedOver 9 r0 r0 onEquator ≢ plannedOf 9 r0 r0 onEquator
+unfolding computed
+status-passed-over-excluded = apart (ofAnswer unread) refl
+
+-- 0.0 and 100.0 degrees
+abbrev none : Deg
+none = deg zero
+
+abbrev hundred : Deg
+hundred = deg (bits 0x4059000000000000)
+
+pub degrees-as-radians-excluded : degreesAsRadians hundred none none none ≢ observerInDegrees hundred none none none
+unfolding computed
+degrees-as-radians-excluded = apart (λ (o : Observer). ofRad (o .sidereal)) refl
+
+pub longitude-for-latitude-excluded : longitudeForLatitude none hundred none none ≢ observerInDegrees none hundred none none
+unfolding computed
+longitude-for-latitude-excluded = apart (λ (o : Observer). ofFloat (o .place .lat)) refl

@@ -3,8 +3,9 @@ use Prim.Native.Nat.{ℕ}
 use Rattle.helpers.specs.notions.Computed as helpers
 use Rattle.transit.specs.rules.Arc.{arcCosine, arcIn}
 use Rattle.transit.specs.rules.RiseCulmSet.{fractions, riseCulmSetIn, observerRefusal, riseCulmSetRefusal}
+use Rattle.transit.specs.rules.Observer.{plannedOf}
 
 -- a name for the line below it, which is what counts
 unfoldable pub computed : ℕ
-unfolding helpers.computed arcCosine arcIn fractions riseCulmSetIn observerRefusal riseCulmSetRefusal
+unfolding helpers.computed arcCosine arcIn fractions riseCulmSetIn observerRefusal riseCulmSetRefusal plannedOf
 computed = 0

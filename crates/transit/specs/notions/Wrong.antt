@@ -3,6 +3,7 @@ use Prim.Native.Nat.{ℕ}
 use mathlib.Core.Bool.{cond}
 use lib.Ieee.{Float, neg, le, lt}
 use Rattle.double.specs.rules.Operations.{zero, one, _⊕_, _⊖_, _⊘_}
+use Rattle.quantity.specs.declared.Deg.{Deg}
 use Rattle.quantity.specs.declared.Rad.{Rad}
 use Rattle.quantity.specs.declared.EqPoint.{EqPoint}
 use Rattle.quantity.specs.declared.GeographPoint.{GeographPoint}
@@ -12,7 +13,9 @@ use Rattle.quantity.specs.rules.Refusal.{lower, angleRefusal, latitudeRefusal, 
 use Rattle.elementary_arc.specs.rules.Arcsine.{arcsineIn}
 use Rattle.helpers.specs.rules.Angle.{turnInRadians}
 use Rattle.transit.specs.rules.Arc.{arcCosine, arcIn}
-use Rattle.transit.specs.rules.RiseCulmSet.{withinADay, culminationOf, fractions, riseCulmSetIn, observerRefusal, riseCulmSetRefusal}
+use Rattle.transit.specs.rules.RiseCulmSet.{withinADay, culminationOf, fractions, riseCulmSetIn, observerRefusal, riseCulmSetRefusal, riseCulmSetRule}
+use Rattle.transit.specs.rules.Observer.{observerInDegrees}
+use Rattle.transit.specs.declared.Observer.{Observer}
 
 -- with another arc of its cosine, another culmination, or other fractions of the two
 abbrev by : (Float → Answer Rad) → (Rad → Rad → Rad → Float) → (Float → Rad → Answer Triple) → EqPoint → Rad → GeographPoint → Rad
@@ -105,3 +108,17 @@ latitudeNotSteep = observed latitudeRefusal latitudeRefusal
 -- 4 asked of the standard altitude too
 abbrev pub altitudeSteep : EqPoint → Rad → GeographPoint → Rad → Answer Triple
 altitudeSteep = observed steepRefusal steepRefusal
+
+-- ---- an observer's plan
+
+-- of a star that was refused
+abbrev pub statusPassedOver : ℕ → Rad → Rad → Observer → Answer Triple
+statusPassedOver status asc dec o = riseCulmSetRule (record { asc = asc .0; dec = dec .0 }) (o .sidereal) (o .place) (o .alt)
+
+-- degrees taken for radians
+abbrev pub degreesAsRadians : Deg → Deg → Deg → Deg → Observer
+degreesAsRadians sidereal long lat alt =
+    record { sidereal = rad (sidereal .0); place = record { long = long .0; lat = lat .0 }; alt = rad (alt .0) }
+
+abbrev pub longitudeForLatitude : Deg → Deg → Deg → Deg → Observer
+longitudeForLatitude sidereal long lat alt = observerInDegrees sidereal lat long alt

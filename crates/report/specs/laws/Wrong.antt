@@ -1,0 +1,43 @@
+-- Wrong variants are excluded: each differs from the rule at the input stated. Assumes nothing.
+use Prim.Native.Nat.{ℕ}
+use mathlib.Core.Path.{refl}
+use mathlib.Core.List.{List, [], _∷_}
+use std.Logic.{_≢_}
+use Rattle.double.specs.rules.Operations.{zero, two}
+use Rattle.double.specs.laws.Apart.{apart}
+use Rattle.quantity.specs.rules.Refusal.{epoch}
+use Rattle.quantity.specs.notions.Stated.{r0}
+use Rattle.edition.specs.declared.Edition.the-variants.{Crate, Published}
+use Rattle.transit.specs.declared.Observer.{Observer}
+use Rattle.text_number.specs.notions.Code.{ofText}
+use Rattle.text_answers.specs.declared.Style.the-variants.{Table, Plan}
+use Rattle.report.specs.rules.Report.{reportOf}
+use Rattle.report.specs.notions.Computed.{computed}
+use Rattle.report.specs.notions.Wrong.{eightBeforeThree, observerNotRefused, refusedAsEmpty, editionUnsaid}
+
+-- no star, and a byte that is no list
+abbrev empty : List ℕ
+empty = []
+
+abbrev damaged : List ℕ
+damaged = 0 ∷ []
+
+-- a latitude of 2.0 radians
+abbrev beyondPole : Observer
+beyondPole = record { sidereal = r0; place = record { long = zero; lat = two }; alt = r0 }
+
+pub eight-before-three-excluded : eightBeforeThree beyondPole Crate damaged epoch epoch ≢ reportOf (Plan beyondPole) Crate damaged epoch epoch
+unfolding computed
+eight-before-three-excluded = apart ofText refl
+
+pub observer-not-refused-excluded : observerNotRefused beyondPole Crate empty epoch epoch ≢ reportOf (Plan beyondPole) Crate empty epoch epoch
+unfolding computed
+observer-not-refused-excluded = apart ofText refl
+
+pub refused-as-empty-excluded : refusedAsEmpty Table Crate damaged epoch epoch ≢ reportOf Table Crate damaged epoch epoch
+unfolding computed
+refused-as-empty-excluded = apart ofText refl
+
+pub edition-unsaid-excluded : editionUnsaid Published empty epoch epoch ≢ reportOf Table Published empty epoch epoch
+unfolding computed
+edition-unsaid-excluded = apart ofText refl

@@ -1,0 +1,22 @@
+-- `text_answers::put_star` meets its contract. Assumes nothing.
+use borrow.Author.Needs.{needs}
+use Rattle.double.specs.laws.Calls.{asks-nothing}
+use Rattle.lent.specs.laws.Writing.{same}
+use Rattle.text_answers.proofs.put_star.Statement.{statement}
+use Rattle.text_answers.proofs.put_star.Tie as tie
+use Rattle.text_time.proofs.put_line.Reads as put-line-reads′
+
+returns : tie.Need-returns
+returns c = same (rw (c .before .before .before .before .enum-told .given .1)) (c .before .before .put-line .ensures)
+
+returns-2 : tie.Need-returns-2
+returns-2 c = same (rw (c .before .before .before .before .enum-told2 .given .1)) (c .before .before .put-row .ensures)
+
+returns-3 : tie.Need-returns-3
+returns-3 c = same (rw (c .before .before .before .before .before .before .style .given .1, c .before .before .before .planned .ensures)) (c .before .before .put-line2 .ensures)
+
+pub put-star-spec : {M : Type 1} → statement M
+put-star-spec =
+    tie.close
+    (tie.spec (λ c. search needs) asks-nothing (λ c. search needs) asks-nothing (λ c. search needs) asks-nothing asks-nothing
+    (λ c. search needs) returns (λ c. search needs) returns-2 (λ c. search needs) returns-3)

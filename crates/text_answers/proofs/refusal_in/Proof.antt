@@ -1,0 +1,14 @@
+-- `text_answers::refusal_in` meets its contract. Assumes nothing.
+use borrow.Author.Needs.{needs}
+use Rattle.double.specs.laws.Calls.{asks-nothing}
+use Rattle.text_answers.proofs.refusal_in.Statement.{statement}
+use Rattle.text_answers.proofs.refusal_in.Tie as tie
+
+returns-3 : tie.Need-returns-3
+returns-3 c = rw (c .before .before .before .style .given .1, c .lower .ensures, c .before .plan-refusal .ensures)
+
+pub refusal-in-spec : {M : Type 1} → statement M
+refusal-in-spec =
+    tie.close
+    (tie.spec (λ c. search needs) (λ c. search needs) (λ c. search needs) asks-nothing asks-nothing (λ c. search needs)
+    (λ c. search needs) returns-3)

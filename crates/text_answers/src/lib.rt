@@ -1,0 +1,248 @@
+// The text of a list's answers, star by star, in one of three styles. What is printed was worked out before: a status and two angles a
+// star, each angle lent as its bits, a refusal of all and a tally.
+// Rules: specs/rules, in reading order in specs/rules.antt.
+ghost use Prim.Native.Nat.{_+_};
+ghost use mathlib.Core.Path.{_≡_};
+ghost use lib.ListN.{getD};
+ghost use Rattle.lent.specs.rules.Writing.{Wrote};
+ghost use Rattle.lent.specs.rules.Texts.{texts};
+ghost use Rattle.list.specs.rules.Stars.{countOf};
+ghost use Rattle.list_tally.specs.rules.Status.{highestStatus};
+ghost use Rattle.text_answers.specs.rules.Answers.{starText, editionText, headingText, headText, countText, countAt, tallyText, footText};
+ghost use Rattle.text_answers.specs.rules.Answers.{refusalIn, refusedIn, angleAt, lentLine, answersText};
+use edition::Edition;
+use list_tally::Tally;
+use quantity::Rad;
+use transit::Observer;
+
+// What is written of a star: its angles, and a tally of all; a row of a table; or its plan for an observer.
+pub enum Style {
+    Lines,
+    Table,
+    Plan(Observer),
+}
+
+// How many statuses are known.
+const KNOWN: usize = list_tally::HIGHEST_STATUS as usize + 1;
+
+// ---- a star
+
+// Byte i of a slice; past its end 0.
+fn byte_at(s: &[u8], i: usize) -> u8
+    ensures { λ r. ⌜ r ≡ getD (now (s .entry)) i 0 ⌝ }
+{
+    if i < s.len() {
+        return s[i];
+    }
+    0
+}
+
+// Angle i of a slice of radians, each lent as its bits; past its end 0.0.
+fn angle_at(s: &[u64], i: usize) -> Rad
+    ensures { λ r. ⌜ r ≡ angleAt (now (s .entry)) i ⌝ }
+{
+    if i < s.len() {
+        let x = double::of_pattern(s[i]);
+        return Rad(x);
+    }
+    Rad(0.0)
+}
+
+// A star in its style.
+fn put_star(
+    out: &mut [u8],
+    at: usize,
+    style: Style,
+    number: u32,
+    status: u8,
+    asc: Rad,
+    dec: Rad,
+) -> usize
+    ensures { λ r. ⌜ Wrote (now (out .entry)) at (starText style number status asc dec) (now (out .exit)) r ⌝ }
+{
+    match style {
+        Style::Lines => text_line::put_line(out, at, number, status, asc, dec),
+        Style::Table => text_row::put_row(out, at, number, status, asc, dec),
+        Style::Plan(o) => text_time::put_line(
+            out,
+            at,
+            number,
+            transit::planned(status, asc, dec, o),
+        ),
+    }
+}
+
+// Star i of the list, whose status and angles are lent.
+fn put_nth<'a>(
+    out: &mut [u8],
+    at: usize,
+    style: Style,
+    bytes: &'a [u8],
+    status: &'a [u8],
+    asc: &'a [u64],
+    dec: &'a [u64],
+    i: usize,
+) -> usize
+    ensures { λ r. ⌜ Wrote (now (out .entry)) at (lentLine style (now (bytes .entry)) (now (status .entry)) (now (asc .entry)) (now (dec .entry)) i) (now (out .exit)) r ⌝ }
+{
+    let star = list::nth(bytes, i);
+    put_star(
+        out,
+        at,
+        style,
+        star.number,
+        byte_at(status, i),
+        angle_at(asc, i),
+        angle_at(dec, i),
+    )
+}
+
+// Every star.
+fn put_stars<'a>(
+    out: &mut [u8],
+    at: usize,
+    style: Style,
+    bytes: &'a [u8],
+    status: &'a [u8],
+    asc: &'a [u64],
+    dec: &'a [u64],
+    n: usize,
+) -> usize
+    ensures { λ r. ⌜ Wrote (now (out .entry)) at (texts n (lentLine style (now (bytes .entry)) (now (status .entry)) (now (asc .entry)) (now (dec .entry)))) (now (out .exit)) r ⌝ }
+{
+    let mut place = lent::within(at, out.len());
+    let mut i: usize = 0;
+    while i < n {
+        place = put_nth(out, place, style, bytes, status, asc, dec, i);
+        i += 1;
+    }
+    place
+}
+
+// ---- head and foot
+
+// The edition in a line, where it is the published one.
+fn put_edition(out: &mut [u8], edition: Edition) -> usize
+    ensures { λ r. ⌜ Wrote (now (out .entry)) 0 (editionText edition) (now (out .exit)) r ⌝ }
+{
+    match edition {
+        Edition::Crate => 0,
+        Edition::Published => lent::put(out, 0, b"edition published\n"),
+    }
+}
+
+// The table's heading.
+fn put_heading(out: &mut [u8], at: usize) -> usize
+    ensures { λ r. ⌜ Wrote (now (out .entry)) at headingText (now (out .exit)) r ⌝ }
+{
+    lent::put(
+        out,
+        at,
+        b"      star  right ascension  declination\n             h  m  s           d  '  \"\n",
+    )
+}
+
+// What stands before the stars.
+fn put_head(out: &mut [u8], style: Style, edition: Edition) -> usize
+    ensures { λ r. ⌜ Wrote (now (out .entry)) 0 (headText style edition) (now (out .exit)) r ⌝ }
+{
+    match style {
+        Style::Lines => put_edition(out, edition),
+        Style::Table => {
+            let a = put_edition(out, edition);
+            put_heading(out, a)
+        }
+        Style::Plan(_) => 0,
+    }
+}
+
+// The count of one status.
+fn put_count(out: &mut [u8], at: usize, n: u32) -> usize
+    ensures { λ r. ⌜ Wrote (now (out .entry)) at (countText n) (now (out .exit)) r ⌝ }
+{
+    let a = lent::put_byte(out, at, b' ');
+    text_number::put_decimal(out, a, n as u64)
+}
+
+// The counts of the statuses from 0 to the highest known.
+fn put_counts(out: &mut [u8], at: usize, counts: &[u32; 20]) -> usize
+    ensures { λ r. ⌜ Wrote (now (out .entry)) at (texts (highestStatus + 1) (countAt (now (counts .entry)))) (now (out .exit)) r ⌝ }
+{
+    let mut place = lent::within(at, out.len());
+    let mut k: usize = 0;
+    while k < KNOWN {
+        place = put_count(out, place, counts[k]);
+        k += 1;
+    }
+    place
+}
+
+// The tally in a line.
+fn put_tally(out: &mut [u8], at: usize, tally: Tally) -> usize
+    ensures { λ r. ⌜ Wrote (now (out .entry)) at (tallyText tally) (now (out .exit)) r ⌝ }
+{
+    let counts = tally.counts;
+    let a = lent::put(out, at, b"tally");
+    let b = put_counts(out, a, &counts);
+    lent::put_byte(out, b, b'\n')
+}
+
+// What stands after the stars.
+fn put_foot(out: &mut [u8], at: usize, style: Style, tally: Tally) -> usize
+    ensures { λ r. ⌜ Wrote (now (out .entry)) at (footText style tally) (now (out .exit)) r ⌝ }
+{
+    match style {
+        Style::Lines => put_tally(out, at, tally),
+        Style::Table => lent::within(at, out.len()),
+        Style::Plan(_) => lent::within(at, out.len()),
+    }
+}
+
+// ---- a refusal
+
+// The least refusal over all arguments, with the list's.
+fn refusal_in(style: Style, n: u8) -> u8
+    ensures { λ r. ⌜ r ≡ refusalIn style n ⌝ }
+{
+    match style {
+        Style::Lines => n,
+        Style::Table => n,
+        Style::Plan(o) => quantity::lower(n, transit::plan_refusal(o)),
+    }
+}
+
+// A refused call's text.
+fn put_refused(out: &mut [u8], style: Style, n: u8) -> usize
+    ensures { λ r. ⌜ Wrote (now (out .entry)) 0 (refusedIn style n) (now (out .exit)) r ⌝ }
+{
+    match style {
+        Style::Lines => text_number::put_refused(out, 0, n),
+        Style::Table => text_refusal::put_refusal(out, 0, n),
+        Style::Plan(_) => text_number::put_refused(out, 0, n),
+    }
+}
+
+// ---- the whole
+
+// The answers of a list that was reduced with such a refusal and tally, from the slice's start on; and the place after them.
+pub fn put_answers<'a>(
+    out: &mut [u8],
+    style: Style,
+    edition: Edition,
+    bytes: &'a [u8],
+    status: &'a [u8],
+    asc: &'a [u64],
+    dec: &'a [u64],
+    refusal: u8,
+    tally: Tally,
+) -> usize
+    ensures { λ r. ⌜ Wrote (now (out .entry)) 0 (answersText style edition (now (bytes .entry)) (now (status .entry)) (now (asc .entry)) (now (dec .entry)) refusal tally) (now (out .exit)) r ⌝ }
+{
+    let no = refusal_in(style, refusal);
+    if no != 0 {
+        return put_refused(out, style, no);
+    }
+    let a = put_head(out, style, edition);
+    let b = put_stars(out, a, style, bytes, status, asc, dec, list::count(bytes));
+    put_foot(out, b, style, tally)
+}
