@@ -6,35 +6,21 @@
 #include <stdlib.h>
 #include <string.h>
 #include <ucontext.h>
+#include "../oracle/bits.h"
 #include "../oracle/functions.h"
 
 /* ---- random numbers (splitmix64) ---- */
 
-static uint64_t state = 1;
-
-static uint64_t bits(void)
-{
-    uint64_t z = state += 0x9E3779B97F4A7C15;
-    z = (z ^ z >> 30) * 0xBF58476D1CE4E5B9;
-    z = (z ^ z >> 27) * 0x94D049BB133111EB;
-    return z ^ z >> 31;
-}
-
-static size_t below(size_t n)
-{
-    return (size_t)(bits() % n);
-}
-
 static double between(double low, double high)
 {
-    return low + (double)(bits() >> 11) / 9007199254740992.0 * (high - low);
+    return low + (double)(drawn_bits() >> 11) / 9007199254740992.0 * (high - low);
 }
 
 /* A small number, a day, any bits, or an infinity. */
 static double any_double(void)
 {
-    uint64_t b = bits();
-    size_t by = below(16);
+    uint64_t b = drawn_bits();
+    size_t by = drawn_below(16);
     double x;
     if (by < 8)
         return between(-1.57, 1.57);
@@ -123,10 +109,10 @@ static void draw(const struct function *f)
 {
     size_t answered = 0, last = 0;
     for (size_t i = 0; i < CALLS; i++) {
-        int fresh = answered == 0 || below(8) == 0;
+        int fresh = answered == 0 || drawn_below(8) == 0;
         memcpy(drawn[i], drawn[last], sizeof drawn[i]);
         for (size_t k = 0; k < f->given; k++)
-            if (fresh || below(f->given) == 0)
+            if (fresh || drawn_below(f->given) == 0)
                 drawn[i][k] = any_double();
         if (f->f(drawn[i], places) == 0) {
             answered++;
@@ -154,8 +140,8 @@ static size_t list_len, radio_len, after;
 static void fill(size_t stars)
 {
     for (size_t i = 0; i < stars; i++)
-        if (brundelak_put_star(list, sizeof list, 12 * i, (uint32_t)(bits() >> 32 >> below(32)), (uint32_t)below(1296000000),
-                               (int32_t)below(648000001) - 324000000, &after) != 0)
+        if (brundelak_put_star(list, sizeof list, 12 * i, (uint32_t)(drawn_bits() >> 32 >> drawn_below(32)), (uint32_t)drawn_below(1296000000),
+                               (int32_t)drawn_below(648000001) - 324000000, &after) != 0)
             exit(1);
     list_len = 12 * stars;
     if (brundelak_list_to_radio(list, list_len, radio, sizeof radio, &radio_len) != 0)
@@ -166,8 +152,8 @@ static void fill(size_t stars)
 static void damage(void)
 {
     for (size_t n = list_len == 0 ? 0 : 1 + list_len / 500; n > 0; n--) {
-        list[below(list_len)] = 0xFF;
-        radio[radio_len / 2 + below(radio_len / 2)] = 0xFF;
+        list[drawn_below(list_len)] = 0xFF;
+        radio[radio_len / 2 + drawn_below(radio_len / 2)] = 0xFF;
     }
 }
 

@@ -3,27 +3,13 @@
  * not so. */
 #include <fenv.h>
 #include <stdio.h>
-#include <string.h>
 #include <xmmintrin.h>
 #include "brundelak.h"
+#include "bits.h"
 
 /* The processor's flags: subnormal results are flushed to zero, subnormal operands are taken as zero. */
 enum { RESULTS = 0x8000, OPERANDS = 0x0040 };
 static int wrong = 0;
-
-static uint64_t bits(double x)
-{
-    uint64_t b;
-    memcpy(&b, &x, sizeof b);
-    return b;
-}
-
-static double of_bits(uint64_t b)
-{
-    double x;
-    memcpy(&x, &b, sizeof x);
-    return x;
-}
 
 /* 2 to the power of n, of a normal number. */
 static uint64_t power(int n)
@@ -44,22 +30,22 @@ static void expect(const char *what, int holds)
 static uint64_t root(void)
 {
     double answer = 0.0;
-    expect("the root is answered", brundelak_root(of_bits(1), &answer) == BRUNDELAK_ANSWERED);
-    return bits(answer);
+    expect("the root is answered", brundelak_root(as_double(1), &answer) == BRUNDELAK_ANSWERED);
+    return as_bits(answer);
 }
 
 static uint64_t radians(void)
 {
     double answer = 1.0;
-    expect("radians are answered", brundelak_to_radians(of_bits(power(-1022)), &answer) == BRUNDELAK_ANSWERED);
-    return bits(answer);
+    expect("radians are answered", brundelak_to_radians(as_double(power(-1022)), &answer) == BRUNDELAK_ANSWERED);
+    return as_bits(answer);
 }
 
 static uint64_t chain(void)
 {
     double asc = 0.0, dec = 0.0;
     expect("the chain is answered", brundelak_chain(0.7165, 0.8592, 2451545.0, 2462088.69, &asc, &dec) == BRUNDELAK_ANSWERED);
-    return bits(asc);
+    return as_bits(asc);
 }
 
 static void roundings(void)

@@ -13,38 +13,10 @@
 #include <sys/mman.h>
 #include <sys/wait.h>
 #include <unistd.h>
+#include "bits.h"
 #include "functions.h"
 
-/* ---- random numbers (splitmix64) ---- */
-
-static uint64_t state;
-
-static uint64_t bits(void)
-{
-    uint64_t z = state += 0x9E3779B97F4A7C15;
-    z = (z ^ z >> 30) * 0xBF58476D1CE4E5B9;
-    z = (z ^ z >> 27) * 0x94D049BB133111EB;
-    return z ^ z >> 31;
-}
-
-static size_t below(size_t n)
-{
-    return (size_t)(bits() % n);
-}
-
-static double as_double(uint64_t b)
-{
-    double x;
-    memcpy(&x, &b, sizeof x);
-    return x;
-}
-
-static uint64_t as_bits(double x)
-{
-    uint64_t b;
-    memcpy(&b, &x, sizeof b);
-    return b;
-}
+/* ---- random numbers ---- */
 
 /* Any bits, limits and doubles beside them, or small enough to be answered. */
 static double any_double(void)
@@ -53,25 +25,25 @@ static double any_double(void)
                                 1721045.0, 3182045.0, 2451545.0, 360.0, 6.283185307179586, 89.8, 1e-310, INFINITY, NAN};
     double x;
     uint64_t b;
-    switch (below(8)) {
+    switch (drawn_below(8)) {
     case 0:
-        return as_double(bits());
+        return as_double(drawn_bits());
     case 1:
-        x = at[below(sizeof at / sizeof *at)];
+        x = at[drawn_below(sizeof at / sizeof *at)];
         b = as_bits(x);
-        return as_double((b + below(3) - (b == 0 ? 0 : 1)) ^ (bits() & 1) << 63);
+        return as_double((b + drawn_below(3) - (b == 0 ? 0 : 1)) ^ (drawn_bits() & 1) << 63);
     case 2:
-        return 1721045.0 + (double)(bits() >> 11) / 9007199254740992.0 * 1461000.0;
+        return 1721045.0 + (double)(drawn_bits() >> 11) / 9007199254740992.0 * 1461000.0;
     case 3:
-        return as_double(bits() & 0xBFFFFFFFFFFFFFFF);
+        return as_double(drawn_bits() & 0xBFFFFFFFFFFFFFFF);
     default:
-        return ((double)(bits() >> 11) / 9007199254740992.0 - 0.5) * 3.14;
+        return ((double)(drawn_bits() >> 11) / 9007199254740992.0 - 0.5) * 3.14;
     }
 }
 
 static double any_day(void)
 {
-    return below(8) == 0 ? any_double() : 1721045.0 + (double)(bits() >> 11) / 9007199254740992.0 * 1461000.0;
+    return drawn_below(8) == 0 ? any_double() : 1721045.0 + (double)(drawn_bits() >> 11) / 9007199254740992.0 * 1461000.0;
 }
 
 /* Bits of a NaN, which no function answers: some that are known for their edges, or any sign and payload, quiet or signalling. */
@@ -79,9 +51,9 @@ static uint64_t any_nan(void)
 {
     static const uint64_t at[] = {0x7FF0000000000001, 0xFFF0000000000001, 0x7FF4A5A5A5A50003, 0x7FF7FFFFFFFFFFFF,
                                   0x7FF8000000000000, 0xFFF8000000000000, 0x7FFFFFFFFFFFFFFF, 0xFFFFFFFFFFFFFFFF};
-    if (below(4) == 0)
-        return at[below(sizeof at / sizeof *at)];
-    return bits() | 0x7FF0000000000000 | (uint64_t)1 << below(52);
+    if (drawn_below(4) == 0)
+        return at[drawn_below(sizeof at / sizeof *at)];
+    return drawn_bits() | 0x7FF0000000000000 | (uint64_t)1 << drawn_below(52);
 }
 
 /* ---- guarded memory ---- */
@@ -118,7 +90,7 @@ static void *lend(struct room *r, size_t len)
 {
     size_t n;
     r->len = len;
-    r->at = bits() & 1 ? r->start : r->start + r->size - len;
+    r->at = drawn_bits() & 1 ? r->start : r->start + r->size - len;
     uint8_t *from = seen(r, &n);
     /* By eights from an address that eight divides these bytes are NaNs, which no function answers. */
     for (size_t i = 0; i < n; i++)
@@ -219,10 +191,10 @@ static void numbers(const struct function *f)
     double *to[3];
     int all_kept = 1, sound = 1;
     name = f->name;
-    if (answered[which] > 0 && below(8) != 0) {
+    if (answered[which] > 0 && drawn_below(8) != 0) {
         memcpy(args, last[which], sizeof args);
-        for (size_t k = below(3); k > 0; k--)
-            args[below(f->given)] = any_double();
+        for (size_t k = drawn_below(3); k > 0; k--)
+            args[drawn_below(f->given)] = any_double();
     } else {
         for (size_t i = 0; i < f->given; i++)
             args[i] = any_double();
@@ -244,20 +216,20 @@ static void numbers(const struct function *f)
 static size_t list(void)
 {
     static const uint32_t asc_at[] = {0, 1295999999, 1296000000, 0xFFFFFFFF}, dec_at[] = {324000000, 324000001, 0x80000000, 0};
-    size_t len = 12 * (below(64) == 0 ? 4990 + below(12) : below(16));
-    if (below(6) == 0)
-        len += below(12);
+    size_t len = 12 * (drawn_below(64) == 0 ? 4990 + drawn_below(12) : drawn_below(16));
+    if (drawn_below(6) == 0)
+        len += drawn_below(12);
     uint8_t *to = lend(&bytes, len);
     for (size_t i = 0; i < len; i += 12) {
-        uint32_t record[3] = {(uint32_t)below(16), (uint32_t)below(1296000000), (uint32_t)below(648000001) - 324000000};
-        size_t damage = below(8);
+        uint32_t record[3] = {(uint32_t)drawn_below(16), (uint32_t)drawn_below(1296000000), (uint32_t)drawn_below(648000001) - 324000000};
+        size_t damage = drawn_below(8);
         if (damage == 0)
-            record[1] = asc_at[below(4)];
+            record[1] = asc_at[drawn_below(4)];
         if (damage == 1)
-            record[2] = dec_at[below(4)];
+            record[2] = dec_at[drawn_below(4)];
         if (damage == 2)
             for (size_t k = 0; k < 3; k++)
-                record[k] = (uint32_t)bits();
+                record[k] = (uint32_t)drawn_bits();
         for (size_t k = 0; k < 12 && i + k < len; k++)
             to[i + k] = (uint8_t)(record[k / 4] >> 8 * (k % 4));
     }
@@ -274,8 +246,8 @@ static void star(void)
 {
     static const size_t far[] = {SIZE_MAX, SIZE_MAX - 3, SIZE_MAX - 11, SIZE_MAX / 12 * 12, (size_t)1 << 63};
     name = "star";
-    size_t len = list(), place = below(8) == 0 ? far[below(5)] : below(3) == 0 ? len - len % 12 : below(len + 13);
-    if (below(2) == 0)
+    size_t len = list(), place = drawn_below(8) == 0 ? far[drawn_below(5)] : drawn_below(3) == 0 ? len - len % 12 : drawn_below(len + 13);
+    if (drawn_below(2) == 0)
         place -= place % 12;
     uint8_t status = brundelak_star(bytes.at, len, place, lend(&words[0], 4), lend(&words[1], 4), lend(&words[2], 4), lend(&words[3], sizeof(size_t)));
     uint8_t expected = bad_list(len) || place > len || place % 12 != 0 ? 8 : place == len ? BRUNDELAK_END : 0;
@@ -296,7 +268,7 @@ static void find(void)
 {
     name = "find";
     size_t len = list();
-    uint32_t number = below(8) == 0 ? (uint32_t)bits() : (uint32_t)below(20);
+    uint32_t number = drawn_below(8) == 0 ? (uint32_t)drawn_bits() : (uint32_t)drawn_below(20);
     uint8_t status = brundelak_find(bytes.at, len, number, lend(&words[0], sizeof(size_t)), lend(&words[1], 4), lend(&words[2], 4));
     int sound = (status == 8) == bad_list(len) && (status == 0 || (status >= 8 && status <= 10)) && kept(&bytes);
     for (size_t i = 0; i < 3; i++)
@@ -315,8 +287,8 @@ enum { TALLY = sizeof(uint32_t[BRUNDELAK_COUNTS]) };
 /* The length of a lent slice: exact, longer, or too short. */
 static size_t length(size_t stars)
 {
-    size_t by = below(16);
-    return by == 0 ? 0 : by == 1 && stars > 0 ? stars - 1 : by == 2 ? stars + below(9) : stars;
+    size_t by = drawn_below(16);
+    return by == 0 ? 0 : by == 1 && stars > 0 ? stars - 1 : by == 2 ? stars + drawn_below(9) : stars;
 }
 
 typedef uint8_t batch_call(const uint8_t *, size_t, double, double, uint8_t *, size_t, double *, size_t, double *, size_t, uint32_t *);
@@ -361,10 +333,10 @@ static void batch_published(void)
 static void tally_raise(void)
 {
     name = "tally_raise";
-    uint8_t of = (uint8_t)(below(2) ? below(20) : bits());
+    uint8_t of = (uint8_t)(drawn_below(2) ? drawn_below(20) : drawn_bits());
     uint32_t *counts = lend(&tally, TALLY), before[BRUNDELAK_COUNTS];
     for (size_t i = 0; i < BRUNDELAK_COUNTS; i++)
-        counts[i] = below(2) ? (uint32_t)below(60002) : (uint32_t)bits();
+        counts[i] = drawn_below(2) ? (uint32_t)drawn_below(60002) : (uint32_t)drawn_bits();
     given(&tally);
     memcpy(before, counts, sizeof before);
     uint8_t status = brundelak_tally_raise(of, counts), want = of > 16 ? 9 : before[of % BRUNDELAK_COUNTS] >= 60000 ? 8 : 0;
@@ -393,36 +365,36 @@ static size_t spell(uint8_t *to, uint64_t n, size_t k)
 
 static uint32_t any_number(void)
 {
-    return (uint32_t)bits() >> below(32);
+    return (uint32_t)drawn_bits() >> drawn_below(32);
 }
 
 /* A radio list, good or damaged, or any bytes; its length. */
 static size_t radio(void)
 {
     static uint8_t text[80000];
-    size_t len = 0, stars = below(64) == 0 ? 4990 + below(12) : below(16), damage = below(12);
+    size_t len = 0, stars = drawn_below(64) == 0 ? 4990 + drawn_below(12) : drawn_below(16), damage = drawn_below(12);
     size_t said = damage == 0 ? stars + 1 : damage == 1 ? any_number() : stars;
-    text[len++] = damage == 2 ? (uint8_t)bits() : 2;
-    len += spell(text + len, said, groups((uint32_t)said) + (damage == 3 && below(4) == 0));
+    text[len++] = damage == 2 ? (uint8_t)drawn_bits() : 2;
+    len += spell(text + len, said, groups((uint32_t)said) + (damage == 3 && drawn_below(4) == 0));
     for (size_t i = 0; i < stars; i++) {
         uint32_t of[3] = {any_number(), any_number() % 1296000000, any_number() % 648000001};
-        if (damage == 4 && below(4) == 0)
-            of[below(3)] = (uint32_t)bits();
+        if (damage == 4 && drawn_below(4) == 0)
+            of[drawn_below(3)] = (uint32_t)drawn_bits();
         for (size_t k = 0; k < 3; k++)
-            len += spell(text + len, of[k] + (damage == 5 && below(8) == 0 ? (uint64_t)1 << 32 : 0),
-                         groups(of[k]) + (damage == 3 && below(8) == 0));
+            len += spell(text + len, of[k] + (damage == 5 && drawn_below(8) == 0 ? (uint64_t)1 << 32 : 0),
+                         groups(of[k]) + (damage == 3 && drawn_below(8) == 0));
     }
     if (damage == 6)
-        len = below(len + 1);
+        len = drawn_below(len + 1);
     if (damage == 7)
-        for (size_t k = 1 + below(8); k > 0; k--)
-            text[len++] = (uint8_t)below(3);
+        for (size_t k = 1 + drawn_below(8); k > 0; k--)
+            text[len++] = (uint8_t)drawn_below(3);
     if (damage == 8)
-        for (size_t k = 1 + below(3); k > 0; k--)
-            text[below(len)] = (uint8_t)bits();
-    if (damage == 9 && below(4) == 0)
-        for (size_t i = len = below(64); i > 0; i--)
-            text[i - 1] = (uint8_t)bits();
+        for (size_t k = 1 + drawn_below(3); k > 0; k--)
+            text[drawn_below(len)] = (uint8_t)drawn_bits();
+    if (damage == 9 && drawn_below(4) == 0)
+        for (size_t i = len = drawn_below(64); i > 0; i--)
+            text[i - 1] = (uint8_t)drawn_bits();
     uint8_t *to = lend(&bytes, len);
     for (size_t i = 0; i < len; i++)
         to[i] = text[i];
@@ -440,7 +412,7 @@ static int known(uint8_t status, size_t len)
 static size_t any_place(size_t len)
 {
     static const size_t far[] = {SIZE_MAX, SIZE_MAX - 1, SIZE_MAX - 4, (size_t)1 << 63};
-    return below(8) == 0 ? far[below(4)] : below(8) == 0 ? len : below(4) == 0 ? below(len + 4) : 2 + below(2);
+    return drawn_below(8) == 0 ? far[drawn_below(4)] : drawn_below(8) == 0 ? len : drawn_below(4) == 0 ? drawn_below(len + 4) : 2 + drawn_below(2);
 }
 
 static void radio_open(void)
@@ -513,8 +485,8 @@ static int fits(size_t size, size_t place, size_t len)
 static void radio_put_head(void)
 {
     name = "radio_put_head";
-    uint32_t count = below(4) == 0 ? any_number() : (uint32_t)below(5002);
-    size_t len = below(12), place = any_place(len);
+    uint32_t count = drawn_below(4) == 0 ? any_number() : (uint32_t)drawn_below(5002);
+    size_t len = drawn_below(12), place = any_place(len);
     lend(&slice, len);
     uint8_t status = brundelak_radio_put_head(slice.at, len, place, count, lend(&words[3], sizeof(size_t)));
     size_t size = 1 + groups(count);
@@ -525,8 +497,8 @@ static void radio_put_star(void)
 {
     name = "radio_put_star";
     uint32_t number = any_number(), asc = any_number();
-    int32_t dec = (int32_t)(any_number() ^ (uint32_t)-(int32_t)below(2));
-    size_t len = below(24), place = any_place(len);
+    int32_t dec = (int32_t)(any_number() ^ (uint32_t)-(int32_t)drawn_below(2));
+    size_t len = drawn_below(24), place = any_place(len);
     lend(&slice, len);
     uint8_t status = brundelak_radio_put_star(slice.at, len, place, number, asc, dec, lend(&words[3], sizeof(size_t)));
     size_t size = star_size(number, asc, dec);
@@ -538,9 +510,9 @@ static void put_star(void)
 {
     name = "put_star";
     uint32_t number = any_number(), asc = any_number(), back_number = 0, back_asc = 0;
-    int32_t dec = (int32_t)(any_number() ^ (uint32_t)-(int32_t)below(2)), back_dec = 0;
-    size_t end = below(8) == 0 ? 59988 + 12 * below(3) : 12 * below(6), len = end + below(24), next = 0;
-    size_t place = below(4) == 0 ? any_place(len) : end;
+    int32_t dec = (int32_t)(any_number() ^ (uint32_t)-(int32_t)drawn_below(2)), back_dec = 0;
+    size_t end = drawn_below(8) == 0 ? 59988 + 12 * drawn_below(3) : 12 * drawn_below(6), len = end + drawn_below(24), next = 0;
+    size_t place = drawn_below(4) == 0 ? any_place(len) : end;
     lend(&slice, len);
     uint8_t status = brundelak_put_star(slice.at, len, place, number, asc, dec, lend(&words[3], sizeof(size_t)));
     int begins = place % 12 == 0 && place < 60000;
@@ -554,8 +526,8 @@ static void put_star(void)
 /* The length of a slice that size bytes go into: exact, longer, too short, or any. */
 static size_t any_length(size_t size)
 {
-    size_t by = below(16);
-    return by == 0 ? 0 : by == 1 && size > 0 ? size - 1 : by == 2 ? size + below(9) : by == 3 ? below(75100) : size;
+    size_t by = drawn_below(16);
+    return by == 0 ? 0 : by == 1 && size > 0 ? size - 1 : by == 2 ? size + drawn_below(9) : by == 3 ? drawn_below(75100) : size;
 }
 
 static void radio_to_list(void)
@@ -564,7 +536,7 @@ static void radio_to_list(void)
     size_t len = radio();
     uint32_t *count = lend(&words[0], 4);
     uint8_t accepted = brundelak_radio_accept(bytes.at, len, count);
-    size_t size = accepted == 0 ? 12 * (size_t)*count : 0, room = any_length(accepted == 0 ? size : below(200));
+    size_t size = accepted == 0 ? 12 * (size_t)*count : 0, room = any_length(accepted == 0 ? size : drawn_below(200));
     lend(&slice, room);
     uint8_t status = brundelak_radio_to_list(bytes.at, len, slice.at, room, lend(&words[3], sizeof(size_t)));
     judge(status, status == (accepted != 0 ? accepted : room < size ? 8 : 0) && kept(&bytes) && wrote(status, 0, size));
@@ -575,7 +547,7 @@ static void list_to_radio(void)
 {
     name = "list_to_radio";
     size_t len = list(), size = 1 + groups((uint32_t)(len / 12)), written = 0;
-    if (below(4) != 0)
+    if (drawn_below(4) != 0)
         for (size_t i = 0; i + 12 <= len; i += 12)
             memset(bytes.at + i + 7, 0, 5);
     given(&bytes);
@@ -646,7 +618,7 @@ static void try_the_guard(void)
 int main(int argc, char **argv)
 {
     uint64_t calls = argc > 1 ? strtoull(argv[1], NULL, 10) : 0;
-    state = argc > 2 ? strtoull(argv[2], NULL, 10) : 1;
+    drawn_from = argc > 2 ? strtoull(argv[2], NULL, 10) : 1;
     for (size_t i = 0; i < 3; i++)
         make(&places[i], sizeof(double));
     for (size_t i = 0; i < 4; i++)
@@ -666,7 +638,7 @@ int main(int argc, char **argv)
         star, find, batch, batch_published, tally_raise, put_star, radio_open, radio_star, radio_accept, radio_put_head, radio_put_star,
         radio_to_list, list_to_radio};
     for (at_call = 0; at_call < calls; at_call++) {
-        which = below(KINDS);
+        which = drawn_below(KINDS);
         memset(args, 0, sizeof args);
         if (which < FUNCTION_COUNT)
             numbers(&functions[which]);

@@ -7,40 +7,17 @@
 #include <stdlib.h>
 #include <string.h>
 #include "brundelak.h"
+#include "bits.h"
 
 enum { EXPONENTS = 2047 };
 static const double TURN = 6.283185307179586;
-static uint64_t seed = 0x9E3779B97F4A7C15u;
-
-static uint64_t any(void)
-{
-    seed ^= seed << 13;
-    seed ^= seed >> 7;
-    seed ^= seed << 17;
-    return seed;
-}
-
-static uint64_t bits(double x)
-{
-    uint64_t b;
-    memcpy(&b, &x, sizeof b);
-    return b;
-}
-
-static double of_bits(uint64_t b)
-{
-    double x;
-    memcpy(&x, &b, sizeof x);
-    return x;
-}
-
 /* Double i: its exponent and its sign by turns. */
 static double drawn(size_t i)
 {
     const uint64_t digits = ((uint64_t)1 << 52) - 1;
     size_t turn = i / (2 * EXPONENTS);
-    uint64_t low = turn == 0 ? 0 : turn == 1 ? digits : any() & digits;
-    return of_bits((uint64_t)(i % 2) << 63 | (uint64_t)(i / 2 % EXPONENTS) << 52 | low);
+    uint64_t low = turn == 0 ? 0 : turn == 1 ? digits : drawn_bits() & digits;
+    return as_double((uint64_t)(i % 2) << 63 | (uint64_t)(i / 2 % EXPONENTS) << 52 | low);
 }
 
 static double folded(double x, double full)
@@ -53,7 +30,7 @@ static double spoilt(double x, double answer)
 {
     (void)x;
 #if SLIP == 1 /* a sign lost on the way */
-    return bits(answer) == bits(-0.0) ? 0.0 : answer;
+    return as_bits(answer) == as_bits(-0.0) ? 0.0 : answer;
 #elif SLIP == 2 /* a step fewer */
     return fabs(x) > 1e300 ? answer + 360.0 : answer;
 #elif SLIP == 3 /* a subnormal taken for zero */
@@ -70,7 +47,7 @@ static size_t compared, differing;
 static void same(const char *what, double x, uint8_t status, double got, double wanted)
 {
     compared++;
-    if (status == 0 && bits(spoilt(x, got)) == bits(wanted))
+    if (status == 0 && as_bits(spoilt(x, got)) == as_bits(wanted))
         return;
     if (differing++ < 5)
         fprintf(stderr, "remainder: %s of %a: status %d, %a for %a\n", what, x, status, got, wanted);
@@ -79,8 +56,8 @@ static void same(const char *what, double x, uint8_t status, double got, double 
 /* A double within 64, of any exponent that has such ones. */
 static double angle(void)
 {
-    double x = of_bits(any());
-    return fabs(x) <= 64.0 ? x : of_bits((bits(x) & ~((uint64_t)0x7FF << 52)) | (uint64_t)(1013 + any() % 15) << 52);
+    double x = as_double(drawn_bits());
+    return fabs(x) <= 64.0 ? x : as_double((as_bits(x) & ~((uint64_t)0x7FF << 52)) | (uint64_t)(1013 + drawn_bits() % 15) << 52);
 }
 
 int main(int argc, char **argv)
