@@ -96,7 +96,7 @@ fn reduce_two(first: Star, second: Star, night: Night) -> Places
 fn batch_refusal(bytes: &[u8], day1: f64, day2: f64, status: usize, asc: usize, dec: usize) -> u8
     ensures { λ r. ⌜ r ≡ batchRefusal (now (bytes .entry)) day1 day2 status asc dec ⌝ }
 {
-    let no = precess::days_refusal(day1, day2);
+    let no = precess_angles::days_refusal(day1, day2);
     if no != 0 {
         return no;
     }

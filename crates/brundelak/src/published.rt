@@ -2,8 +2,7 @@
 ghost use Rattle.brundelak_handed.specs.rules.Boundary.{Told, ToldTwo, ToldThree, numberOfRadians};
 ghost use Rattle.edition.specs.declared.Edition.the-variants.{Published};
 ghost use Rattle.coords.specs.rules.Horizon.{decFrmHzRule};
-ghost use Rattle.precess.specs.rules.Equatorial.{precessEqCoordsRule};
-ghost use Rattle.precess.specs.rules.Fk4.{precessEqCoordsFK5Rule};
+ghost use Rattle.precess.specs.rules.Equatorial.{precessEqCoordsRule, precessEqCoordsFK5Rule};
 ghost use Rattle.parallax_ecl.specs.rules.Ecliptic.{topopcentEclCoordsRule};
 ghost use Rattle.chain.specs.rules.Chain.{chainRule};
 use brundelak_handed::give_radians;

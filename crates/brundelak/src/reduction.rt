@@ -2,8 +2,7 @@
 ghost use Rattle.brundelak_handed.specs.rules.Boundary.{Told, ToldTwo, ToldThree, numberOfRadians};
 ghost use Rattle.edition.specs.declared.Edition.the-variants.{Crate};
 ghost use Rattle.precess.specs.rules.Annual.{annualPrecessRule};
-ghost use Rattle.precess.specs.rules.Equatorial.{precessEqCoordsRule};
-ghost use Rattle.precess.specs.rules.Fk4.{precessEqCoordsFK5Rule};
+ghost use Rattle.precess.specs.rules.Equatorial.{precessEqCoordsRule, precessEqCoordsFK5Rule};
 ghost use Rattle.precess_ecl.specs.rules.Ecliptic.{precessEclCoordsRule};
 ghost use Rattle.precess_ecl.specs.rules.Orbit.{precessOrbElementsRule};
 ghost use Rattle.nutation.specs.rules.Day.{nutationRule};

@@ -2,7 +2,7 @@
 // What the two days fix is a night, worked out once for a whole list. Rules: specs/rules, in reading order in specs/rules.antt.
 ghost use mathlib.Core.Path.{_≡_};
 ghost use Rattle.quantity.specs.rules.Answer.{shownTwo};
-ghost use Rattle.precess.specs.rules.Days.{placeRefusal};
+ghost use Rattle.precess_angles.specs.rules.Days.{placeRefusal};
 ghost use Rattle.chain.specs.rules.Obliquity.{meanObliquity, meanObliquityOf, trueObliquity};
 ghost use Rattle.chain.specs.rules.Chain.{pointRefusal, anglesRefusal, chainRule};
 ghost use Rattle.chain.specs.rules.Night.{nightFrom, nightOf, moved, movedUnder, reducedAt, reducedIn};
@@ -13,7 +13,7 @@ use elementary::Direction;
 use helpers::angle;
 use helpers::time;
 use nutation_args::Nutations;
-use precess::EqTurns;
+use precess_angles::EqTurns;
 use quantity::Deg;
 use quantity::EqPoint;
 use quantity::Places;
@@ -97,7 +97,7 @@ pub fn night_of(edition: Edition, day1: f64, day2: f64) -> Night
     let n = nutation_table::nutation_on(day2);
     let in_oblq = n.oblq;
     night_from(
-        precess::eq_turns(edition, day1, day2),
+        precess_angles::eq_turns(edition, day1, day2),
         n,
         true_obliquity(mean_obliquity_on(day2), in_oblq),
         aberr_table::velocity_on(day2),
@@ -223,7 +223,7 @@ pub fn reduced_two(
 pub fn chain(edition: Edition, asc: Rad, dec: Rad, day1: f64, day2: f64) -> Two
     ensures { λ r. ⌜ shownTwo r ≡ chainRule edition asc dec day1 day2 ⌝ }
 {
-    let no = precess::place_refusal(asc, dec, day1, day2);
+    let no = precess_angles::place_refusal(asc, dec, day1, day2);
     if no != 0 {
         return Two::Refused(no);
     }

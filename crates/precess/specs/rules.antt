@@ -1,8 +1,6 @@
 -- What a reader must believe of precession (section 4), in the crate's order. Definitions only.
 pub mod Numbers
-pub mod Days
 pub mod Annual
 pub mod Equatorial
 pub mod Arcs
 pub mod Two
-pub mod Fk4

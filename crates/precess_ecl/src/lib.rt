@@ -81,7 +81,7 @@ fn ecl_turns(day1: f64, day2: f64) -> EclTurns
     ensures { λ r. ⌜ r ≡ eclTurnsOf day1 day2 ⌝ }
 {
     let c = time::century(day1);
-    let t = precess::span(day1, day2);
+    let t = precess_angles::span(day1, day2);
     ecl_turned(
         angle::radians(ecl_nu(c, t)),
         angle::radians(ecl_pi(c, t)),
@@ -121,7 +121,7 @@ fn ecl_turned_in(long: Rad, lat: Rad, turns: EclTurns) -> Two
 pub fn precess_ecl_coords(old_long: Rad, old_lat: Rad, day1: f64, day2: f64) -> Two
     ensures { λ r. ⌜ shownTwo r ≡ precessEclCoordsRule «old_long» «old_lat» day1 day2 ⌝ }
 {
-    let no = precess::place_refusal(old_long, old_lat, day1, day2);
+    let no = precess_angles::place_refusal(old_long, old_lat, day1, day2);
     if no != 0 {
         return Two::Refused(no);
     }
@@ -224,7 +224,7 @@ fn orbit_refusal(inc: Rad, perih: Rad, node: Rad, day1: f64, day2: f64) -> u8
                 quantity::angle_refusal(node),
             ),
         ),
-        precess::days_refusal(day1, day2),
+        precess_angles::days_refusal(day1, day2),
     )
 }
 

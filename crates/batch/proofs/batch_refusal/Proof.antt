@@ -6,7 +6,7 @@ use native.Mathlib.Omega.{arith}
 use lib.Dec.{eqb, leb}
 use borrow.Author.Tests.{eq-eqb, ne-eqb, le-leb, lt-leb, not-true, not-false}
 use Rattle.double.specs.laws.Calls.{asks-nothing}
-use Rattle.precess.specs.rules.Days.{daysRefusal}
+use Rattle.precess_angles.specs.rules.Days.{daysRefusal}
 use Rattle.list.specs.rules.Stars.{isList, countOf}
 use Rattle.batch.specs.rules.Batch.{batchRefusal}
 use Rattle.batch.proofs.batch_refusal.Statement.{statement}

@@ -14,7 +14,7 @@ use Rattle.double.specs.rules.Operations.{bits}
 use Rattle.double.specs.laws.ReadBack.{bits-pattern}
 use Rattle.quantity.specs.rules.Answer.{Answer, Pair, statusOf}
 use Rattle.edition.specs.declared.Edition.{Edition}
-use Rattle.precess.specs.rules.Days.{daysRefusal}
+use Rattle.precess_angles.specs.rules.Days.{daysRefusal}
 use Rattle.lent.specs.laws.Flags.{both-hold}
 use Rattle.lent.specs.laws.Upto.{getD-upto}
 use Rattle.list.specs.declared.Star.{Star}

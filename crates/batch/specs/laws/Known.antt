@@ -14,7 +14,7 @@ use Rattle.edition.specs.declared.Edition.{Edition}
 use Rattle.root.specs.rules.Root.{rootRule, rootRefusal}
 use Rattle.elementary_arc.specs.rules.Arctangent.{bothZero, arctangentIn}
 use Rattle.elementary_arc.specs.rules.Arcsine.{arcsineIn}
-use Rattle.precess.specs.declared.EqTurns.{EqTurns}
+use Rattle.precess_angles.specs.declared.EqTurns.{EqTurns}
 use Rattle.precess.specs.rules.Equatorial.{placed, turnedIn}
 use Rattle.chain.specs.declared.Night.{Night}
 use Rattle.chain.specs.rules.Night.{nightFrom, nightOf, moved, movedUnder, reducedAt, reducedIn}

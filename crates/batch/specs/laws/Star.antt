@@ -7,7 +7,7 @@ use lib.Ieee.{Float}
 use Rattle.quantity.specs.rules.Answer.{Answer, answered, refused, Pair, pair, unless, statusOf, firstPlace, secondPlace}
 use Rattle.quantity.specs.rules.Refusal.{lower}
 use Rattle.edition.specs.declared.Edition.{Edition}
-use Rattle.precess.specs.rules.Days.{daysRefusal, placeRefusal}
+use Rattle.precess_angles.specs.rules.Days.{daysRefusal, placeRefusal}
 use Rattle.chain.specs.declared.Night.{Night}
 use Rattle.chain.specs.rules.Chain.{chainRule}
 use Rattle.chain.specs.rules.Night.{nightOf, reducedIn}

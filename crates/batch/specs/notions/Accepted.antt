@@ -4,7 +4,7 @@ use mathlib.Core.Path.{_≡_}
 use mathlib.Core.Bool.{true}
 use mathlib.Core.List.{List}
 use lib.Ieee.{Float}
-use Rattle.precess.specs.rules.Days.{daysRefusal}
+use Rattle.precess_angles.specs.rules.Days.{daysRefusal}
 use Rattle.list.specs.rules.Stars.{isList, countOf}
 
 pub record Accepted (s : List ℕ) (day1 day2 : Float) (status asc dec : ℕ) : Type 0 where

@@ -6,7 +6,7 @@ use lib.Ieee.{Float, binary64, ofInt}
 use Rattle.double.specs.rules.Operations.{zero, one, _⊘_}
 use Rattle.quantity.specs.rules.Answer.{Answer, answered, refused, Pair, second}
 use Rattle.helpers.specs.rules.Angle.{secondsOfDegree, radiansOf}
-use Rattle.precess.specs.rules.Days.{daysRefusal}
+use Rattle.precess_angles.specs.rules.Days.{daysRefusal}
 use Rattle.chain.specs.declared.Night.{Night}
 use Rattle.chain.specs.rules.Night.{reducedIn}
 use Rattle.list.specs.declared.Star.{Star}

@@ -8,7 +8,7 @@ use lib.Ieee.{Float}
 use lib.ListN.{length, drop}
 use Rattle.quantity.specs.rules.Answer.{Answer, Pair, statusOf}
 use Rattle.edition.specs.declared.Edition.{Edition}
-use Rattle.precess.specs.rules.Days.{daysRefusal}
+use Rattle.precess_angles.specs.rules.Days.{daysRefusal}
 use Rattle.list.specs.declared.Star.{Star}
 use Rattle.list.specs.rules.Stars.{isList, countOf, stars}
 use Rattle.list_tally.specs.rules.Tally.{tallyOf, empty}

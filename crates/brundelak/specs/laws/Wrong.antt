@@ -12,7 +12,7 @@ use Rattle.quantity.specs.rules.Answer.{answered}
 use Rattle.quantity.specs.rules.Refusal.{epoch}
 use Rattle.quantity.specs.notions.Computed.{computed}
 use Rattle.lent.specs.rules.Put.{roomFor}
-use Rattle.precess.specs.rules.Days.{daysRefusal}
+use Rattle.precess_angles.specs.rules.Days.{daysRefusal}
 use Rattle.list.specs.rules.Stars.{nought}
 use Rattle.list.specs.rules.Writer.{recordText}
 use Rattle.list.specs.notions.Computed as list

@@ -9,8 +9,9 @@ use Rattle.quantity.specs.rules.Refusal.{lower, dayRefusal, angleRefusal, latit
 use Rattle.quantity.specs.laws.Answer.{then-unless, unless-cong, then-cong}
 use Rattle.edition.specs.declared.Edition.{Edition}
 use Rattle.elementary.specs.laws.Accepted.{lower-none}
-use Rattle.precess.specs.rules.Days.{daysRefusal, placeRefusal}
-use Rattle.precess.specs.rules.Equatorial.{turnedIn, eqTurnsOf}
+use Rattle.precess_angles.specs.rules.Days.{daysRefusal, placeRefusal}
+use Rattle.precess_angles.specs.rules.Equatorial.{eqTurnsOf}
+use Rattle.precess.specs.rules.Equatorial.{turnedIn}
 use Rattle.nutation.specs.rules.Day.{nutationRule}
 use Rattle.nutation_table.specs.rules.Day.{nutationOf}
 use Rattle.nutation.specs.rules.Point.{nutationInEqCoordsRule, nutationInEqCoordsIn}

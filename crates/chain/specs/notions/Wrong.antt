@@ -12,8 +12,9 @@ use Rattle.quantity.specs.rules.Refusal.{lower, epoch, angleRefusal, steepRefus
 use Rattle.edition.specs.declared.Edition.{Edition}
 use Rattle.elementary.specs.rules.Direction.{directionOf}
 use Rattle.helpers.specs.rules.Angle.{arc}
-use Rattle.precess.specs.rules.Days.{placeRefusal}
-use Rattle.precess.specs.rules.Equatorial.{eqTurnsOf, precessEqCoordsRule}
+use Rattle.precess_angles.specs.rules.Days.{placeRefusal}
+use Rattle.precess_angles.specs.rules.Equatorial.{eqTurnsOf}
+use Rattle.precess.specs.rules.Equatorial.{precessEqCoordsRule}
 use Rattle.nutation_table.specs.rules.Day.{nutationOf}
 use Rattle.nutation.specs.rules.Day.{nutationRule}
 use Rattle.nutation.specs.rules.Point.{nutationInEqCoordsRule}

@@ -10,8 +10,9 @@ use Rattle.edition.specs.declared.Edition.{Edition}
 use Rattle.elementary.specs.declared.Direction.{Direction}
 use Rattle.elementary.specs.rules.Sine.{sineOf, cosineOf}
 use Rattle.elementary.specs.rules.Direction.{directionOf}
-use Rattle.precess.specs.declared.EqTurns.{EqTurns}
-use Rattle.precess.specs.rules.Equatorial.{eqTurnsOf, turnedIn}
+use Rattle.precess_angles.specs.declared.EqTurns.{EqTurns}
+use Rattle.precess_angles.specs.rules.Equatorial.{eqTurnsOf}
+use Rattle.precess.specs.rules.Equatorial.{turnedIn}
 use Rattle.nutation_args.specs.declared.Nutations.{Nutations}
 use Rattle.nutation_table.specs.rules.Day.{nutationOf}
 use Rattle.nutation.specs.rules.Point.{nutationAt}

@@ -26,8 +26,9 @@ use Rattle.edition.specs.declared.Edition.{Edition}
 use Rattle.elementary.specs.rules.Sine.{farthestAlone}
 use Rattle.elementary.specs.laws.Accepted.{answered-unless}
 use Rattle.helpers.specs.rules.Angle.{arc, degree}
-use Rattle.precess.specs.rules.Days.{placeRefusal}
-use Rattle.precess.specs.rules.Equatorial.{eqTurnsOf, turnedIn, precessEqCoordsRule}
+use Rattle.precess_angles.specs.rules.Days.{placeRefusal}
+use Rattle.precess_angles.specs.rules.Equatorial.{eqTurnsOf}
+use Rattle.precess.specs.rules.Equatorial.{turnedIn, precessEqCoordsRule}
 use Rattle.nutation_table.specs.rules.Day.{nutationOf}
 use Rattle.nutation.specs.rules.Day.{nutationRule}
 use Rattle.nutation.specs.rules.Point.{nutationInRefusal, nutationInEqCoordsIn, nutationInEqCoordsRule}

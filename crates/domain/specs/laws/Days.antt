@@ -16,9 +16,9 @@ use Rattle.quantity.specs.declared.Rad.{Rad}
 use Rattle.quantity.specs.rules.Refusal.{lower, epoch, daysAround, dayRefusal, angleRefusal, latitudeRefusal}
 use Rattle.elementary.specs.laws.Accepted.{lower-none, day-accepted}
 use Rattle.helpers.specs.rules.Time.{daysOfCentury, centuryOf}
-use Rattle.precess.specs.rules.Numbers.{n2415020·3135, n36524·2199}
-use Rattle.precess.specs.rules.Days.{spanOf, daysRefusal, placeRefusal}
-use Rattle.precess.specs.rules.Fk4.{fk4Century, fk4Span}
+use Rattle.precess_angles.specs.rules.Numbers.{n2415020·3135, n36524·2199}
+use Rattle.precess_angles.specs.rules.Days.{spanOf, daysRefusal, placeRefusal}
+use Rattle.precess_angles.specs.rules.Fk4.{fk4Century, fk4Span}
 use Rattle.domain_accepted.specs.notions.Within.{Within}
 
 finite-epoch : Finite epoch

@@ -18,14 +18,17 @@ use Rattle.quantity.specs.rules.Answer.{Answer, Pair, then}
 use Rattle.quantity.specs.rules.Refusal.{epoch, dayRefusal}
 use Rattle.quantity.specs.laws.Answer.{unless-cong}
 use Rattle.edition.specs.declared.Edition.the-variants.{Crate, Published}
-use Rattle.helpers.specs.rules.Angle.{arc, radiansOf}
+use Rattle.helpers.specs.rules.Angle.{arc}
 use Rattle.helpers.specs.rules.Time.{centuryOf}
-use Rattle.precess.specs.rules.Numbers.{n0·000217, n2004·3109, n0·8533, n0·42665, n0·041833, n1·09468, n0·000066}
-use Rattle.precess.specs.rules.Days.{spanOf, placeRefusal}
-use Rattle.precess.specs.rules.Equatorial.{eqXi, eqZeta, eqTheta, turnsOf, eqTurnsOf, turnedIn, precessEqCoordsRule}
-use Rattle.precess.specs.notions.Editions.{zetaPublished, thetaPublished, precessedBy}
-use Rattle.precess.specs.notions.Computed.{computed}
-use Rattle.precess.specs.laws.Editions.{precess-eq-coords-published}
+use Rattle.precess_angles.specs.rules.Numbers.{n0·000217, n2004·3109, n0·8533, n0·42665, n0·041833, n1·09468, n0·000066}
+use Rattle.precess_angles.specs.declared.EqAngles.{EqAngles}
+use Rattle.precess_angles.specs.rules.Days.{spanOf, placeRefusal}
+use Rattle.precess_angles.specs.rules.Equatorial.{eqZeta, eqTheta, eqAnglesOf, turnsOf, eqTurnsOf}
+use Rattle.precess_angles.specs.notions.Editions.{zetaPublished, thetaPublished, anglesBy}
+use Rattle.precess_angles.specs.notions.Computed.{computed}
+use Rattle.precess_angles.specs.laws.Editions.{eq-angles-published}
+use Rattle.precess.specs.rules.Equatorial.{turnedIn, precessEqCoordsRule}
+use Rattle.precess.specs.notions.Editions.{precessedBy}
 use Rattle.nutation.specs.rules.Day.{nutationRule}
 use Rattle.chain.specs.rules.Chain.{fromPoint, chainRule}
 use Rattle.domain_accepted.specs.notions.Within.{Within}
@@ -58,18 +61,21 @@ pub theta-as-printed : (day t : Float) → dayRefusal day ≡ 0 → eqTheta Publ
 unfolding eqTheta
 theta-as-printed day t none = theta-printed (centuryOf day) t (century-within day none)
 
--- so that the rule is Meeus's as printed, of every place and any two days
+-- so that all three angles are Meeus's as printed
+pub eq-angles-as-printed : (day1 day2 : Float) → dayRefusal day1 ≡ 0 → eqAnglesOf Published day1 day2 ≡ anglesBy zetaPublished thetaPrinted day1 day2
+eq-angles-as-printed day1 day2 none =
+    let t = spanOf day1 day2 in
+    eq-angles-published day1 day2
+    ∙ ap (λ (theta : Deg). anglesBy zetaPublished (λ (c u : Float). theta) day1 day2) (theta-printed (centuryOf day1) t (century-within day1 none))
+
+-- and so is the rule, of every place and any two days
 pub precess-eq-coords-as-printed : (asc dec : Rad) (day1 day2 : Float)
     → precessEqCoordsRule Published asc dec day1 day2 ≡ precessedBy zetaPublished thetaPrinted asc dec day1 day2
+unfolding eqTurnsOf
 precess-eq-coords-as-printed asc dec day1 day2 =
-    let c = centuryOf day1 in
-    let t = spanOf day1 day2 in
-    let turned : Rad → Answer Pair = λ (theta : Rad). turnedIn asc dec (turnsOf (radiansOf (eqXi c t)) (radiansOf (zetaPublished c t)) theta) in
-    precess-eq-coords-published asc dec day1 day2
-    ∙ unless-cong (placeRefusal asc dec day1 day2) (turned (radiansOf (thetaPublished c t))) (turned (radiansOf (thetaPrinted c t)))
-    (λ none.
-    ap (λ (d : Deg). turned (radiansOf d))
-    (theta-printed c t (century-within day1 (first-accepted day1 day2 (place-accepted asc dec day1 day2 none .2)))))
+    let turned : EqAngles → Answer Pair = λ (a : EqAngles). turnedIn asc dec (turnsOf a) in
+    unless-cong (placeRefusal asc dec day1 day2) (turned (eqAnglesOf Published day1 day2)) (turned (anglesBy zetaPublished thetaPrinted day1 day2))
+    (λ none. ap turned (eq-angles-as-printed day1 day2 (first-accepted day1 day2 (place-accepted asc dec day1 day2 none .2))))
 
 -- ---- from 2451545.0, where T is zero
 
@@ -85,7 +91,7 @@ unfolding computed
 third-same = refl
 
 pub same-turns-from-the-epoch : (day : Float) → eqTurnsOf Published epoch day ≡ eqTurnsOf Crate epoch day
-unfolding eqTurnsOf eqZeta eqTheta
+unfolding eqTurnsOf eqAnglesOf eqZeta eqTheta
 same-turns-from-the-epoch day = rw (second-same, third-same)
 
 -- so every place is, and every star of the chain

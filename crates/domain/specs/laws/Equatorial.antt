@@ -24,11 +24,13 @@ use Rattle.elementary_arc.specs.rules.Arcsine.{arcsineIn}
 use Rattle.elementary_arc.specs.laws.Arcsine.{arcsine-never-meets-fourteen}
 use Rattle.helpers.specs.rules.Angle.{arc, degree, radiansOf}
 use Rattle.helpers.specs.rules.Time.{centuryOf}
-use Rattle.precess.specs.declared.EqTurns.{EqTurns}
-use Rattle.precess.specs.rules.Numbers.{n2306·2181, n1·39656, n0·000139, n0·30188, n0·000344, n0·017998, n1·09468, n0·000066, n0·018203, n0·000217, n2004·3109, n0·8533, n0·42665, n0·041833, n2304·25, n1·396, n0·302, n0·018, n0·791, n0·001, n2004·682, n0·853, n0·426, n0·042}
-use Rattle.precess.specs.rules.Days.{spanOf, daysRefusal, placeRefusal}
-use Rattle.precess.specs.rules.Equatorial.{eqXi, eqZeta, eqTheta, turnsOf, eqTurnsOf, arcsOf, placed, turnedIn, precessEqCoordsRule}
-use Rattle.precess.specs.rules.Fk4.{fk4Century, fk4Span, fk4Xi, fk4Zeta, fk4Theta, degreesAsRadians, fk4Angle, fk4TurnsOf, precessEqCoordsFK5Rule}
+use Rattle.precess_angles.specs.declared.EqAngles.{EqAngles}
+use Rattle.precess_angles.specs.declared.EqTurns.{EqTurns}
+use Rattle.precess_angles.specs.rules.Numbers.{n2306·2181, n1·39656, n0·000139, n0·30188, n0·000344, n0·017998, n1·09468, n0·000066, n0·018203, n0·000217, n2004·3109, n0·8533, n0·42665, n0·041833, n2304·25, n1·396, n0·302, n0·018, n0·791, n0·001, n2004·682, n0·853, n0·426, n0·042}
+use Rattle.precess_angles.specs.rules.Days.{spanOf, daysRefusal, placeRefusal}
+use Rattle.precess_angles.specs.rules.Equatorial.{eqXi, eqZeta, eqTheta, eqAnglesOf, turnsOf, eqTurnsOf}
+use Rattle.precess_angles.specs.rules.Fk4.{fk4Century, fk4Span, fk4Xi, fk4Zeta, fk4Theta, degreesAsRadians, fk4Angle, fk4AnglesOf, fk4TurnsOf}
+use Rattle.precess.specs.rules.Equatorial.{arcsOf, placed, turnedIn, precessEqCoordsRule, precessEqCoordsFK5Rule}
 use Rattle.domain_accepted.specs.laws.Accepted.{angle-between, latitude-sine, latitude-cosine}
 use Rattle.domain_accepted.specs.notions.Outcome.{Outcome, SevenOrFourteen}
 use Rattle.domain_accepted.specs.notions.Within.{Within, IsPlace, BothFinite}
@@ -104,10 +106,9 @@ module _ (c t : Float) (C : Within 41 c) (S : Within 41 t) where
   fk4-theta-near Crate = fk4-theta-within
   fk4-theta-near Published = within 2048 (known fk4-theta-within ⊠ con degree) tt
 
-turns-near : (xi zeta theta : Rad) → Within 1024 (xi .0) → Within 32 (zeta .0) → Within 2048 (theta .0)
-    → EqTurnsNear (turnsOf xi zeta theta)
+turns-near : (a : EqAngles) → Within 1024 (a .xi .0) → Within 32 (a .zeta .0) → Within 2048 (a .theta .0) → EqTurnsNear (turnsOf a)
 unfolding turnsOf
-turns-near xi zeta theta X Z T = record { xi = X; zeta = Z; sine = near-sine theta T; cosine = near-cosine theta T }
+turns-near a X Z T = record { xi = X; zeta = Z; sine = near-sine (a .theta) T; cosine = near-cosine (a .theta) T }
 
 module _ (e : Edition) (day1 day2 : Float) (none : daysRefusal day1 day2 ≡ 0) where
   century : Within 20 (centuryOf day1)
@@ -123,19 +124,18 @@ module _ (e : Edition) (day1 day2 : Float) (none : daysRefusal day1 day2 ≡ 0) 
   fk4-span = fk4-span-within day1 day2 none
 
   pub eq-turns-near : EqTurnsNear (eqTurnsOf e day1 day2)
-  unfolding eqTurnsOf
+  unfolding eqTurnsOf eqAnglesOf
   eq-turns-near =
       let c = centuryOf day1 in
       let t = spanOf day1 day2 in
-      turns-near (radiansOf (eqXi c t)) (radiansOf (eqZeta e c t)) (radiansOf (eqTheta e c t)) (xi-within c t century span)
-      (zeta-within c t century span e) (theta-within c t century span e)
+      turns-near (eqAnglesOf e day1 day2) (xi-within c t century span) (zeta-within c t century span e) (theta-within c t century span e)
 
   pub fk4-turns-near : EqTurnsNear (fk4TurnsOf e day1 day2)
-  unfolding fk4TurnsOf
+  unfolding fk4TurnsOf fk4AnglesOf
   fk4-turns-near =
       let c = fk4Century day1 in
       let t = fk4Span day1 day2 in
-      turns-near (fk4Angle e (fk4Xi c t)) (fk4Angle e (fk4Zeta (fk4Xi c t) t)) (fk4Angle e (fk4Theta c t))
+      turns-near (fk4AnglesOf e day1 day2)
       (fk4-xi-near c t fk4-century fk4-span e) (fk4-zeta-near c t fk4-century fk4-span e) (fk4-theta-near c t fk4-century fk4-span e)
 
   -- the third angle goes into a sine

@@ -18,8 +18,7 @@ use Rattle.helpers.specs.rules.Angle.{radiansOf}
 use Rattle.helpers.specs.rules.Earth.{rhoIn}
 use Rattle.coords.specs.rules.Horizon.{azimuthIn, azFrmEqRule, hrAnglFrmHzIn, hrAnglFrmHzRule}
 use Rattle.coords_gal.specs.rules.Galactic.{galPoleAsc, galPoleDec, celPoleLong, roundPole, galLongIn, galLongFrmEqRule, ascFrmGalIn, ascFrmGalRule}
-use Rattle.precess.specs.rules.Equatorial.{precessEqCoordsRule}
-use Rattle.precess.specs.rules.Fk4.{precessEqCoordsFK5Rule}
+use Rattle.precess.specs.rules.Equatorial.{precessEqCoordsRule, precessEqCoordsFK5Rule}
 use Rattle.parallax.specs.rules.Observer.{centreOf, observerRefusal}
 use Rattle.parallax.specs.rules.Equatorial.{eastward, ahead, topocentAt, topocentIn, topocentEqCoordsRule}
 use Rattle.chain.specs.rules.Chain.{chainRule}

@@ -26,7 +26,7 @@ use Rattle.elementary_arc.specs.rules.Arcsine.{arcsineIn}
 use Rattle.elementary_arc.specs.notions.Computed as arc
 use Rattle.elementary.specs.laws.Accepted.{lower-none}
 use Rattle.precess_ecl.specs.declared.EclTurns.{EclTurns}
-use Rattle.precess.specs.rules.Days.{daysRefusal}
+use Rattle.precess_angles.specs.rules.Days.{daysRefusal}
 use Rattle.precess_ecl.specs.rules.Ecliptic.{eclTurnsOf}
 use Rattle.precess_ecl.specs.rules.Orbit.{leanedOf, newInclination, newNode, nodeAndPerihelion, orbitFrom, orbitIn, orbitRefusal, precessOrbElementsRule}
 use Rattle.domain_accepted.specs.laws.Accepted.{none-of-three, angle-between, angle-sine, angle-cosine}

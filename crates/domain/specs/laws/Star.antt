@@ -12,8 +12,8 @@ use Rattle.double.specs.laws.Between.{finite-zero}
 use Rattle.quantity.specs.rules.Answer.{Answer, answered, refused, Pair, statusOf}
 use Rattle.quantity.specs.laws.Steps.{refused-not-answered, same-number}
 use Rattle.edition.specs.declared.Edition.{Edition}
-use Rattle.precess.specs.rules.Days.{daysRefusal}
-use Rattle.precess.specs.rules.Equatorial.{eqTurnsOf}
+use Rattle.precess_angles.specs.rules.Days.{daysRefusal}
+use Rattle.precess_angles.specs.rules.Equatorial.{eqTurnsOf}
 use Rattle.chain.specs.rules.Chain.{chainRule}
 use Rattle.list.specs.declared.Star.{Star}
 use Rattle.list.specs.rules.Record.{inRange}

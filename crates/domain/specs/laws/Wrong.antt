@@ -23,7 +23,7 @@ use Rattle.helpers.specs.rules.Angle.{degreesOfHour, limited}
 use Rattle.helpers.specs.rules.Earth.{rhoIn}
 use Rattle.edition.specs.declared.Edition.{Edition}
 use Rattle.edition.specs.declared.Edition.the-variants.{Crate, Published}
-use Rattle.precess.specs.rules.Days.{placeRefusal}
+use Rattle.precess_angles.specs.rules.Days.{placeRefusal}
 use Rattle.precess.specs.rules.Equatorial.{precessEqCoordsRule}
 use Rattle.nutation_args.specs.rules.Sum.{summed, none}
 use Rattle.nutation_args.specs.notions.Computed as nutation

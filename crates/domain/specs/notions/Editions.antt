@@ -4,7 +4,7 @@ use Rattle.double.specs.rules.Operations.{_⊕_, _⊖_, _⊗_}
 use Rattle.quantity.specs.declared.Deg.{Deg}
 use Rattle.quantity.specs.rules.Angle.{deg}
 use Rattle.helpers.specs.rules.Angle.{arc}
-use Rattle.precess.specs.rules.Numbers.{n0·000217, n2004·3109, n0·8533, n0·42665, n0·041833}
+use Rattle.precess_angles.specs.rules.Numbers.{n0·000217, n2004·3109, n0·8533, n0·42665, n0·041833}
 
 abbrev pub thetaPrinted : Float → Float → Deg
 thetaPrinted c t =

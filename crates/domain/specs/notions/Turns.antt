@@ -7,7 +7,7 @@ use Rattle.quantity.specs.declared.Rad.{Rad}
 use Rattle.quantity.specs.rules.Angle.{rad}
 use Rattle.elementary.specs.rules.Sine.{sineOf, cosineOf}
 use Rattle.elementary_arc.specs.rules.Arctangent.{bothZero}
-use Rattle.precess.specs.declared.EqTurns.{EqTurns}
+use Rattle.precess_angles.specs.declared.EqTurns.{EqTurns}
 use Rattle.precess_ecl.specs.declared.EclTurns.{EclTurns}
 use Rattle.domain_accepted.specs.notions.Within.{Within}
 

@@ -14,7 +14,7 @@ use Rattle.elementary_arc.specs.rules.Arctangent.{bothZero, arctangentOf, arcta
 use Rattle.elementary_arc.specs.rules.Arcsine.{square, arcsineIn}
 use Rattle.elementary_arc.specs.laws.Arcsine.{arcsine-answered, arcsine-of-neither}
 use Rattle.elementary.specs.declared.Direction.{Direction}
-use Rattle.precess.specs.declared.EqTurns.{EqTurns}
+use Rattle.precess_angles.specs.declared.EqTurns.{EqTurns}
 use Rattle.precess.specs.declared.Arcs.{Arcs}
 use Rattle.precess.specs.rules.Equatorial.{arcsOf, placed, turnedIn}
 use Rattle.precess.specs.rules.Arcs.{arcsRefusal}

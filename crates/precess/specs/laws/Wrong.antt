@@ -11,13 +11,11 @@ use Rattle.quantity.specs.rules.Refusal.{epoch}
 use Rattle.quantity.specs.notions.Code.{ofAnswer, ofFirst, ofSecond}
 use Rattle.quantity.specs.notions.Varies.{Varies}
 use Rattle.quantity.specs.notions.Stated.{r0, r½, earlier}
-use Rattle.edition.specs.declared.Edition.{Edition}
 use Rattle.edition.specs.declared.Edition.the-variants.{Crate, Published}
 use Rattle.precess.specs.rules.Annual.{annualPrecessRule}
-use Rattle.precess.specs.rules.Equatorial.{precessEqCoordsRule}
-use Rattle.precess.specs.rules.Fk4.{precessEqCoordsFK5Rule}
+use Rattle.precess.specs.rules.Equatorial.{precessEqCoordsRule, precessEqCoordsFK5Rule}
 use Rattle.precess.specs.notions.Computed.{computed}
-use Rattle.precess.specs.notions.Wrong.{annualTangentIsSine, oneSignOfEach, spanBackward, xiTakenAway, daysInAnyOrder, arcsineFirst, fk4AnglesOfEach, fk4ZetaFromConvertedXi}
+use Rattle.precess.specs.notions.Wrong.{annualTangentIsSine, xiTakenAway, daysInAnyOrder, arcsineFirst}
 
 -- ---- annual precession
 
@@ -39,21 +37,6 @@ precess-eq-coords-varies = record { here = refl; there = refl; apart = apart (of
 pub precess-eq-coords-by-edition : precessEqCoordsRule Published r0 r0 earlier epoch ≢ precessEqCoordsRule Crate r0 r0 earlier epoch
 unfolding computed
 precess-eq-coords-by-edition = apart (ofAnswer ofFirst) refl
-
--- Meeus's sign in the second angle only, or in the third only, is neither edition
-pub sign-of-zeta-only-excluded : (e : Edition) → oneSignOfEach Published Crate r0 r0 earlier epoch ≢ precessEqCoordsRule e r0 r0 earlier epoch
-unfolding computed
-sign-of-zeta-only-excluded Crate = apart (ofAnswer ofFirst) refl
-sign-of-zeta-only-excluded Published = apart (ofAnswer ofSecond) refl
-
-pub sign-of-theta-only-excluded : (e : Edition) → oneSignOfEach Crate Published r0 r0 earlier epoch ≢ precessEqCoordsRule e r0 r0 earlier epoch
-unfolding computed
-sign-of-theta-only-excluded Crate = apart (ofAnswer ofSecond) refl
-sign-of-theta-only-excluded Published = apart (ofAnswer ofFirst) refl
-
-pub span-backward-excluded : spanBackward Crate r0 r0 earlier epoch ≢ precessEqCoordsRule Crate r0 r0 earlier epoch
-unfolding computed
-span-backward-excluded = apart (ofAnswer ofFirst) refl
 
 pub xi-taken-away-excluded : xiTakenAway Crate r0 r0 earlier epoch ≢ precessEqCoordsRule Crate r0 r0 earlier epoch
 unfolding computed
@@ -89,15 +72,3 @@ precess-eq-coords-FK5-varies = record { here = refl; there = refl; apart = apart
 pub precess-eq-coords-FK5-by-edition : precessEqCoordsFK5Rule Published r0 r0 earlier epoch ≢ precessEqCoordsFK5Rule Crate r0 r0 earlier epoch
 unfolding computed
 precess-eq-coords-FK5-by-edition = apart (ofAnswer ofFirst) refl
-
-pub fk4-third-angle-converted-excluded : fk4AnglesOfEach Crate Published r0 r0 earlier epoch ≢ precessEqCoordsFK5Rule Crate r0 r0 earlier epoch
-unfolding computed
-fk4-third-angle-converted-excluded = apart (ofAnswer ofFirst) refl
-
-pub fk4-third-angle-in-degrees-excluded : fk4AnglesOfEach Published Crate r0 r0 earlier epoch ≢ precessEqCoordsFK5Rule Published r0 r0 earlier epoch
-unfolding computed
-fk4-third-angle-in-degrees-excluded = apart (ofAnswer ofFirst) refl
-
-pub fk4-zeta-from-a-converted-xi-excluded : fk4ZetaFromConvertedXi Published r0 r0 earlier epoch ≢ precessEqCoordsFK5Rule Published r0 r0 earlier epoch
-unfolding computed
-fk4-zeta-from-a-converted-xi-excluded = apart (ofAnswer ofFirst) refl

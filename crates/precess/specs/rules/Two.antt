@@ -8,7 +8,7 @@ use Rattle.elementary.specs.declared.Direction.{Direction}
 use Rattle.elementary.specs.rules.Direction.{directionOf}
 use Rattle.elementary_arc.specs.rules.Arctangent.{arctangentOf}
 use Rattle.elementary_arc.specs.rules.Arcsine.{square}
-use Rattle.precess.specs.declared.EqTurns.{EqTurns}
+use Rattle.precess_angles.specs.declared.EqTurns.{EqTurns}
 use Rattle.precess.specs.rules.Equatorial.{arcsOf}
 use Rattle.precess.specs.rules.Arcs.{arcsRefusal}
 

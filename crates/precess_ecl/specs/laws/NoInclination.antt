@@ -8,7 +8,7 @@ use Rattle.quantity.specs.declared.Rad.{Rad}
 use Rattle.quantity.specs.rules.Angle.{rad}
 use Rattle.quantity.specs.rules.Answer.{refused}
 use Rattle.quantity.specs.rules.Refusal.{epoch, angleRefusal}
-use Rattle.precess.specs.rules.Days.{daysRefusal}
+use Rattle.precess_angles.specs.rules.Days.{daysRefusal}
 use Rattle.precess_ecl.specs.rules.Ecliptic.{eclTurnsOf}
 use Rattle.precess_ecl.specs.rules.Orbit.{orbitIn, precessOrbElementsRule}
 use Rattle.precess_ecl.specs.notions.Computed.{computed}

@@ -6,7 +6,7 @@ use Rattle.quantity.specs.declared.Rad.{Rad}
 use Rattle.quantity.specs.rules.Angle.{rad}
 use Rattle.quantity.specs.rules.Answer.{Answer, answered, Pair, Triple, triple, unless, with, then}
 use Rattle.elementary.specs.rules.Fold.{fold}
-use Rattle.precess.specs.rules.Days.{placeRefusal}
+use Rattle.precess_angles.specs.rules.Days.{placeRefusal}
 use Rattle.precess_ecl.specs.rules.Ecliptic.{eclTurnsOf, eclTurnedIn}
 use Rattle.precess_ecl.specs.rules.Orbit.{leanedOf, newInclination, newNode, orbitFrom, orbitRefusal, precessOrbElementsRule}
 

@@ -15,7 +15,7 @@ use Rattle.elementary_arc.specs.rules.Arctangent.{arctangentIn}
 use Rattle.elementary_arc.specs.rules.Arcsine.{arcsineIn}
 use Rattle.precess_ecl.specs.declared.EclTurns.{EclTurns}
 use Rattle.precess_ecl.specs.declared.Leaned.{Leaned}
-use Rattle.precess.specs.rules.Days.{daysRefusal}
+use Rattle.precess_angles.specs.rules.Days.{daysRefusal}
 use Rattle.precess_ecl.specs.rules.Ecliptic.{eclTurnsOf}
 
 -- A and B, from the inclination i and n, the node less Pi

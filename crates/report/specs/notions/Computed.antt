@@ -4,7 +4,7 @@ use Rattle.transit.specs.notions.Computed as transit
 use Rattle.list.specs.notions.Computed as list
 use Rattle.text_number.specs.notions.Computed as text
 use Rattle.text_refusal.specs.notions.Computed as refusal
-use Rattle.precess.specs.rules.Days.{daysRefusal}
+use Rattle.precess_angles.specs.rules.Days.{daysRefusal}
 use Rattle.batch.specs.rules.Batch.{batchRefusal}
 use Rattle.text_answers.specs.rules.Answers.{editionText}
 use Rattle.report.specs.rules.Report.{reportOf}
