@@ -1,4 +1,5 @@
 // The helpers of section 3.
+ghost use Rattle.quantity.specs.rules.Angle.{deg, rad};
 ghost use Rattle.brundelak_handed.specs.rules.Boundary.{Told, ToldTwo, numberOfDegrees, numberOfRadians};
 ghost use Rattle.helpers.specs.rules.Angle.{degFrmDmsRule, degFrmHmsRule, toRadiansRule, limitTo360Rule, limitToTwoPIRule};
 ghost use Rattle.helpers.specs.rules.Time.{julianCentRule};
@@ -29,7 +30,7 @@ pub extern "C" fn brundelak_deg_frm_hms(seconds: f64, out: &mut u64) -> u8
 // Degrees to radians. Refusals: 1.
 #[no_mangle]
 pub extern "C" fn brundelak_to_radians(x: f64, out: &mut u64) -> u8
-    ensures { λ n. ⌜ Told (numberOfRadians (toRadiansRule (record { 0 = x }))) n (now (out .entry)) (now (out .exit)) ⌝ }
+    ensures { λ n. ⌜ Told (numberOfRadians (toRadiansRule (deg x))) n (now (out .entry)) (now (out .exit)) ⌝ }
 {
     give_radians(helpers::angle::to_radians(Deg(x)), out)
 }
@@ -37,7 +38,7 @@ pub extern "C" fn brundelak_to_radians(x: f64, out: &mut u64) -> u8
 // Degrees folded into one turn. Refusals: 1.
 #[no_mangle]
 pub extern "C" fn brundelak_limit_to_360(x: f64, out: &mut u64) -> u8
-    ensures { λ n. ⌜ Told (numberOfDegrees (limitTo360Rule (record { 0 = x }))) n (now (out .entry)) (now (out .exit)) ⌝ }
+    ensures { λ n. ⌜ Told (numberOfDegrees (limitTo360Rule (deg x))) n (now (out .entry)) (now (out .exit)) ⌝ }
 {
     give_degrees(helpers::angle::limit_to_360(Deg(x)), out)
 }
@@ -45,7 +46,7 @@ pub extern "C" fn brundelak_limit_to_360(x: f64, out: &mut u64) -> u8
 // Radians folded into one turn. Refusals: 1.
 #[no_mangle]
 pub extern "C" fn brundelak_limit_to_two_pi(x: f64, out: &mut u64) -> u8
-    ensures { λ n. ⌜ Told (numberOfRadians (limitToTwoPIRule (record { 0 = x }))) n (now (out .entry)) (now (out .exit)) ⌝ }
+    ensures { λ n. ⌜ Told (numberOfRadians (limitToTwoPIRule (rad x))) n (now (out .entry)) (now (out .exit)) ⌝ }
 {
     give_radians(helpers::angle::limit_to_two_PI(Rad(x)), out)
 }
@@ -66,7 +67,7 @@ pub extern "C" fn brundelak_rho_sin_cos_phi(
     rho_sin: &mut u64,
     rho_cos: &mut u64,
 ) -> u8
-    ensures { λ n. ⌜ ToldTwo (rhoSinCosPhiRule (record { 0 = lat }) height) n (now («rho_sin» .entry)) (now («rho_cos» .entry)) (now («rho_sin» .exit)) (now («rho_cos» .exit)) ⌝ }
+    ensures { λ n. ⌜ ToldTwo (rhoSinCosPhiRule (rad lat) height) n (now («rho_sin» .entry)) (now («rho_cos» .entry)) (now («rho_sin» .exit)) (now («rho_cos» .exit)) ⌝ }
 {
     give_two(
         helpers::earth::Earth::rho_sin_cos_phi(Rad(lat), height),

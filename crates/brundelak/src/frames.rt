@@ -1,4 +1,5 @@
 // Changes of frame.
+ghost use Rattle.quantity.specs.rules.Angle.{rad};
 ghost use Rattle.brundelak_handed.specs.rules.Boundary.{Told, ToldTwo, numberOfRadians, numbersOfEcliptic};
 ghost use Rattle.edition.specs.declared.Edition.the-variants.{Crate};
 ghost use Rattle.coords.specs.rules.HourAngle.{hrAnglFrmObserverLongRule, hrAnglFrmLocSidrRule};
@@ -18,7 +19,7 @@ pub extern "C" fn brundelak_hr_angl_frm_observer_long(
     asc: f64,
     out: &mut u64,
 ) -> u8
-    ensures { λ n. ⌜ Told (numberOfRadians (hrAnglFrmObserverLongRule (record { 0 = «green_sidreal» }) (record { 0 = «observer_long» }) (record { 0 = asc }))) n (now (out .entry)) (now (out .exit)) ⌝ }
+    ensures { λ n. ⌜ Told (numberOfRadians (hrAnglFrmObserverLongRule (rad «green_sidreal») (rad «observer_long») (rad asc))) n (now (out .entry)) (now (out .exit)) ⌝ }
 {
     give_radians(
         coords::hr_angl_frm_observer_long(Rad(green_sidreal), Rad(observer_long), Rad(asc)),
@@ -29,7 +30,7 @@ pub extern "C" fn brundelak_hr_angl_frm_observer_long(
 // The hour angle from the local sidereal time. Refusals: 1; 3.
 #[no_mangle]
 pub extern "C" fn brundelak_hr_angl_frm_loc_sidr(local_sidreal: f64, asc: f64, out: &mut u64) -> u8
-    ensures { λ n. ⌜ Told (numberOfRadians (hrAnglFrmLocSidrRule (record { 0 = «local_sidreal» }) (record { 0 = asc }))) n (now (out .entry)) (now (out .exit)) ⌝ }
+    ensures { λ n. ⌜ Told (numberOfRadians (hrAnglFrmLocSidrRule (rad «local_sidreal») (rad asc))) n (now (out .entry)) (now (out .exit)) ⌝ }
 {
     give_radians(
         coords::hr_angl_frm_loc_sidr(Rad(local_sidreal), Rad(asc)),
@@ -46,7 +47,7 @@ pub extern "C" fn brundelak_ecl_frm_eq(
     long: &mut u64,
     lat: &mut u64,
 ) -> u8
-    ensures { λ n. ⌜ ToldTwo (numbersOfEcliptic (eclFrmEqRule (record { 0 = asc }) (record { 0 = dec }) (record { 0 = «oblq_eclip» }))) n (now (long .entry)) (now (lat .entry)) (now (long .exit)) (now (lat .exit)) ⌝ }
+    ensures { λ n. ⌜ ToldTwo (numbersOfEcliptic (eclFrmEqRule (rad asc) (rad dec) (rad «oblq_eclip»))) n (now (long .entry)) (now (lat .entry)) (now (long .exit)) (now (lat .exit)) ⌝ }
 {
     give_ecliptic(
         coords_ecl::ecl_frm_eq(Rad(asc), Rad(dec), Rad(oblq_eclip)),
@@ -63,7 +64,7 @@ pub extern "C" fn brundelak_asc_frm_ecl(
     oblq_eclip: f64,
     out: &mut u64,
 ) -> u8
-    ensures { λ n. ⌜ Told (numberOfRadians (ascFrmEclRule (record { 0 = «ecl_long» }) (record { 0 = «ecl_lat» }) (record { 0 = «oblq_eclip» }))) n (now (out .entry)) (now (out .exit)) ⌝ }
+    ensures { λ n. ⌜ Told (numberOfRadians (ascFrmEclRule (rad «ecl_long») (rad «ecl_lat») (rad «oblq_eclip»))) n (now (out .entry)) (now (out .exit)) ⌝ }
 {
     give_radians(
         coords_ecl::asc_frm_ecl(Rad(ecl_long), Rad(ecl_lat), Rad(oblq_eclip)),
@@ -79,7 +80,7 @@ pub extern "C" fn brundelak_dec_frm_ecl(
     oblq_eclip: f64,
     out: &mut u64,
 ) -> u8
-    ensures { λ n. ⌜ Told (numberOfRadians (decFrmEclRule (record { 0 = «ecl_long» }) (record { 0 = «ecl_lat» }) (record { 0 = «oblq_eclip» }))) n (now (out .entry)) (now (out .exit)) ⌝ }
+    ensures { λ n. ⌜ Told (numberOfRadians (decFrmEclRule (rad «ecl_long») (rad «ecl_lat») (rad «oblq_eclip»))) n (now (out .entry)) (now (out .exit)) ⌝ }
 {
     give_radians(
         coords_ecl::dec_frm_ecl(Rad(ecl_long), Rad(ecl_lat), Rad(oblq_eclip)),
@@ -95,7 +96,7 @@ pub extern "C" fn brundelak_az_frm_eq(
     observer_lat: f64,
     out: &mut u64,
 ) -> u8
-    ensures { λ n. ⌜ Told (numberOfRadians (azFrmEqRule (record { 0 = «hour_angle» }) (record { 0 = dec }) (record { 0 = «observer_lat» }))) n (now (out .entry)) (now (out .exit)) ⌝ }
+    ensures { λ n. ⌜ Told (numberOfRadians (azFrmEqRule (rad «hour_angle») (rad dec) (rad «observer_lat»))) n (now (out .entry)) (now (out .exit)) ⌝ }
 {
     give_radians(
         coords::az_frm_eq(Rad(hour_angle), Rad(dec), Rad(observer_lat)),
@@ -111,7 +112,7 @@ pub extern "C" fn brundelak_alt_frm_eq(
     observer_lat: f64,
     out: &mut u64,
 ) -> u8
-    ensures { λ n. ⌜ Told (numberOfRadians (altFrmEqRule (record { 0 = «hour_angle» }) (record { 0 = dec }) (record { 0 = «observer_lat» }))) n (now (out .entry)) (now (out .exit)) ⌝ }
+    ensures { λ n. ⌜ Told (numberOfRadians (altFrmEqRule (rad «hour_angle») (rad dec) (rad «observer_lat»))) n (now (out .entry)) (now (out .exit)) ⌝ }
 {
     give_radians(
         coords::alt_frm_eq(Rad(hour_angle), Rad(dec), Rad(observer_lat)),
@@ -127,7 +128,7 @@ pub extern "C" fn brundelak_hr_angl_frm_hz(
     observer_lat: f64,
     out: &mut u64,
 ) -> u8
-    ensures { λ n. ⌜ Told (numberOfRadians (hrAnglFrmHzRule (record { 0 = az }) (record { 0 = alt }) (record { 0 = «observer_lat» }))) n (now (out .entry)) (now (out .exit)) ⌝ }
+    ensures { λ n. ⌜ Told (numberOfRadians (hrAnglFrmHzRule (rad az) (rad alt) (rad «observer_lat»))) n (now (out .entry)) (now (out .exit)) ⌝ }
 {
     give_radians(
         coords::hr_angl_frm_hz(Rad(az), Rad(alt), Rad(observer_lat)),
@@ -138,7 +139,7 @@ pub extern "C" fn brundelak_hr_angl_frm_hz(
 // The declination from horizontal coordinates. Refusals: 1; 3; 7.
 #[no_mangle]
 pub extern "C" fn brundelak_dec_frm_hz(az: f64, alt: f64, observer_lat: f64, out: &mut u64) -> u8
-    ensures { λ n. ⌜ Told (numberOfRadians (decFrmHzRule Crate (record { 0 = az }) (record { 0 = alt }) (record { 0 = «observer_lat» }))) n (now (out .entry)) (now (out .exit)) ⌝ }
+    ensures { λ n. ⌜ Told (numberOfRadians (decFrmHzRule Crate (rad az) (rad alt) (rad «observer_lat»))) n (now (out .entry)) (now (out .exit)) ⌝ }
 {
     give_radians(
         coords::dec_frm_hz(Edition::Crate, Rad(az), Rad(alt), Rad(observer_lat)),
@@ -149,7 +150,7 @@ pub extern "C" fn brundelak_dec_frm_hz(az: f64, alt: f64, observer_lat: f64, out
 // The galactic longitude. Refusals: 1; 3; 4; 14.
 #[no_mangle]
 pub extern "C" fn brundelak_gal_long_frm_eq(asc: f64, dec: f64, out: &mut u64) -> u8
-    ensures { λ n. ⌜ Told (numberOfRadians (galLongFrmEqRule (record { 0 = asc }) (record { 0 = dec }))) n (now (out .entry)) (now (out .exit)) ⌝ }
+    ensures { λ n. ⌜ Told (numberOfRadians (galLongFrmEqRule (rad asc) (rad dec))) n (now (out .entry)) (now (out .exit)) ⌝ }
 {
     give_radians(coords_gal::gal_long_frm_eq(Rad(asc), Rad(dec)), out)
 }
@@ -157,7 +158,7 @@ pub extern "C" fn brundelak_gal_long_frm_eq(asc: f64, dec: f64, out: &mut u64) -
 // The galactic latitude. Refusals: 1; 3; 7.
 #[no_mangle]
 pub extern "C" fn brundelak_gal_lat_frm_eq(asc: f64, dec: f64, out: &mut u64) -> u8
-    ensures { λ n. ⌜ Told (numberOfRadians (galLatFrmEqRule (record { 0 = asc }) (record { 0 = dec }))) n (now (out .entry)) (now (out .exit)) ⌝ }
+    ensures { λ n. ⌜ Told (numberOfRadians (galLatFrmEqRule (rad asc) (rad dec))) n (now (out .entry)) (now (out .exit)) ⌝ }
 {
     give_radians(coords_gal::gal_lat_frm_eq(Rad(asc), Rad(dec)), out)
 }
@@ -165,7 +166,7 @@ pub extern "C" fn brundelak_gal_lat_frm_eq(asc: f64, dec: f64, out: &mut u64) ->
 // The right ascension from galactic coordinates. Refusals: 1; 3; 4; 14.
 #[no_mangle]
 pub extern "C" fn brundelak_asc_frm_gal(gal_long: f64, gal_lat: f64, out: &mut u64) -> u8
-    ensures { λ n. ⌜ Told (numberOfRadians (ascFrmGalRule (record { 0 = «gal_long» }) (record { 0 = «gal_lat» }))) n (now (out .entry)) (now (out .exit)) ⌝ }
+    ensures { λ n. ⌜ Told (numberOfRadians (ascFrmGalRule (rad «gal_long») (rad «gal_lat»))) n (now (out .entry)) (now (out .exit)) ⌝ }
 {
     give_radians(coords_gal::asc_frm_gal(Rad(gal_long), Rad(gal_lat)), out)
 }

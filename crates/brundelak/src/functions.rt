@@ -1,4 +1,5 @@
 // The elementary functions, and the root.
+ghost use Rattle.quantity.specs.rules.Angle.{rad};
 ghost use Rattle.brundelak_handed.specs.rules.Boundary.{Told, numberOfRadians};
 ghost use Rattle.elementary.specs.rules.Sine.{sineRule, cosineRule, tangentRule};
 ghost use Rattle.elementary_arc.specs.rules.Arctangent.{arctangentRule};
@@ -12,7 +13,7 @@ use quantity::Rad;
 // The sine of an angle. Refusals: 1; 3 past 400000.0.
 #[no_mangle]
 pub extern "C" fn brundelak_sine(x: f64, out: &mut u64) -> u8
-    ensures { λ n. ⌜ Told (sineRule (record { 0 = x })) n (now (out .entry)) (now (out .exit)) ⌝ }
+    ensures { λ n. ⌜ Told (sineRule (rad x)) n (now (out .entry)) (now (out .exit)) ⌝ }
 {
     give(elementary::sine(Rad(x)), out)
 }
@@ -20,7 +21,7 @@ pub extern "C" fn brundelak_sine(x: f64, out: &mut u64) -> u8
 // The cosine of an angle. Refusals: 1; 3 past 400000.0.
 #[no_mangle]
 pub extern "C" fn brundelak_cosine(x: f64, out: &mut u64) -> u8
-    ensures { λ n. ⌜ Told (cosineRule (record { 0 = x })) n (now (out .entry)) (now (out .exit)) ⌝ }
+    ensures { λ n. ⌜ Told (cosineRule (rad x)) n (now (out .entry)) (now (out .exit)) ⌝ }
 {
     give(elementary::cosine(Rad(x)), out)
 }
@@ -28,7 +29,7 @@ pub extern "C" fn brundelak_cosine(x: f64, out: &mut u64) -> u8
 // The tangent of an angle. Refusals: 1; 3 past 400000.0; 4 past 1.57.
 #[no_mangle]
 pub extern "C" fn brundelak_tangent(x: f64, out: &mut u64) -> u8
-    ensures { λ n. ⌜ Told (tangentRule (record { 0 = x })) n (now (out .entry)) (now (out .exit)) ⌝ }
+    ensures { λ n. ⌜ Told (tangentRule (rad x)) n (now (out .entry)) (now (out .exit)) ⌝ }
 {
     give(elementary::tangent(Rad(x)), out)
 }

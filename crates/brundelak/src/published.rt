@@ -1,4 +1,5 @@
 // The functions of numbers that differ between the editions, in the published one. The names without the word are the crate's edition.
+ghost use Rattle.quantity.specs.rules.Angle.{rad};
 ghost use Rattle.brundelak_handed.specs.rules.Boundary.{Told, ToldTwo, ToldThree, numberOfRadians};
 ghost use Rattle.edition.specs.declared.Edition.the-variants.{Published};
 ghost use Rattle.coords.specs.rules.Horizon.{decFrmHzRule};
@@ -21,7 +22,7 @@ pub extern "C" fn brundelak_dec_frm_hz_published(
     observer_lat: f64,
     out: &mut u64,
 ) -> u8
-    ensures { λ n. ⌜ Told (numberOfRadians (decFrmHzRule Published (record { 0 = az }) (record { 0 = alt }) (record { 0 = «observer_lat» }))) n (now (out .entry)) (now (out .exit)) ⌝ }
+    ensures { λ n. ⌜ Told (numberOfRadians (decFrmHzRule Published (rad az) (rad alt) (rad «observer_lat»))) n (now (out .entry)) (now (out .exit)) ⌝ }
 {
     give_radians(
         coords::dec_frm_hz(Edition::Published, Rad(az), Rad(alt), Rad(observer_lat)),
@@ -39,7 +40,7 @@ pub extern "C" fn brundelak_precess_eq_coords_published(
     asc: &mut u64,
     dec: &mut u64,
 ) -> u8
-    ensures { λ n. ⌜ ToldTwo (precessEqCoordsRule Published (record { 0 = «old_asc» }) (record { 0 = «old_dec» }) day1 day2) n (now (asc .entry)) (now (dec .entry)) (now (asc .exit)) (now (dec .exit)) ⌝ }
+    ensures { λ n. ⌜ ToldTwo (precessEqCoordsRule Published (rad «old_asc») (rad «old_dec») day1 day2) n (now (asc .entry)) (now (dec .entry)) (now (asc .exit)) (now (dec .exit)) ⌝ }
 {
     give_two(
         precess::precess_eq_coords(Edition::Published, Rad(old_asc), Rad(old_dec), day1, day2),
@@ -58,7 +59,7 @@ pub extern "C" fn brundelak_precess_eq_coords_fk5_published(
     asc: &mut u64,
     dec: &mut u64,
 ) -> u8
-    ensures { λ n. ⌜ ToldTwo (precessEqCoordsFK5Rule Published (record { 0 = «old_asc» }) (record { 0 = «old_dec» }) day1 day2) n (now (asc .entry)) (now (dec .entry)) (now (asc .exit)) (now (dec .exit)) ⌝ }
+    ensures { λ n. ⌜ ToldTwo (precessEqCoordsFK5Rule Published (rad «old_asc») (rad «old_dec») day1 day2) n (now (asc .entry)) (now (dec .entry)) (now (asc .exit)) (now (dec .exit)) ⌝ }
 {
     give_two(
         precess::precess_eq_coords_FK5(Edition::Published, Rad(old_asc), Rad(old_dec), day1, day2),
@@ -83,7 +84,7 @@ pub extern "C" fn brundelak_topopcent_ecl_coords_published(
     topocent_lat: &mut u64,
     topocent_semidiameter: &mut u64,
 ) -> u8
-    ensures { λ n. ⌜ ToldThree (topopcentEclCoordsRule Published (record { long = «ecl_long»; lat = «ecl_lat» }) (record { 0 = parallax }) (record { long = long; lat = lat }) height (record { 0 = sidereal }) (record { 0 = oblq }) (record { 0 = semidiameter })) n (now («topocent_long» .entry)) (now («topocent_lat» .entry)) (now («topocent_semidiameter» .entry)) (now («topocent_long» .exit)) (now («topocent_lat» .exit)) (now («topocent_semidiameter» .exit)) ⌝ }
+    ensures { λ n. ⌜ ToldThree (topopcentEclCoordsRule Published (record { long = «ecl_long»; lat = «ecl_lat» }) (rad parallax) (record { long = long; lat = lat }) height (rad sidereal) (rad oblq) (rad semidiameter)) n (now («topocent_long» .entry)) (now («topocent_lat» .entry)) (now («topocent_semidiameter» .entry)) (now («topocent_long» .exit)) (now («topocent_lat» .exit)) (now («topocent_semidiameter» .exit)) ⌝ }
 {
     give_three(
         parallax_ecl::topopcent_ecl_coords(
@@ -118,7 +119,7 @@ pub extern "C" fn brundelak_chain_published(
     asc: &mut u64,
     dec: &mut u64,
 ) -> u8
-    ensures { λ n. ⌜ ToldTwo (chainRule Published (record { 0 = «old_asc» }) (record { 0 = «old_dec» }) day1 day2) n (now (asc .entry)) (now (dec .entry)) (now (asc .exit)) (now (dec .exit)) ⌝ }
+    ensures { λ n. ⌜ ToldTwo (chainRule Published (rad «old_asc») (rad «old_dec») day1 day2) n (now (asc .entry)) (now (dec .entry)) (now (asc .exit)) (now (dec .exit)) ⌝ }
 {
     give_two(
         chain::chain(Edition::Published, Rad(old_asc), Rad(old_dec), day1, day2),

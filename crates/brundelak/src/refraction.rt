@@ -1,4 +1,5 @@
 // Refraction at the sight. Altitudes are in degrees, refraction in minutes of arc.
+ghost use Rattle.quantity.specs.rules.Angle.{deg};
 ghost use Rattle.brundelak_handed.specs.rules.Boundary.{Told, numberOfDegrees, numberOfArcminutes};
 ghost use Rattle.atmos.specs.rules.Refraction.{refracFrmApprntAltRule, refracFrmTrueAltRule};
 ghost use Rattle.atmos.specs.rules.Sight.{sightAltRule, planAltRule};
@@ -9,7 +10,7 @@ use quantity::Deg;
 // Refraction from the apparent altitude. Refusals: 1; 3.
 #[no_mangle]
 pub extern "C" fn brundelak_refrac_frm_apprnt_alt(alt: f64, out: &mut u64) -> u8
-    ensures { λ n. ⌜ Told (numberOfArcminutes (refracFrmApprntAltRule (record { 0 = alt }))) n (now (out .entry)) (now (out .exit)) ⌝ }
+    ensures { λ n. ⌜ Told (numberOfArcminutes (refracFrmApprntAltRule (deg alt))) n (now (out .entry)) (now (out .exit)) ⌝ }
 {
     give_arcminutes(atmos::refrac_frm_apprnt_alt(Deg(alt)), out)
 }
@@ -17,7 +18,7 @@ pub extern "C" fn brundelak_refrac_frm_apprnt_alt(alt: f64, out: &mut u64) -> u8
 // Refraction from the true altitude. Refusals: 1; 3.
 #[no_mangle]
 pub extern "C" fn brundelak_refrac_frm_true_alt(alt: f64, out: &mut u64) -> u8
-    ensures { λ n. ⌜ Told (numberOfArcminutes (refracFrmTrueAltRule (record { 0 = alt }))) n (now (out .entry)) (now (out .exit)) ⌝ }
+    ensures { λ n. ⌜ Told (numberOfArcminutes (refracFrmTrueAltRule (deg alt))) n (now (out .entry)) (now (out .exit)) ⌝ }
 {
     give_arcminutes(atmos::refrac_frm_true_alt(Deg(alt)), out)
 }
@@ -25,7 +26,7 @@ pub extern "C" fn brundelak_refrac_frm_true_alt(alt: f64, out: &mut u64) -> u8
 // The true altitude of a star that was measured. Refusals: 1; 3.
 #[no_mangle]
 pub extern "C" fn brundelak_sight_alt(alt: f64, out: &mut u64) -> u8
-    ensures { λ n. ⌜ Told (numberOfDegrees (sightAltRule (record { 0 = alt }))) n (now (out .entry)) (now (out .exit)) ⌝ }
+    ensures { λ n. ⌜ Told (numberOfDegrees (sightAltRule (deg alt))) n (now (out .entry)) (now (out .exit)) ⌝ }
 {
     give_degrees(atmos::sight_alt(Deg(alt)), out)
 }
@@ -33,7 +34,7 @@ pub extern "C" fn brundelak_sight_alt(alt: f64, out: &mut u64) -> u8
 // The altitude at which to look for a star. Refusals: 1; 3.
 #[no_mangle]
 pub extern "C" fn brundelak_plan_alt(alt: f64, out: &mut u64) -> u8
-    ensures { λ n. ⌜ Told (numberOfDegrees (planAltRule (record { 0 = alt }))) n (now (out .entry)) (now (out .exit)) ⌝ }
+    ensures { λ n. ⌜ Told (numberOfDegrees (planAltRule (deg alt))) n (now (out .entry)) (now (out .exit)) ⌝ }
 {
     give_degrees(atmos::plan_alt(Deg(alt)), out)
 }

@@ -7,7 +7,7 @@ use Rattle.list_groups.specs.rules.Read.{shownRead}
 use Rattle.list_groups.specs.declared.Read.{Read}
 use Rattle.list_groups.specs.declared.Read.the-variants.{Number, Refused}
 
-same-placed : (x y : Placed ℕ) → answered x ≡ answered y → x ≡ y
+pub same-placed : {A : Type 0} (x y : Placed A) → answered x ≡ answered y → x ≡ y
 same-placed x y e = cc
 
 pub read-loses-nothing : (r s : Read) → shownRead r ≡ shownRead s → r ≡ s

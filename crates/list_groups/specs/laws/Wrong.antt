@@ -2,13 +2,14 @@
 -- answers a constant, does not meet it. Assumes nothing.
 use Prim.Native.Nat.{ℕ, _+_, _*_}
 use mathlib.Core.Path.{refl}
-use mathlib.Core.List.{List, [], _∷_}
+use mathlib.Core.List.{[], _∷_}
 use std.Logic.{_≢_}
 use lib.IntN.{pos, negsuc, natAbs}
 use Rattle.double.specs.notions.Code.{ofNumber}
 use Rattle.double.specs.laws.Apart.{apart}
 use Rattle.quantity.specs.notions.Code.{ofAnswer}
 use Rattle.quantity.specs.notions.Varies.{Varies}
+use Rattle.lent.specs.notions.Code.{ofBytes}
 use Rattle.list_groups.specs.rules.Groups.{groups}
 use Rattle.list_groups.specs.rules.Reading.{Got, readNumber, Placed, readAt}
 use Rattle.list_groups.specs.rules.Fold.{folded, unfolded}
@@ -19,11 +20,6 @@ ofGot g = g .value
 
 abbrev ofPlaced : Placed ℕ → ℕ
 ofPlaced p = p .place + 65536 * p .value
-
--- bytes as the digits of one number
-abbrev ofBytes : List ℕ → ℕ
-ofBytes [] = 1
-ofBytes (b ∷ bs) = b + 256 * ofBytes bs
 
 -- ---- reading
 

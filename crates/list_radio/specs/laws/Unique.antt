@@ -1,9 +1,9 @@
 -- What is shown of an answer loses nothing, so that each contract holds of one answer only. Assumes nothing.
 use mathlib.Core.Path.{_≡_, ap}
 use Prim.Native.Nat.{ℕ}
-use Rattle.quantity.specs.rules.Answer.{answered}
 use Rattle.list.specs.declared.Star.{Star}
 use Rattle.list_groups.specs.rules.Reading.{Placed}
+use Rattle.list_groups.specs.laws.Unique.{same-placed}
 use Rattle.list_radio.specs.rules.Reader.{shownOpened, shownSighted, shownAccepted}
 use Rattle.list_radio.specs.declared.Opened.{Opened}
 use Rattle.list_radio.specs.declared.Opened.the-variants as opened
@@ -11,9 +11,6 @@ use Rattle.list_radio.specs.declared.Sighted.{Sighted}
 use Rattle.list_radio.specs.declared.Sighted.the-variants as sighted
 use Rattle.list_radio.specs.declared.Accepted.{Accepted}
 use Rattle.list_radio.specs.declared.Accepted.the-variants as accepted
-
-same-placed : {A : Type 0} (x y : Placed A) → answered x ≡ answered y → x ≡ y
-same-placed x y e = cc
 
 pub opened-loses-nothing : (r s : Opened) → shownOpened r ≡ shownOpened s → r ≡ s
 opened-loses-nothing (opened.Stars m p) (opened.Stars n q) e = ap (λ (x : Placed ℕ). opened.Stars (x .value) (x .place)) (same-placed _ _ e)
