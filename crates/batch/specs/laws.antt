@@ -1,5 +1,4 @@
 -- What is proved of the batch, for callers to cite. Theorems only.
-pub mod Constants
 pub mod Known
 pub mod InRange
 pub mod Star

@@ -5,14 +5,13 @@ ghost use Prim.Native.Nat.{_<_};
 ghost use mathlib.Core.Path.{_≡_};
 ghost use mathlib.Core.Bool.{cond};
 ghost use lib.Dec.{eqb};
-ghost use lib.IntN.{pos};
 ghost use lib.ListN.{length};
 ghost use Rattle.double.specs.rules.Operations.{zero};
 ghost use Rattle.double.specs.rules.Pattern.{patternOf};
 ghost use Rattle.quantity.specs.rules.Answer.{answered, pair, unless};
 ghost use Rattle.list.specs.rules.Record.{inRange};
 ghost use Rattle.list.specs.rules.Stars.{mostStars};
-ghost use Rattle.batch.specs.rules.Star.{degreesOf, ascOf, decOf, reduceTwo};
+ghost use Rattle.batch.specs.rules.Star.{ascOf, decOf, reduceTwo};
 ghost use Rattle.batch.specs.rules.Batch.{batchRefusal};
 ghost use Rattle.batch.specs.rules.Batch.{Batch as Batch·Batch};
 ghost use Rattle.batch.specs.notions.Kept.{Kept};
@@ -21,7 +20,6 @@ use edition::Edition;
 use helpers::angle;
 use list::Star;
 use list_tally::Tally;
-use quantity::Deg;
 use quantity::Places;
 use quantity::Rad;
 
@@ -33,32 +31,18 @@ pub struct Batched {
 
 // ---- one star
 
-// A right ascension in milliarcseconds as degrees.
-fn asc_degrees(count: u32) -> Deg
-    ensures { λ r. ⌜ r ≡ degreesOf (pos count) ⌝ }
-{
-    Deg(count as f64 / 3600000.0)
-}
-
-// A declination in milliarcseconds as degrees.
-fn dec_degrees(star: Star) -> Deg
-    ensures { λ r. ⌜ r ≡ degreesOf (star .dec) ⌝ }
-{
-    Deg(star.dec as f64 / 3600000.0)
-}
-
 // A star's right ascension.
 fn asc_of(star: Star) -> Rad
     ensures { λ r. ⌜ r ≡ ascOf star ⌝ }
 {
-    angle::radians(asc_degrees(star.asc))
+    angle::radians(units::degrees_of(star.asc))
 }
 
 // A star's declination.
 fn dec_of(star: Star) -> Rad
     ensures { λ r. ⌜ r ≡ decOf star ⌝ }
 {
-    angle::radians(dec_degrees(star))
+    angle::radians(units::degrees_of_signed(star.dec))
 }
 
 // A refusal number of a star's place, or 9 where the star's record is out of range.

@@ -1,5 +1,5 @@
-// The text of a list's answers, star by star, in one of three styles. What is printed was worked out before: a status and two angles a
-// star, each angle lent as its bits, a refusal of all and a tally.
+// The text of a list's answers, star by star, in one of three styles. Given: a status and two angles a star, each angle lent as its bits, a
+// refusal of all and a tally; a plan's times are `transit`'s of these angles.
 // Rules: specs/rules, in reading order in specs/rules.antt.
 ghost use Prim.Native.Nat.{_+_};
 ghost use mathlib.Core.Path.{_≡_};
@@ -48,7 +48,7 @@ fn angle_at(s: &[u64], i: usize) -> Rad
     Rad(0.0)
 }
 
-// A star in its style.
+// Each `put_` writes its text from the place on, and answers the place after it. This one: a star in its style.
 fn put_star(
     out: &mut [u8],
     at: usize,
@@ -97,7 +97,7 @@ fn put_nth<'a>(
     )
 }
 
-// Every star.
+// So many stars.
 fn put_stars<'a>(
     out: &mut [u8],
     at: usize,

@@ -1,5 +1,3 @@
 -- What is proved of a star's line, for callers to cite. Theorems only.
-pub mod Constants
-pub mod Nearest
 pub mod Room
 pub mod Wrong

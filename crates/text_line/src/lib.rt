@@ -2,39 +2,11 @@
 // Rules: specs/rules, in reading order in specs/rules.antt.
 ghost use mathlib.Core.Path.{_≡_};
 ghost use Rattle.lent.specs.rules.Writing.{Wrote};
-ghost use Rattle.text_line.specs.rules.Angle.{toDegrees, milliarcseconds, nearestWhole, hasMinus, angleText};
+ghost use Rattle.text_line.specs.rules.Angle.{hasMinus, angleText};
 ghost use Rattle.text_line.specs.rules.Line.{angleThen, bitsThen, anglesText, lineOf};
-use quantity::Deg;
 use quantity::Rad;
 
 // ---- an angle
-
-// Radians as degrees.
-pub fn to_degrees(x: Rad) -> Deg
-    ensures { λ r. ⌜ r ≡ toDegrees x ⌝ }
-{
-    Deg(x.0 * 57.29577951308232)
-}
-
-// Degrees in milliarcseconds.
-fn milliarcseconds(x: Deg) -> f64
-    ensures { λ r. ⌜ r ≡ milliarcseconds x ⌝ }
-{
-    x.0 * 3600000.0
-}
-
-// The nearest whole number, a half going up.
-pub fn nearest_whole(y: f64) -> u64
-    ensures { λ r. ⌜ r ≡ nearestWhole y ⌝ }
-{
-    let w = double::whole_part(y);
-    if w < 9007199254740992 {
-        if 0.5 <= y - std::num::nearest_u64_to_f64(w) {
-            return w + 1;
-        }
-    }
-    w
-}
 
 // Whether a minus sign stands before n.
 pub fn has_minus(y: f64, n: u64) -> bool
@@ -50,8 +22,8 @@ pub fn has_minus(y: f64, n: u64) -> bool
 fn put_angle(out: &mut [u8], at: usize, x: Rad) -> usize
     ensures { λ r. ⌜ Wrote (now (out .entry)) at (angleText x) (now (out .exit)) r ⌝ }
 {
-    let y = milliarcseconds(to_degrees(x));
-    let n = nearest_whole(double::size(y));
+    let y = units::milliarcseconds(units::to_degrees(x));
+    let n = units::nearest_whole(double::size(y));
     text_number::put_signed(out, at, has_minus(y, n), n)
 }
 

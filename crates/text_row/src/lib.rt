@@ -23,8 +23,8 @@ fn milliseconds(x: Deg) -> f64
 fn milliseconds_of(x: Rad) -> u64
     ensures { λ r. ⌜ r ≡ millisecondsOf x ⌝ }
 {
-    let y = milliseconds(text_line::to_degrees(angle::within_two_PI(x)));
-    text_line::nearest_whole(y) % 86400000
+    let y = milliseconds(units::to_degrees(angle::within_two_PI(x)));
+    units::nearest_whole(y) % 86400000
 }
 
 // Each `put_` writes its text from the place on, and answers the place after it. This one: a number of three digits.
@@ -78,8 +78,8 @@ fn put_arc(out: &mut [u8], at: usize, minus: bool, n: u64) -> usize
 fn put_degrees(out: &mut [u8], at: usize, x: Rad) -> usize
     ensures { λ r. ⌜ Wrote (now (out .entry)) at (degreesText x) (now (out .exit)) r ⌝ }
 {
-    let y = hundredths(text_line::to_degrees(x));
-    let n = text_line::nearest_whole(double::size(y));
+    let y = hundredths(units::to_degrees(x));
+    let n = units::nearest_whole(double::size(y));
     put_arc(out, at, text_line::has_minus(y, n), n)
 }
 

@@ -4,7 +4,7 @@ use Rattle.batch.proofs.asc_of.Statement.{statement}
 use Rattle.batch.proofs.asc_of.Tie as tie
 
 returns : tie.Need-returns
-returns c = rw (c .before .asc-degrees .ensures) at (c .radians .ensures)
+returns c = rw (c .before .degrees-of .ensures) at (c .radians .ensures)
 
 pub asc-of-spec : {M : Type 1} → statement M
 asc-of-spec = tie.close (tie.spec asks-nothing asks-nothing returns)

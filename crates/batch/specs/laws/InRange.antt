@@ -22,9 +22,10 @@ use Rattle.quantity.specs.rules.Angle.{HALF}
 use Rattle.quantity.specs.rules.Refusal.{lower, farthest, angleRefusal, latitudeRefusal}
 use Rattle.helpers.specs.rules.Angle.{degree}
 use Rattle.quantity.specs.laws.Refusal.{past-none, finite-farthest, finite-half}
+use Rattle.units.specs.rules.Degrees.{milliarcsecondsOfDegree}
 use Rattle.list.specs.declared.Star.{Star}
 use Rattle.list.specs.rules.Record.{turn, quarter, inRange}
-use Rattle.batch.specs.rules.Star.{milliarcsecondsOfDegree, ascOf, decOf}
+use Rattle.batch.specs.rules.Star.{ascOf, decOf}
 
 asc-near : (star : Star) → star .asc ≤ turn → size (ascOf star .0) ≼ farthest
 unfolding isFinite le neg mul div ofInt ofBits round

@@ -21,7 +21,7 @@ use Rattle.list.specs.rules.Record.{turn, inRange}
 use Rattle.list.specs.rules.Stars.{isList, nought}
 use Rattle.batch.specs.rules.Star.{starRule, reduceStar, firstOf, secondOf}
 use Rattle.batch.specs.rules.Batch.{batchRefusal}
-use Rattle.batch.specs.notions.Wrong.{secondsForMilliarcseconds, statusAlwaysGood, angleAlwaysZero, anglesTraded, refusedStarKeepsAngle, daysAfterList}
+use Rattle.batch.specs.notions.Wrong.{statusAlwaysGood, angleAlwaysZero, anglesTraded, refusedStarKeepsAngle, daysAfterList}
 
 -- ---- one star
 
@@ -36,10 +36,6 @@ beyond = record { number = 0; asc = turn; dec = pos 0 }
 pub reduce-star-varies : Varies (reduceStar north (still 0)) (reduceStar nought (still 0))
 unfolding computed reduceStar inRange
 reduce-star-varies = record { here = refl; there = refl; apart = apart (ofAnswer ofSecond) refl }
-
-pub seconds-for-milliarcseconds-excluded : secondsForMilliarcseconds north (still 0) ≢ reduceStar north (still 0)
-unfolding computed reduceStar inRange
-seconds-for-milliarcseconds-excluded = apart (ofAnswer ofSecond) refl
 
 -- ---- what is stored
 

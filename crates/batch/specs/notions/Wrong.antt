@@ -1,26 +1,14 @@
--- Wrong variants of a star's reduction, of what is stored of an answer, and of the batch's refusal.
+-- Wrong variants of what is stored of an answer, and of the batch's refusal.
 use Prim.Native.Nat.{ℕ}
 use mathlib.Core.Bool.{cond, _&&_}
 use mathlib.Core.List.{List}
-use lib.Ieee.{Float, binary64, ofInt}
-use Rattle.double.specs.rules.Operations.{zero, one, _⊘_}
+use lib.Ieee.{Float}
+use Rattle.double.specs.rules.Operations.{zero, one}
 use Rattle.quantity.specs.rules.Answer.{Answer, answered, refused, Pair, second}
-use Rattle.helpers.specs.rules.Angle.{secondsOfDegree, radiansOf}
 use Rattle.precess_angles.specs.rules.Days.{daysRefusal}
-use Rattle.chain.specs.declared.Night.{Night}
-use Rattle.chain.specs.rules.Night.{reducedIn}
-use Rattle.list.specs.declared.Star.{Star}
-use Rattle.list.specs.rules.Record.{inRange}
 use Rattle.list.specs.rules.Stars.{isList, countOf}
-use Rattle.batch.specs.rules.Star.{ascOf, secondOf}
+use Rattle.batch.specs.rules.Star.{secondOf}
 use Rattle.batch.specs.rules.Batch.{hasRoom}
-
--- of the declination
-abbrev pub secondsForMilliarcseconds : Star → Night → Answer Pair
-secondsForMilliarcseconds star night =
-    cond (inRange star)
-    (reducedIn (ascOf star) (radiansOf (record { 0 = ofInt binary64 (star .dec) ⊘ secondsOfDegree })) night)
-    (refused 9)
 
 abbrev pub statusAlwaysGood : Answer Pair → ℕ
 statusAlwaysGood a = 0

@@ -1,14 +1,14 @@
 -- One star of a list: its place in radians, what the chain answers there, and what of the answer is stored.
 use Prim.Native.Nat.{ℕ}
 use mathlib.Core.Bool.{cond}
-use lib.IntN.{ℤ, pos}
-use lib.Ieee.{Float, binary64, ofInt}
-use Rattle.double.specs.rules.Operations.{bits, zero, _⊘_}
+use lib.IntN.{pos}
+use lib.Ieee.{Float}
+use Rattle.double.specs.rules.Operations.{zero}
 use Rattle.double.specs.rules.Pattern.{patternOf}
-use Rattle.quantity.specs.declared.Deg.{Deg}
 use Rattle.quantity.specs.declared.Rad.{Rad}
 use Rattle.quantity.specs.declared.Places.{Places}
 use Rattle.quantity.specs.rules.Answer.{Answer, answered, refused, Pair, first, second}
+use Rattle.units.specs.rules.Degrees.{degreesOf}
 use Rattle.edition.specs.declared.Edition.{Edition}
 use Rattle.helpers.specs.rules.Angle.{radiansOf}
 use Rattle.chain.specs.declared.Night.{Night}
@@ -17,14 +17,6 @@ use Rattle.chain.specs.rules.Night.{reducedIn}
 use Rattle.chain.specs.rules.Two.{reducedTwo}
 use Rattle.list.specs.declared.Star.{Star}
 use Rattle.list.specs.rules.Record.{inRange}
-
--- 3600000.0
-abbrev pub milliarcsecondsOfDegree : Float
-milliarcsecondsOfDegree = bits 0x414b774000000000
-
--- a count of milliarcseconds in degrees: the count is exact, and the quotient rounded once
-abbrev pub degreesOf : ℤ → Deg
-degreesOf count = record { 0 = ofInt binary64 count ⊘ milliarcsecondsOfDegree }
 
 abbrev pub ascOf : Star → Rad
 ascOf star = radiansOf (degreesOf (pos (star .asc)))

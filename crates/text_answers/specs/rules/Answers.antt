@@ -10,10 +10,11 @@ use Rattle.quantity.specs.rules.Angle.{rad}
 use Rattle.quantity.specs.rules.Refusal.{lower}
 use Rattle.edition.specs.declared.Edition.{Edition}
 use Rattle.edition.specs.rules.Edition.{chosen}
+use Rattle.transit.specs.rules.Observer.{planRefusal, plannedOf}
+use Rattle.lent.specs.rules.Texts.{texts}
 use Rattle.list.specs.rules.Stars.{countOf, nth}
 use Rattle.list_tally.specs.declared.Tally.{Tally}
 use Rattle.list_tally.specs.rules.Status.{highestStatus}
-use Rattle.transit.specs.rules.Observer.{planRefusal, plannedOf}
 use Rattle.text_number.specs.rules.Bytes.{ascii, space, lineEnd}
 use Rattle.text_number.specs.rules.Number.{decimalText}
 use Rattle.text_number.specs.rules.Refused.{refusedText}
@@ -23,7 +24,6 @@ use Rattle.text_time.specs.rules.Line.{planLine}
 use Rattle.text_refusal.specs.rules.Refusal.{refusalText}
 use Rattle.text_answers.specs.declared.Style.{Style}
 use Rattle.text_answers.specs.declared.Style.the-variants.{Lines, Table, Plan}
-use Rattle.lent.specs.rules.Texts.{texts}
 
 -- ---- what differs by the style
 

@@ -20,12 +20,13 @@ use Rattle.double.specs.laws.WholePart.{whole-part-mono}
 use Rattle.quantity.specs.declared.Rad.{Rad}
 use Rattle.quantity.specs.rules.Angle.{rad}
 use Rattle.quantity.specs.rules.Refusal.{farthest}
+use Rattle.units.specs.rules.Degrees.{toDegrees, degreesOfRadian}
+use Rattle.units.specs.rules.Nearest.{nearestWhole}
+use Rattle.units.specs.notions.Nearest.{IsNearest}
+use Rattle.units.specs.laws.Nearest.{nearest-true}
 use Rattle.helpers.specs.rules.Angle.{withinTwoPI}
 use Rattle.helpers.specs.laws.Limit.{limited-radians}
 use Rattle.text_number.specs.rules.Bytes.{ascii}
-use Rattle.text_line.specs.rules.Angle.{toDegrees, degreesOfRadian, nearestWhole}
-use Rattle.text_line.specs.notions.Nearest.{IsNearest}
-use Rattle.text_line.specs.laws.Nearest.{nearest-true}
 use Rattle.text_row.specs.rules.Place.{millisecondsOfDegree, milliseconds, hoursText, hundredthsOfDegree, hundredths}
 use Rattle.text_row.specs.notions.Computed.{computed}
 

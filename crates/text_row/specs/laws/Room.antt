@@ -9,10 +9,12 @@ use lib.ListN.{length, length-append, take}
 use lib.Seq.{length-take-le}
 use Rattle.double.specs.rules.Sign.{size}
 use Rattle.quantity.specs.declared.Rad.{Rad}
+use Rattle.units.specs.rules.Degrees.{toDegrees}
+use Rattle.units.specs.rules.Nearest.{nearestWhole}
 use Rattle.text_number.specs.rules.Bytes.{ascii, lineEnd, point}
 use Rattle.text_number.specs.rules.Number.{decimalText}
 use Rattle.text_number.specs.laws.Number.{decimal-short, any-decimal-short}
-use Rattle.text_line.specs.rules.Angle.{toDegrees, nearestWhole, hasMinus}
+use Rattle.text_line.specs.rules.Angle.{hasMinus}
 use Rattle.text_time.specs.rules.Time.{twoDigits, clockText}
 use Rattle.text_time.specs.laws.Clock.{two-digits}
 use Rattle.text_time.specs.laws.Room.{clock-short}

@@ -9,10 +9,11 @@ use Rattle.double.specs.rules.Operations.{zero, _⊖_}
 use Rattle.double.specs.rules.Sign.{size}
 use Rattle.double.specs.rules.Whole.{wholePart, fromWhole}
 use Rattle.quantity.specs.declared.Rad.{Rad}
+use Rattle.units.specs.rules.Degrees.{toDegrees, milliarcseconds}
+use Rattle.units.specs.rules.Nearest.{nearestWhole}
 use Rattle.helpers.specs.rules.Angle.{withinTwoPI}
 use Rattle.text_number.specs.rules.Bytes.{ascii, colon, point}
 use Rattle.text_number.specs.rules.Number.{decimalText}
-use Rattle.text_line.specs.rules.Angle.{toDegrees, milliarcseconds, nearestWhole}
 use Rattle.text_time.specs.rules.Time.{twoDigits, clockText}
 use Rattle.text_refusal.specs.rules.Refusal.{refusalText}
 use Rattle.text_row.specs.rules.Place.{milliseconds, threeDigits, hundredths, arcText}

@@ -24,8 +24,8 @@ use Rattle.double.specs.laws.Fraction.{sub-rounds}
 use Rattle.double.specs.laws.Grid.{parts-of-value}
 use Rattle.double.specs.laws.NearZero.{scaled-value}
 use Rattle.double.specs.laws.WholePart.{whole-part-true, from-whole-exact}
-use Rattle.text_line.specs.rules.Angle.{nearestWhole}
-use Rattle.text_line.specs.notions.Nearest.{IsNearest}
+use Rattle.units.specs.rules.Nearest.{nearestWhole}
+use Rattle.units.specs.notions.Nearest.{IsNearest}
 
 -- ---- a half against a / c
 

@@ -1,10 +1,10 @@
--- `text_line::nearest_whole` meets its contract. Assumes nothing.
+-- `units::nearest_whole` meets its contract. Assumes nothing.
 use borrow.Author.Needs.{needs}
 use borrow.Author.Tests.{lt-ltb, le-ltb}
 use Rattle.double.specs.laws.Calls.{asks-nothing}
-use Rattle.text_line.specs.rules.Angle.{nearestWhole}
-use Rattle.text_line.proofs.nearest_whole.Statement.{statement}
-use Rattle.text_line.proofs.nearest_whole.Tie as tie
+use Rattle.units.specs.rules.Nearest.{nearestWhole}
+use Rattle.units.proofs.nearest_whole.Statement.{statement}
+use Rattle.units.proofs.nearest_whole.Tie as tie
 
 add-result : tie.Need-add-result
 add-result c = search needs
