@@ -1,5 +1,5 @@
-// Aberration (section 4), of the Sun and of a star. Angles are in radians. The Earth's velocity stands in aberr_table.
-// Rules: specs/rules, in reading order in specs/rules.antt.
+// Aberration (section 4), of the Sun and of a star. Angles are in radians. Promised: bit for bit the Rust's formulas over the velocity of
+// aberr_table, or the refusal.
 ghost use mathlib.Core.Path.{_≡_};
 ghost use Rattle.quantity.specs.rules.Answer.{shownTwo, shownRadians};
 ghost use Rattle.aberr.specs.rules.Sun.{solAberrOf, solAberrRule};

@@ -1,8 +1,9 @@
 // A row of aberration's table (section 4): its argument from the eleven of a day, and its terms of the three sums. Angles are in radians.
-// Rules: specs/rules, in reading order in specs/rules.antt.
+// Promised: the operations of the Rust's blocks, their grouping kept where a row is marked.
 ghost use mathlib.Core.Path.{_≡_};
 ghost use Rattle.aberr_args.specs.rules.Arguments.{argumentsOf};
-ghost use Rattle.aberr_args.specs.rules.Row.{angleOf, multipliersOf, xTerms, yTerms, zTerms, times, plus, argumentOf, grouped, term, withTerm, moved, spread, shareOf, added};
+ghost use Rattle.aberr_args.specs.rules.Row.{angleOf, multipliersOf, xTerms, yTerms, zTerms, times, plus, argumentOf, grouped, term, withTerm};
+ghost use Rattle.aberr_args.specs.rules.Row.{moved, spread, shareOf, added};
 ghost use Rattle.elementary.specs.rules.Sine.{turnOf};
 use elementary::Turn;
 use quantity::Rad;

@@ -1,6 +1,5 @@
-// The table of aberration (section 4; Ron and Vondrák; Meeus, chapter 23): 36 rows in source order, behind them the parts in T of three,
-// and the Earth's velocity, the rows' sums.
-// Angles are in radians. Rules: specs/rules, in reading order in specs/rules.antt.
+// The table of aberration (section 4; Ron and Vondrák; Meeus, chapter 23): 36 rows in source order, and behind them the parts in T of
+// three. Promised: the Earth's velocity, the rows' sums, bit for bit that of the Rust's blocks on every day.
 ghost use mathlib.Core.Path.{_≡_};
 ghost use lib.Dec.{T};
 ghost use Rattle.aberr_table.specs.rules.Table.{table, named, walk};

@@ -1,5 +1,5 @@
 // Refraction at the sight (document 02, request (vii); Meeus, chapter 16). Altitudes are in degrees, refraction in minutes of arc.
-// Rules: specs/rules, in reading order in specs/rules.antt.
+// Promised: both rules bit for bit, or 1 or 3; a sight is never raised, and a plan never lowered.
 ghost use mathlib.Core.Path.{_≡_};
 ghost use Rattle.quantity.specs.rules.Answer.{shownDegrees};
 ghost use Rattle.atmos.specs.rules.Arcminutes.{shownArcminutes, degreesOf};

@@ -1,6 +1,5 @@
-// The batch (section 7): every star's status and two angles into memory that the caller lends, and the tally of the statuses. An
-// angle is lent as its bits: what a call leaves alone it leaves bit for bit, a NaN's too.
-// Rules: specs/rules, in reading order in specs/rules.antt.
+// The batch (section 7): every star's status and the bits of its two angles into memory that the caller lends, and the tally of the
+// statuses. Promised: each star has the chain's answer, and what a call leaves alone it leaves bit for bit, a NaN's too.
 ghost use Prim.Native.Nat.{_<_};
 ghost use mathlib.Core.Path.{_≡_};
 ghost use mathlib.Core.Bool.{cond};
@@ -122,7 +121,8 @@ fn keep(
     requires { ⌜ i < length (now status) ⌝ }
     requires { ⌜ i < length (now asc) ⌝ }
     requires { ⌜ i < length (now dec) ⌝ }
-    ensures { λ r. ⌜ Kept i (unless no (answered (pair a d))) tally (now (status .entry)) (now (asc .entry)) (now (dec .entry)) r (now (status .exit)) (now (asc .exit)) (now (dec .exit)) ⌝ }
+    ensures { λ r. ⌜ Kept i (unless no (answered (pair a d))) tally (now (status .entry)) (now (asc .entry)) (now (dec .entry)) r (now (status .exit))
+        (now (asc .exit)) (now (dec .exit)) ⌝ }
 {
     status[i] = no;
     asc[i] = kept(no, a);
@@ -143,7 +143,8 @@ pub fn batch(
     asc: &mut [u64],
     dec: &mut [u64],
 ) -> Batched
-    ensures { λ r. ⌜ Batch·Batch edition (now (bytes .entry)) day1 day2 (now (status .entry)) (now (asc .entry)) (now (dec .entry)) r (now (status .exit)) (now (asc .exit)) (now (dec .exit)) ⌝ }
+    ensures { λ r. ⌜ Batch·Batch edition (now (bytes .entry)) day1 day2 (now (status .entry)) (now (asc .entry)) (now (dec .entry)) r
+        (now (status .exit)) (now (asc .exit)) (now (dec .exit)) ⌝ }
 {
     let no = batch_refusal(bytes, day1, day2, status.len(), asc.len(), dec.len());
     let mut tally = Tally::new();

@@ -67,7 +67,8 @@ pub extern "C" fn brundelak_rho_sin_cos_phi(
     rho_sin: &mut u64,
     rho_cos: &mut u64,
 ) -> u8
-    ensures { λ n. ⌜ ToldTwo (rhoSinCosPhiRule (rad lat) height) n (now («rho_sin» .entry)) (now («rho_cos» .entry)) (now («rho_sin» .exit)) (now («rho_cos» .exit)) ⌝ }
+    ensures { λ n. ⌜ ToldTwo (rhoSinCosPhiRule (rad lat) height) n (now («rho_sin» .entry)) (now («rho_cos» .entry)) (now («rho_sin» .exit))
+        (now («rho_cos» .exit)) ⌝ }
 {
     give_two(
         helpers::earth::Earth::rho_sin_cos_phi(Rad(lat), height),

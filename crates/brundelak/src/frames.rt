@@ -19,7 +19,8 @@ pub extern "C" fn brundelak_hr_angl_frm_observer_long(
     asc: f64,
     out: &mut u64,
 ) -> u8
-    ensures { λ n. ⌜ Told (numberOfRadians (hrAnglFrmObserverLongRule (rad «green_sidreal») (rad «observer_long») (rad asc))) n (now (out .entry)) (now (out .exit)) ⌝ }
+    ensures { λ n. ⌜ Told (numberOfRadians (hrAnglFrmObserverLongRule (rad «green_sidreal») (rad «observer_long») (rad asc))) n (now (out .entry))
+        (now (out .exit)) ⌝ }
 {
     give_radians(
         coords::hr_angl_frm_observer_long(Rad(green_sidreal), Rad(observer_long), Rad(asc)),
@@ -47,7 +48,8 @@ pub extern "C" fn brundelak_ecl_frm_eq(
     long: &mut u64,
     lat: &mut u64,
 ) -> u8
-    ensures { λ n. ⌜ ToldTwo (numbersOfEcliptic (eclFrmEqRule (rad asc) (rad dec) (rad «oblq_eclip»))) n (now (long .entry)) (now (lat .entry)) (now (long .exit)) (now (lat .exit)) ⌝ }
+    ensures { λ n. ⌜ ToldTwo (numbersOfEcliptic (eclFrmEqRule (rad asc) (rad dec) (rad «oblq_eclip»))) n (now (long .entry)) (now (lat .entry))
+        (now (long .exit)) (now (lat .exit)) ⌝ }
 {
     give_ecliptic(
         coords_ecl::ecl_frm_eq(Rad(asc), Rad(dec), Rad(oblq_eclip)),

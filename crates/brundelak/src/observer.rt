@@ -36,7 +36,9 @@ pub extern "C" fn brundelak_topocent_eq_coords(
     topocent_asc: &mut u64,
     topocent_dec: &mut u64,
 ) -> u8
-    ensures { λ n. ⌜ ToldTwo (numbersOfPoint (topocentEqCoordsRule (record { asc = asc; dec = dec }) (rad parallax) (record { long = long; lat = lat }) height (rad sidereal))) n (now («topocent_asc» .entry)) (now («topocent_dec» .entry)) (now («topocent_asc» .exit)) (now («topocent_dec» .exit)) ⌝ }
+    ensures { λ n. ⌜ ToldTwo
+        (numbersOfPoint (topocentEqCoordsRule (record { asc = asc; dec = dec }) (rad parallax) (record { long = long; lat = lat }) height (rad sidereal)))
+        n (now («topocent_asc» .entry)) (now («topocent_dec» .entry)) (now («topocent_asc» .exit)) (now («topocent_dec» .exit)) ⌝ }
 {
     give_point(
         parallax::topocent_eq_coords(
@@ -70,7 +72,10 @@ pub extern "C" fn brundelak_topopcent_ecl_coords(
     topocent_lat: &mut u64,
     topocent_semidiameter: &mut u64,
 ) -> u8
-    ensures { λ n. ⌜ ToldThree (topopcentEclCoordsRule Crate (record { long = «ecl_long»; lat = «ecl_lat» }) (rad parallax) (record { long = long; lat = lat }) height (rad sidereal) (rad oblq) (rad semidiameter)) n (now («topocent_long» .entry)) (now («topocent_lat» .entry)) (now («topocent_semidiameter» .entry)) (now («topocent_long» .exit)) (now («topocent_lat» .exit)) (now («topocent_semidiameter» .exit)) ⌝ }
+    ensures { λ n. ⌜ ToldThree (topopcentEclCoordsRule Crate (record { long = «ecl_long»; lat = «ecl_lat» }) (rad parallax)
+        (record { long = long; lat = lat }) height (rad sidereal) (rad oblq) (rad semidiameter)) n (now («topocent_long» .entry)) (now
+        («topocent_lat» .entry)) (now («topocent_semidiameter» .entry)) (now («topocent_long» .exit)) (now («topocent_lat» .exit)) (now
+        («topocent_semidiameter» .exit)) ⌝ }
 {
     give_three(
         parallax_ecl::topopcent_ecl_coords(
@@ -108,7 +113,8 @@ pub extern "C" fn brundelak_rise_culm_set(
     culmination: &mut u64,
     set: &mut u64,
 ) -> u8
-    ensures { λ n. ⌜ ToldThree (riseCulmSetRule (record { asc = asc; dec = dec }) (rad sidereal) (record { long = long; lat = lat }) (rad alt)) n (now (rise .entry)) (now (culmination .entry)) (now (set .entry)) (now (rise .exit)) (now (culmination .exit)) (now (set .exit)) ⌝ }
+    ensures { λ n. ⌜ ToldThree (riseCulmSetRule (record { asc = asc; dec = dec }) (rad sidereal) (record { long = long; lat = lat }) (rad alt)) n
+        (now (rise .entry)) (now (culmination .entry)) (now (set .entry)) (now (rise .exit)) (now (culmination .exit)) (now (set .exit)) ⌝ }
 {
     give_three(
         transit::rise_culm_set(

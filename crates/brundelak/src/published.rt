@@ -40,7 +40,8 @@ pub extern "C" fn brundelak_precess_eq_coords_published(
     asc: &mut u64,
     dec: &mut u64,
 ) -> u8
-    ensures { λ n. ⌜ ToldTwo (precessEqCoordsRule Published (rad «old_asc») (rad «old_dec») day1 day2) n (now (asc .entry)) (now (dec .entry)) (now (asc .exit)) (now (dec .exit)) ⌝ }
+    ensures { λ n. ⌜ ToldTwo (precessEqCoordsRule Published (rad «old_asc») (rad «old_dec») day1 day2) n (now (asc .entry)) (now (dec .entry))
+        (now (asc .exit)) (now (dec .exit)) ⌝ }
 {
     give_two(
         precess::precess_eq_coords(Edition::Published, Rad(old_asc), Rad(old_dec), day1, day2),
@@ -59,7 +60,8 @@ pub extern "C" fn brundelak_precess_eq_coords_fk5_published(
     asc: &mut u64,
     dec: &mut u64,
 ) -> u8
-    ensures { λ n. ⌜ ToldTwo (precessEqCoordsFK5Rule Published (rad «old_asc») (rad «old_dec») day1 day2) n (now (asc .entry)) (now (dec .entry)) (now (asc .exit)) (now (dec .exit)) ⌝ }
+    ensures { λ n. ⌜ ToldTwo (precessEqCoordsFK5Rule Published (rad «old_asc») (rad «old_dec») day1 day2) n (now (asc .entry)) (now (dec .entry))
+        (now (asc .exit)) (now (dec .exit)) ⌝ }
 {
     give_two(
         precess::precess_eq_coords_FK5(Edition::Published, Rad(old_asc), Rad(old_dec), day1, day2),
@@ -84,7 +86,10 @@ pub extern "C" fn brundelak_topopcent_ecl_coords_published(
     topocent_lat: &mut u64,
     topocent_semidiameter: &mut u64,
 ) -> u8
-    ensures { λ n. ⌜ ToldThree (topopcentEclCoordsRule Published (record { long = «ecl_long»; lat = «ecl_lat» }) (rad parallax) (record { long = long; lat = lat }) height (rad sidereal) (rad oblq) (rad semidiameter)) n (now («topocent_long» .entry)) (now («topocent_lat» .entry)) (now («topocent_semidiameter» .entry)) (now («topocent_long» .exit)) (now («topocent_lat» .exit)) (now («topocent_semidiameter» .exit)) ⌝ }
+    ensures { λ n. ⌜ ToldThree (topopcentEclCoordsRule Published (record { long = «ecl_long»; lat = «ecl_lat» }) (rad parallax)
+        (record { long = long; lat = lat }) height (rad sidereal) (rad oblq) (rad semidiameter)) n (now («topocent_long» .entry)) (now
+        («topocent_lat» .entry)) (now («topocent_semidiameter» .entry)) (now («topocent_long» .exit)) (now («topocent_lat» .exit)) (now
+        («topocent_semidiameter» .exit)) ⌝ }
 {
     give_three(
         parallax_ecl::topopcent_ecl_coords(
@@ -119,7 +124,8 @@ pub extern "C" fn brundelak_chain_published(
     asc: &mut u64,
     dec: &mut u64,
 ) -> u8
-    ensures { λ n. ⌜ ToldTwo (chainRule Published (rad «old_asc») (rad «old_dec») day1 day2) n (now (asc .entry)) (now (dec .entry)) (now (asc .exit)) (now (dec .exit)) ⌝ }
+    ensures { λ n. ⌜ ToldTwo (chainRule Published (rad «old_asc») (rad «old_dec») day1 day2) n (now (asc .entry)) (now (dec .entry)) (now (asc .exit))
+        (now (dec .exit)) ⌝ }
 {
     give_two(
         chain::chain(Edition::Published, Rad(old_asc), Rad(old_dec), day1, day2),

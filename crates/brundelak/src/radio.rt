@@ -35,7 +35,8 @@ pub extern "C" fn brundelak_radio_star(
     dec: &mut i32,
     next: &mut usize,
 ) -> u8
-    ensures { λ n. ⌜ ToldSighted (starAtRule (now (bytes .entry)) place) n (now (number .entry)) (now (asc .entry)) (now (dec .entry)) (now (next .entry)) (now (number .exit)) (now (asc .exit)) (now (dec .exit)) (now (next .exit)) ⌝ }
+    ensures { λ n. ⌜ ToldSighted (starAtRule (now (bytes .entry)) place) n (now (number .entry)) (now (asc .entry)) (now (dec .entry))
+        (now (next .entry)) (now (number .exit)) (now (asc .exit)) (now (dec .exit)) (now (next .exit)) ⌝ }
 {
     match list_radio::star_at(bytes, place) {
         Sighted::Star(star, after) => {
@@ -93,7 +94,8 @@ pub extern "C" fn brundelak_radio_put_star(
     dec: i32,
     next: &mut usize,
 ) -> u8
-    ensures { λ n. ⌜ ToldPut (starText (record { number = number; asc = asc; dec = dec })) (now (out .entry)) place n (now (next .entry)) (now (out .exit)) (now (next .exit)) ⌝ }
+    ensures { λ n. ⌜ ToldPut (starText (record { number = number; asc = asc; dec = dec })) (now (out .entry)) place n (now (next .entry))
+        (now (out .exit)) (now (next .exit)) ⌝ }
 {
     let star = Star { number, asc, dec };
     match list_radio::put_star(out, place, star) {

@@ -27,7 +27,8 @@ pub extern "C" fn brundelak_annual_precess(
     precess_in_asc: &mut u64,
     precess_in_dec: &mut u64,
 ) -> u8
-    ensures { λ n. ⌜ ToldTwo (annualPrecessRule (rad asc) (rad dec) day) n (now («precess_in_asc» .entry)) (now («precess_in_dec» .entry)) (now («precess_in_asc» .exit)) (now («precess_in_dec» .exit)) ⌝ }
+    ensures { λ n. ⌜ ToldTwo (annualPrecessRule (rad asc) (rad dec) day) n (now («precess_in_asc» .entry)) (now («precess_in_dec» .entry))
+        (now («precess_in_asc» .exit)) (now («precess_in_dec» .exit)) ⌝ }
 {
     give_two(
         precess::annual_precess(Rad(asc), Rad(dec), day),
@@ -46,7 +47,8 @@ pub extern "C" fn brundelak_precess_eq_coords(
     asc: &mut u64,
     dec: &mut u64,
 ) -> u8
-    ensures { λ n. ⌜ ToldTwo (precessEqCoordsRule Crate (rad «old_asc») (rad «old_dec») day1 day2) n (now (asc .entry)) (now (dec .entry)) (now (asc .exit)) (now (dec .exit)) ⌝ }
+    ensures { λ n. ⌜ ToldTwo (precessEqCoordsRule Crate (rad «old_asc») (rad «old_dec») day1 day2) n (now (asc .entry)) (now (dec .entry))
+        (now (asc .exit)) (now (dec .exit)) ⌝ }
 {
     give_two(
         precess::precess_eq_coords(Edition::Crate, Rad(old_asc), Rad(old_dec), day1, day2),
@@ -65,7 +67,8 @@ pub extern "C" fn brundelak_precess_eq_coords_fk5(
     asc: &mut u64,
     dec: &mut u64,
 ) -> u8
-    ensures { λ n. ⌜ ToldTwo (precessEqCoordsFK5Rule Crate (rad «old_asc») (rad «old_dec») day1 day2) n (now (asc .entry)) (now (dec .entry)) (now (asc .exit)) (now (dec .exit)) ⌝ }
+    ensures { λ n. ⌜ ToldTwo (precessEqCoordsFK5Rule Crate (rad «old_asc») (rad «old_dec») day1 day2) n (now (asc .entry)) (now (dec .entry))
+        (now (asc .exit)) (now (dec .exit)) ⌝ }
 {
     give_two(
         precess::precess_eq_coords_FK5(Edition::Crate, Rad(old_asc), Rad(old_dec), day1, day2),
@@ -84,7 +87,8 @@ pub extern "C" fn brundelak_precess_ecl_coords(
     ecl_long: &mut u64,
     ecl_lat: &mut u64,
 ) -> u8
-    ensures { λ n. ⌜ ToldTwo (precessEclCoordsRule (rad «old_long») (rad «old_lat») day1 day2) n (now («ecl_long» .entry)) (now («ecl_lat» .entry)) (now («ecl_long» .exit)) (now («ecl_lat» .exit)) ⌝ }
+    ensures { λ n. ⌜ ToldTwo (precessEclCoordsRule (rad «old_long») (rad «old_lat») day1 day2) n (now («ecl_long» .entry)) (now («ecl_lat» .entry))
+        (now («ecl_long» .exit)) (now («ecl_lat» .exit)) ⌝ }
 {
     give_two(
         precess_ecl::precess_ecl_coords(Rad(old_long), Rad(old_lat), day1, day2),
@@ -105,7 +109,9 @@ pub extern "C" fn brundelak_precess_orb_elements(
     arg_perih: &mut u64,
     long_ascend_node: &mut u64,
 ) -> u8
-    ensures { λ n. ⌜ ToldThree (precessOrbElementsRule (rad «old_inc») (rad «old_arg_perih») (rad «old_long_ascend_node») day1 day2) n (now (inc .entry)) (now («arg_perih» .entry)) (now («long_ascend_node» .entry)) (now (inc .exit)) (now («arg_perih» .exit)) (now («long_ascend_node» .exit)) ⌝ }
+    ensures { λ n. ⌜ ToldThree (precessOrbElementsRule (rad «old_inc») (rad «old_arg_perih») (rad «old_long_ascend_node») day1 day2) n
+        (now (inc .entry)) (now («arg_perih» .entry)) (now («long_ascend_node» .entry)) (now (inc .exit)) (now («arg_perih» .exit))
+        (now («long_ascend_node» .exit)) ⌝ }
 {
     give_three(
         precess_ecl::precess_orb_elements(
@@ -124,7 +130,8 @@ pub extern "C" fn brundelak_precess_orb_elements(
 // Nutation in longitude and obliquity. Refusals: 1; 2.
 #[no_mangle]
 pub extern "C" fn brundelak_nutation(day: f64, nut_in_long: &mut u64, nut_in_oblq: &mut u64) -> u8
-    ensures { λ n. ⌜ ToldTwo (nutationRule day) n (now («nut_in_long» .entry)) (now («nut_in_oblq» .entry)) (now («nut_in_long» .exit)) (now («nut_in_oblq» .exit)) ⌝ }
+    ensures { λ n. ⌜ ToldTwo (nutationRule day) n (now («nut_in_long» .entry)) (now («nut_in_oblq» .entry)) (now («nut_in_long» .exit))
+        (now («nut_in_oblq» .exit)) ⌝ }
 {
     give_two(nutation::nutation(day), nut_in_long, nut_in_oblq)
 }
@@ -140,7 +147,8 @@ pub extern "C" fn brundelak_nutation_in_eq_coords(
     nut_in_asc: &mut u64,
     nut_in_dec: &mut u64,
 ) -> u8
-    ensures { λ n. ⌜ ToldTwo (nutationInEqCoordsRule (record { asc = asc; dec = dec }) (rad «nut_in_long») (rad «nut_in_oblq») (rad «tru_oblq»)) n (now («nut_in_asc» .entry)) (now («nut_in_dec» .entry)) (now («nut_in_asc» .exit)) (now («nut_in_dec» .exit)) ⌝ }
+    ensures { λ n. ⌜ ToldTwo (nutationInEqCoordsRule (record { asc = asc; dec = dec }) (rad «nut_in_long») (rad «nut_in_oblq») (rad «tru_oblq»)) n
+        (now («nut_in_asc» .entry)) (now («nut_in_dec» .entry)) (now («nut_in_asc» .exit)) (now («nut_in_dec» .exit)) ⌝ }
 {
     give_two(
         nutation::nutation_in_eq_coords(
@@ -171,7 +179,8 @@ pub extern "C" fn brundelak_stell_aberr_in_eq_coords(
     aberr_in_asc: &mut u64,
     aberr_in_dec: &mut u64,
 ) -> u8
-    ensures { λ n. ⌜ ToldTwo (stellAberrInEqCoordsRule (record { asc = asc; dec = dec }) day) n (now («aberr_in_asc» .entry)) (now («aberr_in_dec» .entry)) (now («aberr_in_asc» .exit)) (now («aberr_in_dec» .exit)) ⌝ }
+    ensures { λ n. ⌜ ToldTwo (stellAberrInEqCoordsRule (record { asc = asc; dec = dec }) day) n (now («aberr_in_asc» .entry))
+        (now («aberr_in_dec» .entry)) (now («aberr_in_asc» .exit)) (now («aberr_in_dec» .exit)) ⌝ }
 {
     give_two(
         aberr::stell_aberr_in_eq_coords(EqPoint { asc: asc, dec: dec }, day),
@@ -190,7 +199,8 @@ pub extern "C" fn brundelak_chain(
     asc: &mut u64,
     dec: &mut u64,
 ) -> u8
-    ensures { λ n. ⌜ ToldTwo (chainRule Crate (rad «old_asc») (rad «old_dec») day1 day2) n (now (asc .entry)) (now (dec .entry)) (now (asc .exit)) (now (dec .exit)) ⌝ }
+    ensures { λ n. ⌜ ToldTwo (chainRule Crate (rad «old_asc») (rad «old_dec») day1 day2) n (now (asc .entry)) (now (dec .entry)) (now (asc .exit))
+        (now (dec .exit)) ⌝ }
 {
     give_two(
         chain::chain(Edition::Crate, Rad(old_asc), Rad(old_dec), day1, day2),

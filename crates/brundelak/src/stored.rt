@@ -21,7 +21,8 @@ pub extern "C" fn brundelak_find(
     asc: &mut u32,
     dec: &mut i32,
 ) -> u8
-    ensures { λ n. ⌜ ToldFound (findRule (now (bytes .entry)) number) n (now (index .entry)) (now (asc .entry)) (now (dec .entry)) (now (index .exit)) (now (asc .exit)) (now (dec .exit)) ⌝ }
+    ensures { λ n. ⌜ ToldFound (findRule (now (bytes .entry)) number) n (now (index .entry)) (now (asc .entry)) (now (dec .entry)) (now (index .exit))
+        (now (asc .exit)) (now (dec .exit)) ⌝ }
 {
     match list::find(bytes, number) {
         Found::At(i, a, d) => {
@@ -44,7 +45,8 @@ pub extern "C" fn brundelak_star(
     dec: &mut i32,
     next: &mut usize,
 ) -> u8
-    ensures { λ n. ⌜ ToldStar (readRule (now (bytes .entry)) place) n (now (number .entry)) (now (asc .entry)) (now (dec .entry)) (now (next .entry)) (now (number .exit)) (now (asc .exit)) (now (dec .exit)) (now (next .exit)) ⌝ }
+    ensures { λ n. ⌜ ToldStar (readRule (now (bytes .entry)) place) n (now (number .entry)) (now (asc .entry)) (now (dec .entry)) (now (next .entry))
+        (now (number .exit)) (now (asc .exit)) (now (dec .exit)) (now (next .exit)) ⌝ }
 {
     match list::star_at(bytes, place) {
         Shown::Next(star, after) => {
@@ -70,7 +72,8 @@ pub extern "C" fn brundelak_put_star(
     dec: i32,
     next: &mut usize,
 ) -> u8
-    ensures { λ n. ⌜ ToldPut (recordText place (record { number = number; asc = asc; dec = dec })) (now (out .entry)) place n (now (next .entry)) (now (out .exit)) (now (next .exit)) ⌝ }
+    ensures { λ n. ⌜ ToldPut (recordText place (record { number = number; asc = asc; dec = dec })) (now (out .entry)) place n (now (next .entry))
+        (now (out .exit)) (now (next .exit)) ⌝ }
 {
     let star = Star { number, asc, dec };
     match list::put_star(out, place, star) {
@@ -93,7 +96,8 @@ fn hand_batch(
     dec: &mut [u64],
     counts: &mut [u32; 20],
 ) -> u8
-    ensures { λ n. ⌜ ToldBatch edition (now (bytes .entry)) day1 day2 (now (status .entry)) (now (asc .entry)) (now (dec .entry)) (now (counts .entry)) n (now (status .exit)) (now (asc .exit)) (now (dec .exit)) (now (counts .exit)) ⌝ }
+    ensures { λ n. ⌜ ToldBatch edition (now (bytes .entry)) day1 day2 (now (status .entry)) (now (asc .entry)) (now (dec .entry))
+        (now (counts .entry)) n (now (status .exit)) (now (asc .exit)) (now (dec .exit)) (now (counts .exit)) ⌝ }
 {
     let b = batch::batch(edition, bytes, day1, day2, status, asc, dec);
     if b.refusal != 0 {
@@ -117,7 +121,8 @@ pub extern "C" fn brundelak_batch(
     dec: &mut [u64],
     counts: &mut [u32; 20],
 ) -> u8
-    ensures { λ n. ⌜ ToldBatch Crate (now (bytes .entry)) day1 day2 (now (status .entry)) (now (asc .entry)) (now (dec .entry)) (now (counts .entry)) n (now (status .exit)) (now (asc .exit)) (now (dec .exit)) (now (counts .exit)) ⌝ }
+    ensures { λ n. ⌜ ToldBatch Crate (now (bytes .entry)) day1 day2 (now (status .entry)) (now (asc .entry)) (now (dec .entry)) (now (counts .entry))
+        n (now (status .exit)) (now (asc .exit)) (now (dec .exit)) (now (counts .exit)) ⌝ }
 {
     hand_batch(Edition::Crate, bytes, day1, day2, status, asc, dec, counts)
 }
@@ -133,7 +138,8 @@ pub extern "C" fn brundelak_batch_published(
     dec: &mut [u64],
     counts: &mut [u32; 20],
 ) -> u8
-    ensures { λ n. ⌜ ToldBatch Published (now (bytes .entry)) day1 day2 (now (status .entry)) (now (asc .entry)) (now (dec .entry)) (now (counts .entry)) n (now (status .exit)) (now (asc .exit)) (now (dec .exit)) (now (counts .exit)) ⌝ }
+    ensures { λ n. ⌜ ToldBatch Published (now (bytes .entry)) day1 day2 (now (status .entry)) (now (asc .entry)) (now (dec .entry))
+        (now (counts .entry)) n (now (status .exit)) (now (asc .exit)) (now (dec .exit)) (now (counts .exit)) ⌝ }
 {
     hand_batch(
         Edition::Published,

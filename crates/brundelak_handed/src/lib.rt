@@ -1,12 +1,12 @@
-// An answer handed to a C caller: its status, and its floats where it has them; a refusal leaves what is lent unchanged. A float is
-// lent as its bits: C sees a `double *`, and a NaN that stood there keeps its own.
-// Rules: specs/rules, in reading order in specs/rules.antt.
+// An answer handed to a C caller. Promised: its status, and the bits of its floats where it has them; a refusal leaves what is lent
+// unchanged, bit for bit.
 ghost use mathlib.Core.Path.{_≡_};
 ghost use Rattle.quantity.specs.rules.Answer.{shown, shownTwo, shownThree, shownDegrees, shownRadians, shownPoint};
 ghost use Rattle.root.specs.rules.Bits.{shownBits};
 ghost use Rattle.coords_ecl.specs.rules.Point.{shownEcliptic};
 ghost use Rattle.atmos.specs.rules.Arcminutes.{shownArcminutes};
-ghost use Rattle.brundelak_handed.specs.rules.Boundary.{Told, ToldBits, ToldTwo, ToldThree, numberOfDegrees, numberOfRadians, numberOfArcminutes, numbersOfPoint, numbersOfEcliptic};
+ghost use Rattle.brundelak_handed.specs.rules.Boundary.{Told, ToldBits, ToldTwo, ToldThree, numberOfDegrees, numberOfRadians};
+ghost use Rattle.brundelak_handed.specs.rules.Boundary.{numberOfArcminutes, numbersOfPoint, numbersOfEcliptic};
 use atmos::Arcminutes;
 use coords_ecl::Ecliptic;
 use quantity::Degrees;
@@ -46,7 +46,8 @@ pub fn give_two(a: Two, first: &mut u64, second: &mut u64) -> u8
 
 // An answer of three numbers.
 pub fn give_three(a: Three, first: &mut u64, second: &mut u64, third: &mut u64) -> u8
-    ensures { λ n. ⌜ ToldThree (shownThree a) n (now (first .entry)) (now (second .entry)) (now (third .entry)) (now (first .exit)) (now (second .exit)) (now (third .exit)) ⌝ }
+    ensures { λ n. ⌜ ToldThree (shownThree a) n (now (first .entry)) (now (second .entry)) (now (third .entry)) (now (first .exit))
+        (now (second .exit)) (now (third .exit)) ⌝ }
 {
     match a {
         Three::Are(x, y, z) => {

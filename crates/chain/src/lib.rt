@@ -1,5 +1,6 @@
-// The chain (section 7): a star's place from one day to another by precession, nutation and aberration. Angles are in radians.
-// What the two days fix is a night, worked out once for a whole list. Rules: specs/rules, in reading order in specs/rules.antt.
+// The chain (section 7): a star's place from one day to another by precession, nutation and aberration. Angles are in radians. Promised:
+// the steps' rules one after the other, bit for bit, alone or two stars at once, or the first refusal. What the two days fix is a night,
+// worked out once for a whole list.
 ghost use mathlib.Core.Path.{_≡_};
 ghost use Rattle.quantity.specs.rules.Answer.{shownTwo};
 ghost use Rattle.precess_angles.specs.rules.Days.{placeRefusal};

@@ -1,5 +1,5 @@
-// Ecliptic coordinates (section 4; document 02, request (ix)). All angles are in radians.
-// Rules: specs/rules, in reading order in specs/rules.antt.
+// Ecliptic coordinates (section 4; document 02, request (ix)). All angles are in radians. Promised: bit for bit the Rust's formulas,
+// longitude and latitude in one point, or the refusal that is met first.
 ghost use mathlib.Core.Path.{_≡_};
 ghost use Rattle.quantity.specs.rules.Answer.{shownTwo, shownRadians};
 ghost use Rattle.coords_ecl.specs.rules.Arguments.{frameRefusal, steepFrameRefusal};

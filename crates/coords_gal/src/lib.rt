@@ -1,9 +1,10 @@
-// Galactic coordinates (section 4): the part of the crate's coords that only they need. All angles are in radians.
-// Rules: specs/rules, in reading order in specs/rules.antt.
+// Galactic coordinates (section 4): the part of the crate's coords that only they need. All angles are in radians. Promised: bit for bit
+// the Rust's formulas, or the refusal.
 ghost use mathlib.Core.Path.{_≡_};
 ghost use Rattle.quantity.specs.rules.Answer.{shownRadians};
 ghost use Rattle.coords_gal.specs.rules.Arguments.{galRefusal, steepGalRefusal};
-ghost use Rattle.coords_gal.specs.rules.Galactic.{pole, roundPole, fromPoleAsc, galLongIn, galLongFrmEqRule, galLatIn, galLatFrmEqRule, fromPoleLong, ascFrmGalIn, ascFrmGalRule};
+ghost use Rattle.coords_gal.specs.rules.Galactic.{pole, roundPole, fromPoleAsc, galLongIn, galLongFrmEqRule, galLatIn, galLatFrmEqRule};
+ghost use Rattle.coords_gal.specs.rules.Galactic.{fromPoleLong, ascFrmGalIn, ascFrmGalRule};
 use elementary::Folded;
 use helpers::angle;
 use quantity::Deg;

@@ -1,2 +1,3 @@
-// What holds on the stated domain: the theorems are in specs/laws. The calls here carry some of them from rules to code.
+// What holds on the stated domain, as theorems: answers are finite, inner angles stay where the fold is true, and which refusals can
+// come. The calls here carry some of them from rules to code.
 pub mod angle;

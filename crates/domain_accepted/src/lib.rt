@@ -1,1 +1,1 @@
-// No code: what is known of accepted arguments and of answers is proved in specs/laws, over the rules of the crates above.
+// No code. Promised: what is known of accepted arguments and of answers, as theorems over the rules of the crates above.

@@ -1,5 +1,5 @@
-// The two editions of the rules that the Rust crate has otherwise than Meeus. The caller names one; no other can be named.
-// Rules: specs/rules, in reading order in specs/rules.antt.
+// The two editions of the rules that the Rust crate has otherwise than Meeus. Promised: what differs is the one or the other, as the
+// caller names it; no third can be named.
 ghost use mathlib.Core.Path.{_≡_};
 ghost use Rattle.edition.specs.rules.Edition.{chosen};
 

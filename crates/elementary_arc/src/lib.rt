@@ -1,5 +1,5 @@
-// Arctangent and arcsine (section 2). Every operation is one f64 operation, rounded once, in the order written.
-// Those that other functions use are total on all doubles. Rules: specs/rules, in reading order in specs/rules.antt.
+// Arctangent and arcsine (section 2). Promised: the paper's operations, each rounded once and in the order written, on every double; two
+// side by side have each what they have alone. Refused are 14 by the arctangent, 7 by the arcsine, and 1 where they are called alone.
 ghost use mathlib.Core.Path.{_≡_};
 ghost use Rattle.quantity.specs.rules.Answer.{shownRadians};
 ghost use Rattle.root.specs.rules.Root.{rootOf};

@@ -1,7 +1,8 @@
 // Degrees, radians and seconds, and folding into one turn. Each takes every finite number and refuses the rest by 1.
 ghost use mathlib.Core.Path.{_≡_};
 ghost use Rattle.quantity.specs.rules.Answer.{shownDegrees, shownRadians};
-ghost use Rattle.helpers.specs.rules.Angle.{radiansOf, remainder, limited, within360, withinTwoPI, degFrmDmsRule, degFrmHmsRule, toRadiansRule, limitTo360Rule, limitToTwoPIRule};
+ghost use Rattle.helpers.specs.rules.Angle.{radiansOf, remainder, limited, within360, withinTwoPI, degFrmDmsRule, degFrmHmsRule, toRadiansRule};
+ghost use Rattle.helpers.specs.rules.Angle.{limitTo360Rule, limitToTwoPIRule};
 use quantity::Deg;
 use quantity::Degrees;
 use quantity::Rad;

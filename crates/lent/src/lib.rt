@@ -1,6 +1,5 @@
-// Bytes written into a lent slice: what finds no place there is left out, so that no call asks anything. And what callers need to put a
-// text whole or not at all: whether it has room, and their answer.
-// Rules: specs/rules, in reading order in specs/rules.antt.
+// Bytes written into a lent slice. Promised: a text stands from its place on as far as it finds room, all else stays, and no call asks
+// anything; or it is put whole or not at all.
 ghost use Prim.Native.Nat.{_+_, min};
 ghost use mathlib.Core.Path.{_≡_};
 ghost use mathlib.Core.List.{[], _∷_};

@@ -1,5 +1,5 @@
-// The stored list (section 7): record, reader, writer and find. Above the record all speaks of a list of stars.
-// Rules: specs/rules, in reading order in specs/rules.antt.
+// The stored list (section 7): record, reader, writer and find. Promised: every byte string is read, star i being its record whatever it
+// holds, and a star in range is written so that it reads back. Above the record all speaks of a list of stars.
 ghost use mathlib.Core.Path.{_≡_};
 ghost use Prim.Native.Nat.{_+_, _≤_, _<_};
 ghost use lib.ListN.{length};

@@ -1,4 +1,4 @@
--- The fold by sign and reach, and its undoing by the half. Assumes nothing.
+-- The fold by sign and reach, and its undoing by the half.
 use mathlib.Core.Path.{_≡_, refl, ap, _∙_}
 use mathlib.Core.Bool.{true, false}
 use Prim.Native.Nat.{ℕ, zero, suc, _+_, _*_, _/_, _%_, _<_}

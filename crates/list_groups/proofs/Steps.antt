@@ -1,4 +1,4 @@
--- Reading group by group: what was read so far, below what the bytes from p on make. Assumes nothing.
+-- Reading group by group: what was read so far, below what the bytes from p on make.
 use mathlib.Core.Path.{_≡_, refl, sym, ap, _∙_}
 use mathlib.Core.List.{List, _∷_}
 use Prim.Native.Nat.{ℕ, zero, suc, _+_, _*_, _-_, _≤_, _<_}

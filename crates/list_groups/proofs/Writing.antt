@@ -1,4 +1,4 @@
--- Writing group by group: the groups written, and those of what is left. Assumes nothing.
+-- Writing group by group: the groups written, and those of what is left.
 use mathlib.Core.Path.{_≡_, refl, sym, ap, _∙_}
 use mathlib.Core.List.{List, [], _∷_, _++_}
 use Prim.Native.Nat.{ℕ, zero, suc, _+_, _/_, _%_, _≤_, _<_, min}

@@ -1,5 +1,5 @@
-// Numbers of up to 32 bits in groups of seven bits, and the fold of signed numbers (request i).
-// Rules: specs/rules, in reading order in specs/rules.antt.
+// Numbers of up to 32 bits in groups of seven bits, and the fold of signed numbers (request (i)). Promised: a number is read where it
+// stands in its shortest spelling and refused by 12 or 13 elsewhere, at the byte that shows it; what is written reads back.
 ghost use mathlib.Core.Path.{_≡_};
 ghost use Prim.Native.Nat.{_<_};
 ghost use lib.ListN.{length};

@@ -1,4 +1,4 @@
--- The pass that checks: i stars are read, and those left stand from p on. Assumes nothing.
+-- The pass that checks: i stars are read, and those left stand from p on.
 use mathlib.Core.Path.{_≡_, refl, sym, ap, _∙_}
 use mathlib.Core.Bool.{Bool, true, false, cond}
 use mathlib.Core.List.{List, [], _∷_}

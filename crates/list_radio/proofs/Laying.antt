@@ -1,4 +1,4 @@
--- The pass that lays records down: the bytes done, and those of the stars that stand from p on. Assumes nothing.
+-- The pass that lays records down: the bytes done, and those of the stars that stand from p on.
 use mathlib.Core.Path.{_≡_, sym, ap, _∙_}
 use mathlib.Core.List.{List, [], _++_, append-assoc, append-nil}
 use Prim.Native.Nat.{ℕ, _+_, _-_, _≤_, _<_}

@@ -1,4 +1,4 @@
--- The pass that measures: i stars in range, their bytes counted. Assumes nothing.
+-- The pass that measures: i stars in range, their bytes counted.
 use mathlib.Core.Path.{_≡_, refl, sym, ap, _∙_}
 use mathlib.Core.Bool.{Bool, true, false, cond, _&&_}
 use mathlib.Core.List.{List}

@@ -1,4 +1,4 @@
--- What the tests of the reader say of its rules. Assumes nothing.
+-- What the tests of the reader say of its rules.
 use mathlib.Core.Path.{_≡_, refl, sym, ap, _∙_}
 use mathlib.Core.Bool.{Bool, true, false, cond}
 use mathlib.Core.List.{List, [], _∷_}

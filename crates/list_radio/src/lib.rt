@@ -1,5 +1,5 @@
-// Lists over the radio link (request i): reader, writer and movers.
-// Rules: specs/rules, in reading order in specs/rules.antt.
+// Lists over the radio link (request (i)): reader, writer and movers. Promised: any bytes are read or refused, the first refusal met; a
+// list in range moves there and back to the same bytes, and nothing is written before all is known.
 ghost use mathlib.Core.Path.{_≡_};
 ghost use mathlib.Core.Bool.{true};
 ghost use lib.ListN.{length, drop};

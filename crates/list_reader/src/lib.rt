@@ -1,5 +1,5 @@
-// The list reader (section 7): the caller's bytes together with a place in them.
-// Rules: those of the crate `list`, specs/rules/Reader.antt.
+// The list reader (section 7): the caller's bytes together with a place in them. Promised: what the rule of the crate `list` shows there,
+// until none is left.
 ghost use mathlib.Core.Path.{_≡_};
 ghost use Rattle.list.specs.rules.Reader.{shownSight, readRule};
 use list::Shown;

@@ -1,5 +1,5 @@
-// The tally (sections 5 and 7): how many stars had each status.
-// Rules: specs/rules, in reading order in specs/rules.antt.
+// The tally (sections 5 and 7). Promised: one count is raised by one, or nothing and the refusal; at the end each count is that of the
+// statuses.
 ghost use mathlib.Core.Path.{_≡_};
 ghost use Rattle.list_tally.specs.rules.Tally.{empty, raiseRule};
 

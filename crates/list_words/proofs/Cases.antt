@@ -1,4 +1,4 @@
--- What the test for a number below zero tells. Assumes nothing.
+-- What the test for a number below zero tells.
 use mathlib.Core.Path.{_≡_, refl, sym, ap, subst, _∙_}
 use mathlib.Core.Bool.{Bool, true, false, cond}
 use Prim.Native.Nat.{ℕ, zero, suc, _+_, _-_, _≤_, _<_}

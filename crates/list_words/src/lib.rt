@@ -1,5 +1,5 @@
-// Signed numbers of 32 bits: sign, size, how far from the sign's first number, and the word by two's complement.
-// Rules: specs/rules, in reading order in specs/rules.antt.
+// Signed numbers of 32 bits. Promised: sign, size, how far from the sign's first number, and the word by two's complement, each way, for
+// every number.
 ghost use mathlib.Core.Path.{_≡_};
 ghost use lib.IntN.{natAbs};
 ghost use Rattle.list_words.specs.rules.Signed.{negative, reach, wordOf, signedOf};

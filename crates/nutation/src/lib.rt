@@ -1,5 +1,5 @@
-// Nutation (section 4), on a day and at a point. Angles are in radians. The sums over the table stand in nutation_table.
-// Rules: specs/rules, in reading order in specs/rules.antt.
+// Nutation (section 4), on a day and at a point. Angles are in radians. Promised: bit for bit the Rust's formulas over the sums of
+// nutation_table, or the refusal.
 ghost use mathlib.Core.Path.{_≡_};
 ghost use Rattle.quantity.specs.rules.Answer.{shownTwo};
 ghost use Rattle.nutation.specs.rules.Day.{nutationRule};

@@ -1,5 +1,5 @@
-// One row of nutation (section 4): its argument from the five angles of a day, and its shares. Angles are in radians.
-// Rules: specs/rules, in reading order in specs/rules.antt.
+// One row of nutation (section 4): its argument from the five angles of a day, and its shares. Angles are in radians. Promised: the
+// Rust's operations on every double.
 ghost use mathlib.Core.Path.{_≡_};
 ghost use Rattle.nutation_args.specs.rules.Arguments.{moonM1, sunM, moonD, moonF, moonNode, inTurn, moonFrom, moonOf};
 ghost use Rattle.nutation_args.specs.rules.Sum.{argumentOf, longShare, oblqShare, withRow, converted};

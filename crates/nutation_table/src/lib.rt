@@ -1,5 +1,4 @@
-// The table of nutation (section 4): 63 rows of nine whole numbers, summed in table order. Angles are in radians.
-// Rules: specs/rules, in reading order in specs/rules.antt.
+// The table of nutation (section 4): 63 rows of nine whole numbers. Promised: their sums in table order, bit for bit, on every day.
 ghost use mathlib.Core.Path.{_≡_};
 ghost use Rattle.nutation_table.specs.rules.Rows.{rows};
 ghost use Rattle.nutation_args.specs.rules.Sum.{none, summed};

@@ -1,11 +1,11 @@
-// Parallax (section 4). Angles are in radians, distances in AU, heights in metres.
-// Topocentric ecliptic coordinates stand in parallax_ecl.
-// Rules: specs/rules, in reading order in specs/rules.antt.
+// Parallax (section 4). Angles are in radians, distances in AU, heights in metres. Promised: bit for bit the Rust's formulas, or the
+// refusal. Topocentric ecliptic coordinates stand in parallax_ecl.
 ghost use mathlib.Core.Path.{_≡_};
 ghost use Rattle.quantity.specs.rules.Answer.{shownRadians, shownPoint};
 ghost use Rattle.parallax.specs.rules.Horizontal.{sunParallax, eqHzParallaxIn, eqHzParallaxRule};
 ghost use Rattle.parallax.specs.rules.Observer.{centreOf, observerRefusal};
-ghost use Rattle.parallax.specs.rules.Equatorial.{eastward, ahead, topocentDec, topocentFrom, topocentAt, topocentIn, topocentRefusal, topocentEqCoordsRule};
+ghost use Rattle.parallax.specs.rules.Equatorial.{eastward, ahead, topocentDec, topocentFrom, topocentAt, topocentIn, topocentRefusal};
+ghost use Rattle.parallax.specs.rules.Equatorial.{topocentEqCoordsRule};
 use elementary::Folded;
 use helpers::angle;
 use helpers::earth::Earth;

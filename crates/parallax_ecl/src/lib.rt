@@ -1,8 +1,9 @@
-// Topocentric ecliptic coordinates (section 4). Angles are in radians, heights in metres.
-// Rules: specs/rules, in reading order in specs/rules.antt.
+// Topocentric ecliptic coordinates (section 4). Angles are in radians, heights in metres. Promised: bit for bit the Rust's formulas or,
+// in the published edition, Meeus's latitude; or the refusal.
 ghost use mathlib.Core.Path.{_≡_};
 ghost use Rattle.quantity.specs.rules.Answer.{shownRadians, shownThree};
-ghost use Rattle.parallax_ecl.specs.rules.Ecliptic.{nearby, longTop, upward, latOfCrate, latPublished, latTop, semidiameterIn, eclipticFrom, eclipticAlong, eclipticAt, eclipticIn, topopcentRefusal, topopcentEclCoordsRule};
+ghost use Rattle.parallax_ecl.specs.rules.Ecliptic.{nearby, longTop, upward, latOfCrate, latPublished, latTop, semidiameterIn, eclipticFrom};
+ghost use Rattle.parallax_ecl.specs.rules.Ecliptic.{eclipticAlong, eclipticAt, eclipticIn, topopcentRefusal, topopcentEclCoordsRule};
 use edition::Edition;
 use elementary::Folded;
 use helpers::angle;
@@ -190,7 +191,8 @@ pub fn topopcent_ecl_coords(
     eclip_oblq: Rad,
     geocent_semdia: Rad,
 ) -> Three
-    ensures { λ r. ⌜ shownThree r ≡ topopcentEclCoordsRule edition «ecl_point» «eq_hz_parllx» «geograph_point» «observer_ht» «loc_sidr» «eclip_oblq» «geocent_semdia» ⌝ }
+    ensures { λ r. ⌜ shownThree r ≡ topopcentEclCoordsRule edition «ecl_point» «eq_hz_parllx» «geograph_point» «observer_ht» «loc_sidr» «eclip_oblq»
+        «geocent_semdia» ⌝ }
 {
     let no = topopcent_refusal(
         ecl_point,

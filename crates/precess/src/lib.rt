@@ -1,6 +1,6 @@
-// Precession (section 4) of equatorial places, with the crate's grouping; the angles of two days, by edition, stand in precess_angles.
-// Precession of the ecliptic, its places and orbits, stands in precess_ecl. Angles are in radians.
-// Rules: specs/rules, in reading order in specs/rules.antt.
+// Precession of equatorial places (section 4): annual, and from one day to another by the angles of precess_angles. Angles are in
+// radians. Promised: bit for bit the Rust's formulas in the crate's edition and Meeus's in the published one, alone or two places at
+// once, or the refusal. Precession of the ecliptic, its places and orbits, stands in precess_ecl.
 ghost use mathlib.Core.Path.{_≡_};
 ghost use Rattle.quantity.specs.rules.Answer.{shownTwo};
 ghost use Rattle.precess.specs.rules.Annual.{annualM, annualN, annualAt, annualIn, annualRefusal, annualPrecessRule};

@@ -1,6 +1,5 @@
-// What two days fix of precession (section 4): their span and refusals, and the angles of the equator, with the crate's signs or Meeus's as
-// the edition says. Angles are in radians.
-// Rules: specs/rules, in reading order in specs/rules.antt.
+// What two days fix for precession (section 4): the span between them, their refusals, and the angles by edition. Angles are in radians.
+// Promised: bit for bit the crate's angles, or Meeus's, on every day.
 ghost use mathlib.Core.Path.{_≡_};
 ghost use Rattle.precess_angles.specs.rules.Days.{spanOf, daysRefusal, placeRefusal};
 ghost use Rattle.precess_angles.specs.rules.Equatorial.{eqXi, eqZeta, eqTheta, eqAnglesOf, turnsOf, eqTurnsOf};

@@ -1,9 +1,10 @@
-// Precession of the ecliptic (section 4): its places, and the elements of an orbit. Angles are in radians.
-// Rules: specs/rules, in reading order in specs/rules.antt.
+// Precession of the ecliptic (section 4): its places, and the elements of an orbit. Angles are in radians. Promised: bit for bit the
+// Rust's formulas, or the refusal; 14 is never met.
 ghost use mathlib.Core.Path.{_≡_};
 ghost use Rattle.quantity.specs.rules.Answer.{shownTwo, shownThree, shownRadians};
 ghost use Rattle.precess_ecl.specs.rules.Ecliptic.{eclNu, eclPi, eclRho, eclTurned, eclTurnsOf, eclPlaced, eclTurnedIn, precessEclCoordsRule};
-ghost use Rattle.precess_ecl.specs.rules.Orbit.{leanedOf, newInclination, newNode, nodeAndPerihelion, orbitFrom, orbitIn, orbitRefusal, precessOrbElementsRule};
+ghost use Rattle.precess_ecl.specs.rules.Orbit.{leanedOf, newInclination, newNode, nodeAndPerihelion, orbitFrom, orbitIn, orbitRefusal};
+ghost use Rattle.precess_ecl.specs.rules.Orbit.{precessOrbElementsRule};
 use elementary::Folded;
 use helpers::angle;
 use helpers::time;

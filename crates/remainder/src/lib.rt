@@ -1,5 +1,5 @@
-// The exact remainder of two doubles, with the first one's sign (section 3), by whole numbers alone.
-// Rules: specs/rules, in reading order in specs/rules.antt.
+// The exact remainder of two doubles, with the first one's sign (section 3). Promised: that of IEEE 754's account, of any two doubles, by
+// whole numbers alone.
 ghost use mathlib.Core.Path.{_≡_};
 ghost use Prim.Native.Nat.{_*_, _%_, _^_, _≤_, _<_};
 ghost use Rattle.double.specs.rules.Operations.{bits};

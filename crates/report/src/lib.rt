@@ -1,5 +1,5 @@
-// A list reduced from one day to another, and its text in a style: what `reduce` and `plan` print.
-// Rules: specs/rules, in reading order in specs/rules.antt.
+// A list reduced from one day to another, and its text in a style: what `reduce` and `plan` print. Promised: every byte, of every list
+// and every two days, in the room that it names.
 ghost use Rattle.lent.specs.rules.Writing.{Wrote};
 ghost use Rattle.report.specs.rules.Report.{reportOf};
 use edition::Edition;

@@ -1,6 +1,6 @@
-// The square root of a double (section 2): IEEE 754's squareRoot to nearest, by a recurrence of two digits, 29 and 24 bits. Floats
-// estimate each digit, and whole numbers mend it until the exact rest fits.
-// Rules: specs/rules, in reading order in specs/rules.antt.
+// The square root of a double (section 2). Promised: IEEE 754's squareRoot to nearest, said and proved over whole numbers, on every
+// double; 1 and 5 are refused. It is a recurrence of two digits, 29 and 24 bits: floats estimate each digit, and whole numbers mend it
+// until the exact rest fits.
 ghost use mathlib.Core.Path.{_≡_};
 ghost use mathlib.Core.Bool.{true, false};
 ghost use Prim.Native.Nat.{_+_, _*_, _/_, _%_, _^_, _≤_, _<_};

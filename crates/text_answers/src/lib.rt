@@ -1,6 +1,5 @@
-// The text of a list's answers, star by star, in one of three styles. Given: a status and two angles a star, each angle lent as its bits, a
-// refusal of all and a tally; a plan's times are `transit`'s of these angles.
-// Rules: specs/rules, in reading order in specs/rules.antt.
+// The text of a list's answers, star by star, in one of three styles. Promised: every byte of it, as far as there is room. What is
+// printed was worked out before: a status and two angles a star, each angle lent as its bits, a refusal of all and a tally.
 ghost use Prim.Native.Nat.{_+_};
 ghost use mathlib.Core.Path.{_≡_};
 ghost use lib.ListN.{getD};
@@ -83,7 +82,8 @@ fn put_nth<'a>(
     dec: &'a [u64],
     i: usize,
 ) -> usize
-    ensures { λ r. ⌜ Wrote (now (out .entry)) at (lentLine style (now (bytes .entry)) (now (status .entry)) (now (asc .entry)) (now (dec .entry)) i) (now (out .exit)) r ⌝ }
+    ensures { λ r. ⌜ Wrote (now (out .entry)) at (lentLine style (now (bytes .entry)) (now (status .entry)) (now (asc .entry)) (now (dec .entry)) i)
+        (now (out .exit)) r ⌝ }
 {
     let star = list::nth(bytes, i);
     put_star(
@@ -108,7 +108,8 @@ fn put_stars<'a>(
     dec: &'a [u64],
     n: usize,
 ) -> usize
-    ensures { λ r. ⌜ Wrote (now (out .entry)) at (texts n (lentLine style (now (bytes .entry)) (now (status .entry)) (now (asc .entry)) (now (dec .entry)))) (now (out .exit)) r ⌝ }
+    ensures { λ r. ⌜ Wrote (now (out .entry)) at
+        (texts n (lentLine style (now (bytes .entry)) (now (status .entry)) (now (asc .entry)) (now (dec .entry)))) (now (out .exit)) r ⌝ }
 {
     let mut place = lent::within(at, out.len());
     let mut i: usize = 0;
@@ -236,7 +237,8 @@ pub fn put_answers<'a>(
     refusal: u8,
     tally: Tally,
 ) -> usize
-    ensures { λ r. ⌜ Wrote (now (out .entry)) 0 (answersText style edition (now (bytes .entry)) (now (status .entry)) (now (asc .entry)) (now (dec .entry)) refusal tally) (now (out .exit)) r ⌝ }
+    ensures { λ r. ⌜ Wrote (now (out .entry)) 0
+        (answersText style edition (now (bytes .entry)) (now (status .entry)) (now (asc .entry)) (now (dec .entry)) refusal tally) (now (out .exit)) r ⌝ }
 {
     let no = refusal_in(style, refusal);
     if no != 0 {

@@ -1,5 +1,4 @@
-// A day in decimal: digits and an optional point, read with one rounding.
-// Rules: specs/rules, in reading order in specs/rules.antt.
+// A day in decimal: digits and an optional point. Promised: the double nearest to what is written, by one rounding, or that it is none.
 ghost use mathlib.Core.Path.{_≡_};
 ghost use Rattle.text_day.specs.rules.Day.{unclear, nextScale, withDigit, withPoint, withByte, dayFrom, shownDay, dayRule};
 

@@ -1,5 +1,5 @@
-// An angle in degrees, in decimal: digits and an optional point, with a sign in front where it is wanted. Read with one rounding.
-// Rules: specs/rules, in reading order in specs/rules.antt.
+// An angle in degrees, in decimal: digits and an optional point, with a sign in front where it is wanted. Promised: the double nearest to
+// what is written, by one rounding, or that it is none.
 ghost use mathlib.Core.Path.{_≡_};
 ghost use Rattle.text_day.specs.rules.Day.{shownDay};
 ghost use Rattle.text_degrees.specs.rules.Degrees.{signed, shownWritten, degreesRule};

@@ -1,5 +1,4 @@
-// A star's line of the text that `reduce` prints: its number, then its angles or its refusal.
-// Rules: specs/rules, in reading order in specs/rules.antt.
+// A star's line of the text that `reduce` prints: its number, then its angles or its refusal. Promised: every byte of it.
 ghost use mathlib.Core.Path.{_≡_};
 ghost use Rattle.lent.specs.rules.Writing.{Wrote};
 ghost use Rattle.text_line.specs.rules.Angle.{hasMinus, angleText};

@@ -1,4 +1,4 @@
--- The digits that `io` spells are those of the rules. Assumes nothing.
+-- The digits that `io` spells are those of the rules.
 use mathlib.Core.Path.{_≡_, refl, sym, ap, _∙_, subst}
 use mathlib.Core.Bool.{Bool, true, false, cond}
 use mathlib.Core.List.{List, [], _∷_, _++_}

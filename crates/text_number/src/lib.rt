@@ -1,5 +1,4 @@
-// Numbers as text, written into a lent slice, and the line of a refusal. What finds no place there is left out.
-// Rules: specs/rules, in reading order in specs/rules.antt.
+// Numbers as text, written into a lent slice, and the line of a refusal. Promised: every byte of it, as far as there is room.
 ghost use Rattle.lent.specs.rules.Writing.{Wrote};
 ghost use Rattle.text_number.specs.rules.Number.{decimalText, signedText, integerText, hex16};
 ghost use Rattle.text_number.specs.rules.Refused.{refusedText};

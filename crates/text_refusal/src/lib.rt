@@ -1,5 +1,4 @@
-// The line of a refusal in words, for people.
-// Rules: specs/rules, in reading order in specs/rules.antt.
+// The line of a refusal in words, for people. Promised: every byte of it.
 ghost use Rattle.lent.specs.rules.Writing.{Wrote};
 ghost use Rattle.text_refusal.specs.rules.Refusal.{callWords, starWords, refusalText};
 

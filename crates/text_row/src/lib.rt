@@ -1,6 +1,5 @@
 // A star's row of the table that `reduce --table` prints: its number, then its right ascension in hours and its declination in degrees,
-// or its refusal in words.
-// Rules: specs/rules, in reading order in specs/rules.antt.
+// or its refusal in words. Promised: every byte of it, each angle rounded once.
 ghost use Prim.Native.Nat.{_-_};
 ghost use mathlib.Core.Path.{_≡_};
 ghost use Rattle.lent.specs.rules.Writing.{Wrote};

@@ -1,5 +1,4 @@
-// The sheet that `starlist` prints (section 7).
-// Rules: specs/rules, in reading order in specs/rules.antt.
+// The sheet that `starlist` prints (section 7). Promised: every byte of it for every list, in the room that it names.
 ghost use mathlib.Core.Path.{_≡_};
 ghost use mathlib.Core.Bool.{cond};
 ghost use Prim.Native.Nat.{_≤_};

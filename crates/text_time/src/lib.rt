@@ -1,6 +1,5 @@
 // A star's line of the text that `plan` prints: its number, then its rise, culmination and set in hours, minutes and seconds, or why
-// there are none.
-// Rules: specs/rules, in reading order in specs/rules.antt.
+// there are none. Promised: every byte of it, each time the nearest second.
 ghost use mathlib.Core.Path.{_≡_};
 ghost use Rattle.lent.specs.rules.Writing.{Wrote};
 ghost use Rattle.quantity.specs.rules.Answer.{shownThree};

@@ -1,5 +1,4 @@
-// Whether a text is a word.
-// Rules: specs/rules, in reading order in specs/rules.antt.
+// Whether a text is a word. Promised: exactly that.
 ghost use mathlib.Core.Path.{_≡_};
 ghost use Rattle.text_word.specs.rules.Word.{isWord};
 

@@ -1,6 +1,6 @@
-// Rise, culmination and set (document 02, request (v); Meeus, chapter 15, before interpolation). Angles are in radians, a longitude is
-// positive west of Greenwich, and a time is a fraction of the sidereal day since 0h.
-// Rules: specs/rules, in reading order in specs/rules.antt.
+// Rise, culmination and set (document 02, request (v); Meeus, chapter 15, before interpolation), and an observer's plan. Angles are in
+// radians, a longitude is positive west of Greenwich, and a time is a fraction of the sidereal day since 0h. Promised: bit for bit the
+// request's formulas; 15 exactly where the star never rises, 16 exactly where it never sets.
 ghost use mathlib.Core.Path.{_≡_};
 ghost use Rattle.quantity.specs.rules.Answer.{shownRadians, shownThree};
 ghost use Rattle.transit.specs.rules.Arc.{arcCosine, arcIn};

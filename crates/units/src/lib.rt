@@ -1,5 +1,5 @@
-// Units of an angle: radians as degrees, and degrees and a count of milliarcseconds each as the other; and the nearest whole number.
-// Rules: specs/rules, in reading order in specs/rules.antt.
+// Radians as degrees, the nearest whole number, and milliarcseconds each way. Promised: the written operations on every double; below
+// 2^53 the whole number is the nearest one, halves away from zero.
 ghost use mathlib.Core.Path.{_≡_};
 ghost use lib.IntN.{pos};
 ghost use Rattle.units.specs.rules.Degrees.{toDegrees, milliarcseconds, degreesOf};

@@ -1,4 +1,4 @@
--- `aberr::aberr_at` meets its contract. Assumes nothing.
+-- `aberr::aberr_at` meets its contract.
 use mathlib.Core.Path.{refl}
 use Rattle.aberr.specs.rules.Star.{aberrAt}
 use Rattle.aberr.proofs.aberr_at.Statement.{statement}

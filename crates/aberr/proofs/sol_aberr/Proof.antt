@@ -1,4 +1,4 @@
--- `aberr::sol_aberr` meets its contract. Assumes nothing.
+-- `aberr::sol_aberr` meets its contract.
 use Rattle.double.specs.laws.Calls.{asks-nothing}
 use mathlib.Core.Path.{ap}
 use Rattle.quantity.specs.rules.Answer.{answered}

@@ -1,4 +1,4 @@
--- `aberr::sol_aberr_of` meets its contract. Assumes nothing.
+-- `aberr::sol_aberr_of` meets its contract.
 use Rattle.double.specs.laws.Calls.{asks-nothing}
 use Rattle.aberr.specs.rules.Sun.{solAberrOf}
 use Rattle.aberr.proofs.sol_aberr_of.Statement.{statement}

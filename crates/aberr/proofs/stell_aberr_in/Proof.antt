@@ -1,4 +1,4 @@
--- `aberr::stell_aberr_in` meets its contract. Assumes nothing.
+-- `aberr::stell_aberr_in` meets its contract.
 use Rattle.double.specs.laws.Calls.{asks-nothing}
 use Rattle.aberr.specs.rules.Star.{stellAberrInEqCoordsIn}
 use Rattle.aberr.proofs.stell_aberr_in.Statement.{statement}

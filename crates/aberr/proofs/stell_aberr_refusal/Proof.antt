@@ -1,4 +1,4 @@
--- `aberr::stell_aberr_refusal` meets its contract. Assumes nothing.
+-- `aberr::stell_aberr_refusal` meets its contract.
 use Rattle.double.specs.laws.Calls.{asks-nothing}
 use Rattle.aberr.proofs.stell_aberr_refusal.Statement.{statement}
 use Rattle.aberr.proofs.stell_aberr_refusal.Tie as tie

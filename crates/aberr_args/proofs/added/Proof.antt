@@ -1,4 +1,4 @@
--- `aberr_args::added` meets its contract. Assumes nothing.
+-- `aberr_args::added` meets its contract.
 use Rattle.double.specs.laws.Calls.{asks-nothing}
 use Rattle.aberr_args.specs.rules.Row.{added}
 use Rattle.aberr_args.proofs.added.Statement.{statement}

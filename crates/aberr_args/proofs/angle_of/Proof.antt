@@ -1,4 +1,4 @@
--- `aberr_args::angle_of` meets its contract. Assumes nothing.
+-- `aberr_args::angle_of` meets its contract.
 use borrow.Author.Tests.{ne-eqb}
 use Rattle.aberr_args.specs.rules.Row.{angleOf}
 use Rattle.aberr_args.proofs.angle_of.Statement.{statement}

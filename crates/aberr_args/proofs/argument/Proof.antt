@@ -1,4 +1,4 @@
--- `aberr_args::argument` meets its contract. Assumes nothing.
+-- `aberr_args::argument` meets its contract.
 use mathlib.Core.Path.{sym, ap, _∙_}
 use Rattle.double.specs.laws.Calls.{asks-nothing}
 use Rattle.aberr_args.specs.declared.Multipliers.{Multipliers}

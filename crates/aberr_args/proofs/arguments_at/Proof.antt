@@ -1,4 +1,4 @@
--- `aberr_args::arguments_at` meets its contract. Assumes nothing.
+-- `aberr_args::arguments_at` meets its contract.
 use mathlib.Core.Path.{refl}
 use Rattle.aberr_args.specs.rules.Arguments.{argumentsOf}
 use Rattle.aberr_args.proofs.arguments_at.Statement.{statement}

@@ -1,4 +1,4 @@
--- `aberr_args::grouped` meets its contract. Assumes nothing.
+-- `aberr_args::grouped` meets its contract.
 use Rattle.aberr_args.specs.rules.Row.{grouped}
 use Rattle.aberr_args.proofs.grouped.Statement.{statement}
 use Rattle.aberr_args.proofs.grouped.Tie as tie

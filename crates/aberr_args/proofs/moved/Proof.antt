@@ -1,4 +1,4 @@
--- `aberr_args::moved` meets its contract. Assumes nothing.
+-- `aberr_args::moved` meets its contract.
 use Rattle.double.specs.laws.Calls.{asks-nothing}
 use Rattle.aberr_args.specs.rules.Row.{moved}
 use Rattle.aberr_args.proofs.moved.Statement.{statement}

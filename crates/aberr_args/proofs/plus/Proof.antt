@@ -1,4 +1,4 @@
--- `aberr_args::plus` meets its contract. Assumes nothing.
+-- `aberr_args::plus` meets its contract.
 use mathlib.Core.Path.{sym, subst}
 use lib.Dec.{T}
 use Rattle.aberr_args.specs.rules.Row.{plus}

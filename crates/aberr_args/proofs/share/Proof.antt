@@ -1,4 +1,4 @@
--- `aberr_args::share` meets its contract. Assumes nothing.
+-- `aberr_args::share` meets its contract.
 use Rattle.double.specs.laws.Calls.{asks-nothing}
 use Rattle.aberr_args.specs.rules.Row.{grouped, moved, spread, shareOf}
 use Rattle.aberr_args.proofs.share.Statement.{statement}

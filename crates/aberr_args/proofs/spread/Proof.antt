@@ -1,4 +1,4 @@
--- `aberr_args::spread` meets its contract. Assumes nothing.
+-- `aberr_args::spread` meets its contract.
 use Rattle.double.specs.laws.Calls.{asks-nothing}
 use Rattle.aberr_args.specs.rules.Row.{moved, spread}
 use Rattle.aberr_args.proofs.spread.Statement.{statement}

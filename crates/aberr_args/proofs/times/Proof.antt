@@ -1,4 +1,4 @@
--- `aberr_args::times` meets its contract. Assumes nothing.
+-- `aberr_args::times` meets its contract.
 use mathlib.Core.Path.{sym, subst}
 use lib.Dec.{T}
 use Rattle.aberr_args.specs.laws.Written.{times-written}

@@ -1,4 +1,4 @@
--- `aberr_args::turn_in` meets its contract. Assumes nothing.
+-- `aberr_args::turn_in` meets its contract.
 use Rattle.double.specs.laws.Calls.{asks-nothing}
 use Rattle.aberr_args.proofs.turn_in.Statement.{statement}
 use Rattle.aberr_args.proofs.turn_in.Tie as tie

@@ -1,4 +1,4 @@
--- `aberr_args::with_angle` meets its contract. Assumes nothing.
+-- `aberr_args::with_angle` meets its contract.
 use Rattle.double.specs.laws.Calls.{asks-nothing}
 use Rattle.aberr_args.specs.rules.Row.{plus}
 use Rattle.aberr_args.proofs.with_angle.Statement.{statement}

@@ -1,4 +1,4 @@
--- `aberr_args::with_terms` meets its contract. Assumes nothing.
+-- `aberr_args::with_terms` meets its contract.
 use Prim.Native.Nat.{ℕ}
 use mathlib.Core.Bool.{true}
 use mathlib.Core.Path.{_≡_, ap, _∙_}

@@ -1,4 +1,4 @@
--- `aberr_args::x_terms` meets its contract. Assumes nothing.
+-- `aberr_args::x_terms` meets its contract.
 use borrow.Author.Needs.{needs}
 use mir.Syntax.{w32}
 use Rattle.aberr_args.proofs.Columns.{as-read}

@@ -1,4 +1,4 @@
--- A row as the crate writes it has the bits of its terms multiplied and added as the table has them, for every double. Assumes nothing.
+-- A row as the crate writes it has the bits of its terms multiplied and added as the table has them, for every double.
 use Prim.Native.Nat.{ℕ}
 use native.Mathlib.Nat.{one-mul}
 use mathlib.Core.Path.{_≡_, refl, sym, ap, _∙_}

@@ -1,4 +1,4 @@
--- `aberr_table::rows_sum` meets its contract. Assumes nothing.
+-- `aberr_table::rows_sum` meets its contract.
 use mathlib.Core.Path.{sym, subst, _∙_}
 use mathlib.Core.List.{List}
 use lib.Dec.{T}

@@ -1,4 +1,4 @@
--- `aberr_table::velocity_on` meets its contract. Assumes nothing.
+-- `aberr_table::velocity_on` meets its contract.
 use Rattle.double.specs.laws.Calls.{asks-nothing}
 use Rattle.aberr_table.specs.rules.Velocity.{velocityOf}
 use Rattle.aberr_table.proofs.velocity_on.Statement.{statement}

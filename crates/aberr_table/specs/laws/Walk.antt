@@ -1,5 +1,5 @@
 -- The walk over the table gives the crate's rows, bit for bit: for every argument and every sum so far. Each row of the table names a row
--- of it. Assumes nothing.
+-- of it.
 use Prim.Native.Nat.{ℕ, zero, suc, _*_, _<_}
 use native.Mathlib.Nat.{le-of-suc-le-suc, not-suc-le-zero}
 use native.Mathlib.Omega.{arith}

@@ -1,4 +1,4 @@
--- Wrong variants are excluded: each differs from the rule for the arguments and the sums so far that are stated. Assumes nothing.
+-- Wrong variants are excluded: each differs from the rule for the arguments and the sums so far that are stated.
 use Prim.Native.Nat.{ℕ}
 use mathlib.Core.Path.{refl}
 use std.Logic.{_≢_}
@@ -15,7 +15,8 @@ use Rattle.aberr_table.specs.rules.Rows.{row1, row19, row21, row29, row3
 use Rattle.aberr_table.specs.rules.Velocity.{none}
 use Rattle.aberr_table.specs.rules.Table.{plain, A, Z, AZ}
 use Rattle.aberr_table.specs.notions.Computed.{computed}
-use Rattle.aberr_table.specs.notions.Wrong.{oneCoefficientChanged, partsInTDropped, anotherRowsPartsInT, twoRowsTraded, oneRowFewer, partsInTWalked, AX, XZ, marked}
+use Rattle.aberr_table.specs.notions.Wrong.{oneCoefficientChanged, partsInTDropped, anotherRowsPartsInT, twoRowsTraded, oneRowFewer}
+use Rattle.aberr_table.specs.notions.Wrong.{partsInTWalked, AX, XZ, marked}
 
 abbrev ofX : Velocity → ℕ
 ofX v = ofFloat (v .x)

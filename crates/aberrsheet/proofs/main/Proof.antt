@@ -1,4 +1,4 @@
--- `aberrsheet::main` ends, and stays within the table. Assumes nothing.
+-- `aberrsheet::main` ends, and stays within the table.
 use borrow.Author.Needs.{needs}
 use mathlib.Core.Path.{_≡_, sym, ap, subst}
 use mathlib.Core.List.{List}

@@ -1,4 +1,4 @@
--- `aberrsheet::of_8_bits` loses nothing. Assumes nothing.
+-- `aberrsheet::of_8_bits` loses nothing.
 use borrow.Author.Needs.{needs}
 use native.Mathlib.Omega.{arith}
 use mir.Facts.{toZ-ofZ}

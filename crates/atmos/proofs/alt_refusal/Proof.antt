@@ -1,4 +1,4 @@
--- `atmos::alt_refusal` meets its contract. Assumes nothing.
+-- `atmos::alt_refusal` meets its contract.
 use Rattle.double.specs.laws.Calls.{asks-nothing}
 use Rattle.atmos.specs.rules.Refraction.{altRefusal}
 use Rattle.atmos.proofs.alt_refusal.Statement.{statement}

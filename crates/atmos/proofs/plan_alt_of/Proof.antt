@@ -1,4 +1,4 @@
--- `atmos::plan_alt_of` meets its contract. Assumes nothing.
+-- `atmos::plan_alt_of` meets its contract.
 use Rattle.double.specs.laws.Calls.{asks-nothing}
 use Rattle.atmos.specs.rules.Sight.{planAltOf}
 use Rattle.atmos.proofs.plan_alt_of.Statement.{statement}

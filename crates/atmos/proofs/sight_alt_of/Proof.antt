@@ -1,4 +1,4 @@
--- `atmos::sight_alt_of` meets its contract. Assumes nothing.
+-- `atmos::sight_alt_of` meets its contract.
 use Rattle.double.specs.laws.Calls.{asks-nothing}
 use Rattle.atmos.specs.rules.Sight.{sightAltOf}
 use Rattle.atmos.proofs.sight_alt_of.Statement.{statement}

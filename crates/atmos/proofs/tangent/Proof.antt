@@ -1,4 +1,4 @@
--- `atmos::tangent` meets its contract. Assumes nothing.
+-- `atmos::tangent` meets its contract.
 use Rattle.double.specs.laws.Calls.{asks-nothing}
 use Rattle.atmos.specs.rules.Refraction.{tangentOfDegrees}
 use Rattle.atmos.proofs.tangent.Statement.{statement}

@@ -1,4 +1,4 @@
--- A contract `shownArcminutes r ≡ rule` holds of one r only. Assumes nothing.
+-- A contract `shownArcminutes r ≡ rule` holds of one r only.
 use mathlib.Core.Path.{_≡_}
 use Rattle.atmos.specs.declared.Arcminutes.{Arcminutes}
 use Rattle.atmos.specs.declared.Arcminutes.the-variants.{Are, Refused}

@@ -1,4 +1,4 @@
--- The limits: 0.0, −0.0 and 89.8 are accepted, and the next doubles beyond are refused by 3; −0.0 is answered as 0.0. Assumes nothing.
+-- The limits: 0.0, −0.0 and 89.8 are accepted, and the next doubles beyond are refused by 3; −0.0 is answered as 0.0.
 use Prim.Native.Nat.{ℕ}
 use mathlib.Core.Path.{_≡_, refl}
 use mathlib.Core.List.{List, [], _∷_}

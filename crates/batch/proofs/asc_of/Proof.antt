@@ -1,4 +1,4 @@
--- `batch::asc_of` meets its contract. Assumes nothing.
+-- `batch::asc_of` meets its contract.
 use Rattle.double.specs.laws.Calls.{asks-nothing}
 use Rattle.batch.proofs.asc_of.Statement.{statement}
 use Rattle.batch.proofs.asc_of.Tie as tie

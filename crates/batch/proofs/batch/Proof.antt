@@ -1,4 +1,4 @@
--- `batch::batch` meets its contract: before each turn the stars so far are stored and counted, and a turn does two more. Assumes nothing.
+-- `batch::batch` meets its contract: before each turn the stars so far are stored and counted, and a turn does two more.
 use borrow.Author.Needs.{needs}
 use borrow.Author.Tests.{ne-eqb}
 use mathlib.Core.Path.{_≡_, sym, ap, _∙_}

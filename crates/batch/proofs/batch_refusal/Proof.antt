@@ -1,4 +1,4 @@
--- `batch::batch_refusal` meets its contract: at each return the tests that led there say which case of the rule holds. Assumes nothing.
+-- `batch::batch_refusal` meets its contract: at each return the tests that led there say which case of the rule holds.
 use mathlib.Core.Path.{_≡_, sym, _∙_}
 use mathlib.Core.Bool.{true, false}
 use Prim.Native.Nat.{ℕ, _≤_, _<_}

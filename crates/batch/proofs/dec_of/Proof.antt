@@ -1,4 +1,4 @@
--- `batch::dec_of` meets its contract. Assumes nothing.
+-- `batch::dec_of` meets its contract.
 use mathlib.Core.Path.{ap, _∙_}
 use lib.IntN.{ℤ}
 use Rattle.double.specs.laws.Calls.{asks-nothing}

@@ -1,4 +1,4 @@
--- `batch::keep` meets its contract. Assumes nothing.
+-- `batch::keep` meets its contract.
 use borrow.Author.Needs.{needs}
 use mathlib.Core.Path.{_≡_, ap, _∙_}
 use lib.ListN.{set}

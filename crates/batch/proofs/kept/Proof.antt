@@ -1,4 +1,4 @@
--- `batch::kept` meets its contract. Assumes nothing.
+-- `batch::kept` meets its contract.
 use mathlib.Core.Path.{sym}
 use borrow.Author.Tests.{eq-eqb, ne-eqb}
 use Rattle.double.specs.laws.Calls.{asks-nothing}

@@ -1,4 +1,4 @@
--- `batch::ranged` meets its contract. Assumes nothing.
+-- `batch::ranged` meets its contract.
 use mathlib.Core.Path.{sym, _∙_}
 use Rattle.double.specs.laws.Calls.{asks-nothing}
 use Rattle.batch.proofs.ranged.Statement.{statement}

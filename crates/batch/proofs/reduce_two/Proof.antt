@@ -1,4 +1,4 @@
--- `batch::reduce_two` meets its contract. Assumes nothing.
+-- `batch::reduce_two` meets its contract.
 use Rattle.double.specs.laws.Calls.{asks-nothing}
 use Rattle.batch.specs.rules.Star.{reduceTwo}
 use Rattle.batch.proofs.reduce_two.Statement.{statement}

@@ -1,4 +1,4 @@
--- The whole call: what an accepted one has, its values by their places, and its tally. Assumes nothing.
+-- The whole call: what an accepted one has, its values by their places, and its tally.
 use Prim.Native.Nat.{ℕ, zero, suc, _+_, _≤_, _<_}
 use mathlib.Core.Path.{_≡_, refl, sym, ap, _∙_}
 use mathlib.Core.Bool.{Bool, true, false, cond, _&&_}

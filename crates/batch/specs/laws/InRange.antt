@@ -1,5 +1,4 @@
 -- The angles of a star in range are never refused: its right ascension is at most a turn and its declination at most HALF in size.
--- Assumes nothing.
 use Prim.Native.Nat.{suc, _≤_}
 use native.Mathlib.Nat.{le-of-lt}
 use native.Mathlib.Omega.{arith}

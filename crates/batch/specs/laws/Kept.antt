@@ -1,4 +1,4 @@
--- A call that stores its stars in turn, each at its place, leaves what the batch promises. Assumes nothing.
+-- A call that stores its stars in turn, each at its place, leaves what the batch promises.
 use Prim.Native.Nat.{ℕ, _+_, _≤_, _<_}
 use mathlib.Core.Path.{_≡_, refl, sym, ap, _∙_}
 use mathlib.Core.Bool.{Bool, true, false, cond}

@@ -1,4 +1,4 @@
--- Every star's status is one that the tally knows. Assumes nothing.
+-- Every star's status is one that the tally knows.
 use Prim.Native.Nat.{ℕ, _≤_}
 use mathlib.Core.Bool.{Bool, true, false, cond}
 use native.Mathlib.Omega.{arith}

@@ -1,4 +1,4 @@
--- What is stored of a star's answer are doubles, so that their bits read back as they are. Assumes nothing.
+-- What is stored of a star's answer are doubles, so that their bits read back as they are.
 use mathlib.Core.Bool.{Bool, true, false, cond}
 use Prim.Native.Nat.{ℕ}
 use lib.Dec.{T}

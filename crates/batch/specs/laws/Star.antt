@@ -1,4 +1,4 @@
--- A star under the night of two days that are not refused is answered as the chain answers it, alone or beside another. Assumes nothing.
+-- A star under the night of two days that are not refused is answered as the chain answers it, alone or beside another.
 use Prim.Native.Nat.{ℕ, _≤_}
 use mathlib.Core.Path.{_≡_, refl, sym, ap, _∙_}
 use mathlib.Core.Bool.{Bool, true, false, cond}

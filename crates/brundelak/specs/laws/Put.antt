@@ -1,4 +1,4 @@
--- How the promise of a text put reaches the C caller. Assumes nothing.
+-- How the promise of a text put reaches the C caller.
 use Prim.Native.Nat.{ℕ}
 use mathlib.Core.Path.{_≡_, refl}
 use mathlib.Core.List.{List}

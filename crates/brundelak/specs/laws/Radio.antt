@@ -1,4 +1,4 @@
--- How the promises of the radio list reach the C caller. Assumes nothing.
+-- How the promises of the radio list reach the C caller.
 use Prim.Native.Nat.{ℕ}
 use mathlib.Core.Path.{_≡_, refl}
 use lib.IntN.{ℤ}

@@ -1,4 +1,4 @@
--- How find's and the batch's promises reach the C caller. Assumes nothing.
+-- How find's and the batch's promises reach the C caller.
 use Prim.Native.Nat.{ℕ}
 use mathlib.Core.Path.{_≡_, refl, sym}
 use mathlib.Core.List.{List}

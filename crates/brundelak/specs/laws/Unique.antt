@@ -1,4 +1,4 @@
--- A promise at the boundary fixes the status and all that is left where memory is lent: two results that meet it are the same. Assumes nothing.
+-- A promise at the boundary fixes the status and all that is left where memory is lent: two results that meet it are the same.
 use Prim.Native.Nat.{ℕ}
 use mathlib.Core.Path.{_≡_, sym, ap, _∙_}
 use mathlib.Core.List.{List}

@@ -1,4 +1,4 @@
--- Wrong results are excluded: what a C caller would see of each is not what is promised, at the values stated. Assumes nothing.
+-- Wrong results are excluded: what a C caller would see of each is not what is promised, at the values stated.
 use Prim.Native.Nat.{ℕ}
 use mathlib.Core.Path.{refl, ap, _∙_}
 use mathlib.Core.Bool.{false}

@@ -1,4 +1,4 @@
--- `brundelak_handed::arcminutes_number` meets its contract. Assumes nothing.
+-- `brundelak_handed::arcminutes_number` meets its contract.
 use borrow.Author.Needs.{needs}
 use Rattle.brundelak_handed.specs.rules.Boundary.{numberOfArcminutes}
 use Rattle.brundelak_handed.proofs.arcminutes_number.Statement.{statement}

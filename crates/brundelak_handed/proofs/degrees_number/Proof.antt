@@ -1,4 +1,4 @@
--- `brundelak_handed::degrees_number` meets its contract. Assumes nothing.
+-- `brundelak_handed::degrees_number` meets its contract.
 use borrow.Author.Needs.{needs}
 use Rattle.brundelak_handed.specs.rules.Boundary.{numberOfDegrees}
 use Rattle.brundelak_handed.proofs.degrees_number.Statement.{statement}

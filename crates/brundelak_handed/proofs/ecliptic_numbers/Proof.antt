@@ -1,4 +1,4 @@
--- `brundelak_handed::ecliptic_numbers` meets its contract. Assumes nothing.
+-- `brundelak_handed::ecliptic_numbers` meets its contract.
 use borrow.Author.Needs.{needs}
 use Rattle.brundelak_handed.specs.rules.Boundary.{numbersOfEcliptic}
 use Rattle.brundelak_handed.proofs.ecliptic_numbers.Statement.{statement}

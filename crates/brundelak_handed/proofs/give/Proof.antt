@@ -1,4 +1,4 @@
--- `brundelak_handed::give` meets its contract. Assumes nothing.
+-- `brundelak_handed::give` meets its contract.
 use borrow.Author.Needs.{needs}
 use Rattle.double.specs.laws.Calls.{asks-nothing}
 use Rattle.brundelak_handed.specs.laws.Boundary.{told-answer, told-refusal}

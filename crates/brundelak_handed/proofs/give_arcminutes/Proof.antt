@@ -1,4 +1,4 @@
--- `brundelak_handed::give_arcminutes` meets its contract. Assumes nothing.
+-- `brundelak_handed::give_arcminutes` meets its contract.
 use Rattle.double.specs.laws.Calls.{asks-nothing}
 use Rattle.brundelak_handed.specs.laws.Boundary.{told}
 use Rattle.brundelak_handed.proofs.give_arcminutes.Statement.{statement}

@@ -1,4 +1,4 @@
--- `brundelak_handed::give_three` meets its contract. Assumes nothing.
+-- `brundelak_handed::give_three` meets its contract.
 use borrow.Author.Needs.{needs}
 use Rattle.double.specs.laws.Calls.{asks-nothing}
 use Rattle.brundelak_handed.specs.laws.Boundary.{told-three-answers, told-three-refusal}

@@ -1,4 +1,4 @@
--- `brundelak_handed::give_two` meets its contract. Assumes nothing.
+-- `brundelak_handed::give_two` meets its contract.
 use borrow.Author.Needs.{needs}
 use Rattle.double.specs.laws.Calls.{asks-nothing}
 use Rattle.brundelak_handed.specs.laws.Boundary.{told-two-answers, told-two-refusal}

@@ -1,4 +1,4 @@
--- `brundelak_handed::point_numbers` meets its contract. Assumes nothing.
+-- `brundelak_handed::point_numbers` meets its contract.
 use borrow.Author.Needs.{needs}
 use Rattle.brundelak_handed.specs.rules.Boundary.{numbersOfPoint}
 use Rattle.brundelak_handed.proofs.point_numbers.Statement.{statement}

@@ -1,4 +1,4 @@
--- `brundelak_handed::radians_number` meets its contract. Assumes nothing.
+-- `brundelak_handed::radians_number` meets its contract.
 use borrow.Author.Needs.{needs}
 use Rattle.brundelak_handed.specs.rules.Boundary.{numberOfRadians}
 use Rattle.brundelak_handed.proofs.radians_number.Statement.{statement}

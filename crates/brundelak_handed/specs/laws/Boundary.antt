@@ -1,4 +1,4 @@
--- How a function's own promise reaches the C caller. Assumes nothing.
+-- How a function's own promise reaches the C caller.
 use Prim.Native.Nat.{ℕ}
 use mathlib.Core.Path.{_≡_, refl, ap, subst, _∙_}
 use lib.Ieee.{Float}
@@ -15,7 +15,8 @@ use Rattle.quantity.specs.declared.Three.{Three}
 use Rattle.quantity.specs.declared.Three.the-variants as three
 use Rattle.quantity.specs.rules.Answer.{Answer, answered, refused, Pair, Triple, with, statusOf, shown, shownTwo, shownThree}
 use Rattle.atmos.specs.declared.Arcmin.{Arcmin}
-use Rattle.brundelak_handed.specs.rules.Boundary.{kept, Told, ToldBits, ToldTwo, ToldThree, numberOfDegrees, numberOfRadians, numberOfArcminutes, numbersOfPoint, numbersOfEcliptic}
+use Rattle.brundelak_handed.specs.rules.Boundary.{kept, Told, ToldBits, ToldTwo, ToldThree, numberOfDegrees, numberOfRadians}
+use Rattle.brundelak_handed.specs.rules.Boundary.{numberOfArcminutes, numbersOfPoint, numbersOfEcliptic}
 
 -- ---- one float
 

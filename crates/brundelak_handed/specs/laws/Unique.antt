@@ -1,5 +1,5 @@
 -- A promise at the boundary fixes the status and what is left where floats are lent, bit for bit: two results that meet it are the
--- same. Assumes nothing.
+-- same.
 use Prim.Native.Nat.{ℕ}
 use mathlib.Core.Path.{_≡_, sym, _∙_}
 use lib.Ieee.{Float}

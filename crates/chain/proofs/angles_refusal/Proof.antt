@@ -1,4 +1,4 @@
--- `chain::angles_refusal` meets its contract. Assumes nothing.
+-- `chain::angles_refusal` meets its contract.
 use Rattle.double.specs.laws.Calls.{asks-nothing}
 use Rattle.chain.proofs.angles_refusal.Statement.{statement}
 use Rattle.chain.proofs.angles_refusal.Tie as tie

@@ -1,4 +1,4 @@
--- `chain::chain` meets its contract. Assumes nothing.
+-- `chain::chain` meets its contract.
 use Rattle.double.specs.laws.Calls.{asks-nothing}
 use mathlib.Core.Path.{_∙_, sym}
 use Rattle.quantity.specs.laws.Answer.{refuses, goes-on}

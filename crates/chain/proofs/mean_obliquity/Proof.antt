@@ -1,4 +1,4 @@
--- `chain::mean_obliquity` meets its contract. Assumes nothing.
+-- `chain::mean_obliquity` meets its contract.
 use mathlib.Core.Path.{refl}
 use Rattle.chain.specs.rules.Obliquity.{meanObliquity}
 use Rattle.chain.proofs.mean_obliquity.Statement.{statement}

@@ -1,4 +1,4 @@
--- `chain::mean_obliquity_on` meets its contract. Assumes nothing.
+-- `chain::mean_obliquity_on` meets its contract.
 use mathlib.Core.Path.{ap, _∙_}
 use Rattle.double.specs.laws.Calls.{asks-nothing}
 use Rattle.helpers.specs.rules.Angle.{radiansOf}

@@ -1,4 +1,4 @@
--- `chain::moved` meets its contract. Assumes nothing.
+-- `chain::moved` meets its contract.
 use mathlib.Core.Path.{refl}
 use Rattle.chain.specs.rules.Night.{moved}
 use Rattle.chain.proofs.moved.Statement.{statement}

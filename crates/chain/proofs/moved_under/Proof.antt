@@ -1,4 +1,4 @@
--- `chain::moved_under` meets its contract. Assumes nothing.
+-- `chain::moved_under` meets its contract.
 use Rattle.double.specs.laws.Calls.{asks-nothing}
 use Rattle.chain.specs.rules.Night.{movedUnder}
 use Rattle.chain.proofs.moved_under.Statement.{statement}

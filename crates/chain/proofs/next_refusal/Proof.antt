@@ -1,4 +1,4 @@
--- `chain::next_refusal` meets its contract. Assumes nothing.
+-- `chain::next_refusal` meets its contract.
 use borrow.Author.Tests.{eq-eqb, ne-eqb}
 use Rattle.double.specs.laws.Calls.{asks-nothing}
 use Rattle.chain.proofs.next_refusal.Statement.{statement}

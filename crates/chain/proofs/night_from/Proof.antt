@@ -1,4 +1,4 @@
--- `chain::night_from` meets its contract. Assumes nothing.
+-- `chain::night_from` meets its contract.
 use Rattle.double.specs.laws.Calls.{asks-nothing}
 use Rattle.elementary.specs.rules.Sine.{turnOf}
 use Rattle.chain.specs.rules.Night.{nightFrom}

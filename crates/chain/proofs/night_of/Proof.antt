@@ -1,4 +1,4 @@
--- `chain::night_of` meets its contract. Assumes nothing.
+-- `chain::night_of` meets its contract.
 use Rattle.double.specs.laws.Calls.{asks-nothing}
 use mathlib.Core.Path.{ap, _∙_}
 use Rattle.chain.specs.rules.Night.{nightFrom, nightOf}

@@ -1,4 +1,4 @@
--- `chain::point_refusal` meets its contract. Assumes nothing.
+-- `chain::point_refusal` meets its contract.
 use mathlib.Core.Path.{sym}
 use Rattle.double.specs.laws.Calls.{asks-nothing}
 use Rattle.double.specs.laws.Tests.{holds}

@@ -1,4 +1,4 @@
--- `chain::reduced_at` meets its contract. Assumes nothing.
+-- `chain::reduced_at` meets its contract.
 use mathlib.Core.Path.{ap}
 use Rattle.double.specs.laws.Calls.{asks-nothing}
 use Rattle.quantity.specs.declared.EqPoint.{EqPoint}

@@ -1,4 +1,4 @@
--- `chain::reduced_two` meets its contract: each lane is its own star's reduction. Assumes nothing.
+-- `chain::reduced_two` meets its contract: each lane is its own star's reduction.
 use Rattle.double.specs.laws.Calls.{asks-nothing}
 use Rattle.elementary.specs.rules.Direction.{directionsOf}
 use Rattle.chain.specs.rules.Two.{reducedTwo}

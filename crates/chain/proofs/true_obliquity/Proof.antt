@@ -1,4 +1,4 @@
--- `chain::true_obliquity` meets its contract. Assumes nothing.
+-- `chain::true_obliquity` meets its contract.
 use mathlib.Core.Path.{refl}
 use Rattle.chain.specs.rules.Obliquity.{trueObliquity}
 use Rattle.chain.proofs.true_obliquity.Statement.{statement}

@@ -1,4 +1,4 @@
--- The chain is a star's reduction under the night of its two days. Assumes nothing.
+-- The chain is a star's reduction under the night of its two days.
 use Prim.Native.Nat.{ℕ}
 use mathlib.Core.Path.{_≡_, ap, _∙_}
 use lib.Ieee.{Float}

@@ -1,4 +1,4 @@
--- A point within its limits is taken. Assumes nothing.
+-- A point within its limits is taken.
 use mathlib.Core.Path.{_≡_}
 use lib.Ieee.{le, ofBits}
 use Rattle.double.specs.rules.Sign.{size}

@@ -1,5 +1,5 @@
 -- The chain at stated stars, from 2415020.0 to 2451545.0: it answers, and varies, and by the mean obliquity it answers otherwise.
--- Nutation and the Earth's velocity on that day are worked out once, row by row. Assumes nothing.
+-- Nutation and the Earth's velocity on that day are worked out once, row by row.
 use mathlib.Core.Path.{_≡_, refl, sym, subst, _∙_}
 use std.Logic.{_≢_}
 use lib.Ieee.{Float}

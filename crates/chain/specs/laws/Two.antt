@@ -1,4 +1,4 @@
--- What one of two stars side by side has is what it has alone: a reduction in steps, its refusal beside its values. Assumes nothing.
+-- What one of two stars side by side has is what it has alone: a reduction in steps, its refusal beside its values.
 use Prim.Native.Nat.{ℕ}
 use mathlib.Core.Path.{_≡_, refl, sym, ap, _∙_}
 use mathlib.Core.Bool.{Bool, true, false, cond}

@@ -1,5 +1,5 @@
 -- Wrong variants are excluded: each differs from the rule at the input stated. A rule varies: a library that refuses everything, or
--- answers a constant, does not meet it. Assumes nothing.
+-- answers a constant, does not meet it.
 use mathlib.Core.Path.{refl}
 use std.Logic.{_≢_}
 use lib.Ieee.{Float, neg}
@@ -22,7 +22,8 @@ use Rattle.chain.specs.rules.Chain.{pointRefusal, chainRule}
 use Rattle.chain.specs.rules.Night.{nightOf, moved, reducedAt, reducedIn}
 use Rattle.chain.specs.notions.Computed.{computed}
 use Rattle.chain.specs.notions.Still.{still}
-use Rattle.chain.specs.notions.Wrong.{obliquityOfOneDay, lastTermAdded, meanForTrue, nutationTakenAway, nightOfOneDay, precessedPointNotSteep, aberrationAddedFirst, anglesOfTheNightNotTested, placeNotRefused}
+use Rattle.chain.specs.notions.Wrong.{obliquityOfOneDay, lastTermAdded, meanForTrue, nutationTakenAway, nightOfOneDay, precessedPointNotSteep}
+use Rattle.chain.specs.notions.Wrong.{aberrationAddedFirst, anglesOfTheNightNotTested, placeNotRefused}
 
 abbrev shift : Float → Shift
 shift x = record { asc = rad x; dec = r0 }

@@ -1,4 +1,4 @@
--- How refused calls refuse alike in a mirror: what the arguments refuse comes first, then what the work meets. Assumes nothing.
+-- How refused calls refuse alike in a mirror: what the arguments refuse comes first, then what the work meets.
 use Prim.Native.Nat.{ℕ}
 use mathlib.Core.Path.{_≡_, sym, ap, subst}
 use mathlib.Core.Bool.{Bool, true, false, cond}

@@ -1,4 +1,4 @@
--- What a law of a rule says of answers: of the functions as of the rules, and of refused calls. Assumes nothing.
+-- What a law of a rule says of answers: of the functions as of the rules, and of refused calls.
 use Prim.Native.Nat.{ℕ}
 use mathlib.Core.Path.{_≡_, ap, sym, _∙_}
 use lib.Ieee.{Float}
@@ -14,7 +14,8 @@ use Rattle.quantity.specs.declared.Rad.{Rad}
 use Rattle.quantity.specs.declared.EqPoint.{EqPoint}
 use Rattle.quantity.specs.declared.EclPoint.{EclPoint}
 use Rattle.quantity.specs.rules.Answer.{Answer, answered, refused, Pair, Triple, shown, shownTwo, shownThree, shownDegrees, shownRadians, shownPoint, with}
-use Rattle.quantity.specs.laws.Answer.{carried, unique, shown-loses-nothing, shown-two-loses-nothing, shown-three-loses-nothing, shown-degrees-loses-nothing, shown-radians-loses-nothing, shown-point-loses-nothing}
+use Rattle.quantity.specs.laws.Answer.{carried, unique, shown-loses-nothing, shown-two-loses-nothing, shown-three-loses-nothing}
+use Rattle.quantity.specs.laws.Answer.{shown-degrees-loses-nothing, shown-radians-loses-nothing, shown-point-loses-nothing}
 use Rattle.root.specs.declared.Bits.{Bits}
 use Rattle.root.specs.rules.Bits.{shownBits}
 use Rattle.root.specs.laws.Bits.{shown-bits-loses-nothing}

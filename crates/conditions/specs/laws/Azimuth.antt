@@ -1,5 +1,5 @@
 -- Condition 3, on every answered call: azimuth keeps the sign of the sine of the hour angle, and its size is at most a quarter turn, or
--- at least one, as the arctangent's second argument bears no minus sign or bears one. Assumes nothing.
+-- at least one, as the arctangent's second argument bears no minus sign or bears one.
 use mathlib.Core.Path.{_≡_}
 use mathlib.Core.Bool.{true, false}
 use Rattle.double.specs.rules.Sign.{bearsMinus, size}

@@ -1,7 +1,6 @@
 -- Condition 3: negate declination with latitude, the arctangent's second argument not being zero: altitude stays, the azimuth's
 -- sign stays, and the size with a negative second argument is PI less the other, rounded once. Refused calls refuse alike, whatever the
 -- second argument.
--- Assumes nothing.
 use Prim.Native.Nat.{ℕ}
 use mathlib.Core.Path.{_≡_, sym, ap, _∙_}
 use mathlib.Core.Bool.{Bool, true, false, not, _&&_}

@@ -1,4 +1,4 @@
--- Condition 3 of the functions: what holds of the rules holds of any answers that meet the functions' contracts. Assumes nothing.
+-- Condition 3 of the functions: what holds of the rules holds of any answers that meet the functions' contracts.
 use Prim.Native.Nat.{ℕ}
 use mathlib.Core.Path.{_≡_, sym, ap, _∙_}
 use mathlib.Core.Bool.{true, false}
@@ -22,7 +22,8 @@ use Rattle.conditions.specs.notions.Mirror.{oppositePoint}
 use Rattle.conditions.specs.laws.Answers.{answered-by, mirrored, unchanged}
 use Rattle.conditions.specs.laws.Azimuth.{azimuth-sign, azimuth-at-most-quarter-turn, azimuth-at-least-quarter-turn}
 use Rattle.conditions.specs.laws.HourAngle.{azimuth-hour, altitude-hour}
-use Rattle.conditions.specs.laws.Declination.{altitude-declination, azimuth-refused-there, azimuth-refused-here, azimuth-sign-stays, azimuth-size-there, azimuth-size-here}
+use Rattle.conditions.specs.laws.Declination.{altitude-declination, azimuth-refused-there, azimuth-refused-here, azimuth-sign-stays}
+use Rattle.conditions.specs.laws.Declination.{azimuth-size-there, azimuth-size-here}
 use Rattle.conditions.specs.laws.RightAscension.{ecliptic-mirror, ecliptic-refused-there, ecliptic-refused-here}
 
 -- ---- azimuth answers v

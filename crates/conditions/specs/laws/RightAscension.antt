@@ -1,5 +1,5 @@
 -- Condition 3: negate right ascension with declination, and ecliptic longitude and latitude each change sign only, provided the sums
--- behind both are not zero. Refused calls refuse alike, whatever the sums. Assumes nothing.
+-- behind both are not zero. Refused calls refuse alike, whatever the sums.
 use Prim.Native.Nat.{ℕ}
 use mathlib.Core.Path.{_≡_, refl, sym, ap, _∙_}
 use mathlib.Core.Bool.{Bool, true, false}

@@ -1,5 +1,4 @@
 -- Negate declination with latitude, and rise, culmination and set stay, refusals included: both products keep their bits.
--- Assumes nothing.
 use mathlib.Core.Path.{_≡_, _∙_}
 use lib.Ieee.{binary64, neg}
 use Rattle.double.specs.laws.Mirror.{mul-neg-neg}

@@ -1,4 +1,4 @@
--- Wrong statements of the conditions are excluded: each fails at the input stated. Assumes nothing.
+-- Wrong statements of the conditions are excluded: each fails at the input stated.
 use mathlib.Core.Path.{_≡_, refl}
 use mathlib.Core.Bool.{false}
 use std.Logic.{_≢_}

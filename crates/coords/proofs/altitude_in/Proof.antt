@@ -1,4 +1,4 @@
--- `coords::altitude_in` meets its contract. Assumes nothing.
+-- `coords::altitude_in` meets its contract.
 use Rattle.double.specs.laws.Calls.{asks-nothing}
 use Rattle.elementary.specs.rules.Sine.{turnsOf}
 use Rattle.coords.specs.rules.Horizon.{altitudeIn}

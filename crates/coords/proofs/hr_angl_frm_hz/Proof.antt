@@ -1,4 +1,4 @@
--- `coords::hr_angl_frm_hz` meets its contract. Assumes nothing.
+-- `coords::hr_angl_frm_hz` meets its contract.
 use Rattle.double.specs.laws.Calls.{asks-nothing}
 use Rattle.quantity.specs.laws.Answer.{refuses, goes-on}
 use Rattle.coords.proofs.hr_angl_frm_hz.Statement.{statement}

@@ -1,4 +1,4 @@
--- `coords::hr_angl_frm_loc_sidr` meets its contract. Assumes nothing.
+-- `coords::hr_angl_frm_loc_sidr` meets its contract.
 use Rattle.double.specs.laws.Calls.{asks-nothing}
 use mathlib.Core.Path.{refl}
 use Rattle.quantity.specs.laws.Answer.{refuses, goes-on}

@@ -1,4 +1,4 @@
--- `coords::hr_angl_frm_observer_long` meets its contract. Assumes nothing.
+-- `coords::hr_angl_frm_observer_long` meets its contract.
 use Rattle.double.specs.laws.Calls.{asks-nothing}
 use mathlib.Core.Path.{ap}
 use Rattle.quantity.specs.rules.Answer.{answered}

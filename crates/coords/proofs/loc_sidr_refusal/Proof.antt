@@ -1,4 +1,4 @@
--- `coords::loc_sidr_refusal` meets its contract. Assumes nothing.
+-- `coords::loc_sidr_refusal` meets its contract.
 use Rattle.double.specs.laws.Calls.{asks-nothing}
 use Rattle.coords.proofs.loc_sidr_refusal.Statement.{statement}
 use Rattle.coords.proofs.loc_sidr_refusal.Tie as tie

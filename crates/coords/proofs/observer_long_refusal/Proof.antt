@@ -1,4 +1,4 @@
--- `coords::observer_long_refusal` meets its contract. Assumes nothing.
+-- `coords::observer_long_refusal` meets its contract.
 use Rattle.double.specs.laws.Calls.{asks-nothing}
 use Rattle.coords.proofs.observer_long_refusal.Statement.{statement}
 use Rattle.coords.proofs.observer_long_refusal.Tie as tie

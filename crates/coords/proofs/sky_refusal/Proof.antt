@@ -1,4 +1,4 @@
--- `coords::sky_refusal` meets its contract. Assumes nothing.
+-- `coords::sky_refusal` meets its contract.
 use mathlib.Core.Path.{sym}
 use Rattle.double.specs.laws.Calls.{asks-nothing}
 use Rattle.double.specs.laws.Tests.{holds}

@@ -1,4 +1,4 @@
--- `coords::steep_sky_refusal` meets its contract. Assumes nothing.
+-- `coords::steep_sky_refusal` meets its contract.
 use Rattle.double.specs.laws.Calls.{asks-nothing}
 use Rattle.coords.proofs.steep_sky_refusal.Statement.{statement}
 use Rattle.coords.proofs.steep_sky_refusal.Tie as tie

@@ -1,4 +1,4 @@
--- Arguments within their limits are taken. Assumes nothing.
+-- Arguments within their limits are taken.
 use mathlib.Core.Path.{_≡_}
 use Rattle.double.specs.rules.Sign.{size}
 use Rattle.double.specs.rules.Order.{_≼_}

@@ -1,4 +1,4 @@
--- In the crate's edition the rule is the one of before; in the published one it is Meeus's. Assumes nothing.
+-- In the crate's edition the rule is the one of before; in the published one it is Meeus's.
 use mathlib.Core.Path.{_≡_, refl}
 use Rattle.quantity.specs.declared.Rad.{Rad}
 use Rattle.edition.specs.declared.Edition.the-variants.{Crate, Published}

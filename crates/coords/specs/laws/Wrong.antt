@@ -1,5 +1,5 @@
 -- Wrong variants are excluded: each differs from the rule at the input stated. A rule varies: a library that refuses everything, or
--- answers a constant, does not meet it. Assumes nothing.
+-- answers a constant, does not meet it.
 use mathlib.Core.Path.{_≡_, refl, sym, ap, subst, _∙_}
 use mathlib.Core.Bool.{false}
 use std.Logic.{_≢_}
@@ -18,7 +18,9 @@ use Rattle.edition.specs.declared.Edition.the-variants.{Crate, Published}
 use Rattle.elementary_arc.specs.notions.Computed.{computed}
 use Rattle.coords.specs.rules.HourAngle.{hrAnglFrmObserverLongRule, hrAnglFrmLocSidrRule}
 use Rattle.coords.specs.rules.Horizon.{azimuthIn, azFrmEqRule, altitudeIn, altFrmEqRule, hrAnglFrmHzIn, hrAnglFrmHzRule, decFrmHzIn, decFrmHzRule}
-use Rattle.coords.specs.notions.Wrong.{longitudeAdded, localTimeTurned, oppositeQuadrant, sineAndCosineTraded, hourAngleReducedFirst, latitudeForDeclination, declinationNotSteep, zenithIsSouth, altitudeRegrouped, limitOfAnAngleForALatitude, hourAngleOfTheRatio, cosineOfAzimuthOnce}
+use Rattle.coords.specs.notions.Wrong.{longitudeAdded, localTimeTurned, oppositeQuadrant, sineAndCosineTraded, hourAngleReducedFirst}
+use Rattle.coords.specs.notions.Wrong.{latitudeForDeclination, declinationNotSteep, zenithIsSouth, altitudeRegrouped}
+use Rattle.coords.specs.notions.Wrong.{limitOfAnAngleForALatitude, hourAngleOfTheRatio, cosineOfAzimuthOnce}
 
 -- ---- hour angles
 

@@ -1,4 +1,4 @@
--- `coords_ecl::ecl_frm_eq` meets its contract. Assumes nothing.
+-- `coords_ecl::ecl_frm_eq` meets its contract.
 use Rattle.double.specs.laws.Calls.{asks-nothing}
 use Rattle.quantity.specs.laws.Answer.{refuses, goes-on}
 use Rattle.coords_ecl.proofs.ecl_frm_eq.Statement.{statement}

@@ -1,4 +1,4 @@
--- `coords_ecl::frame_refusal` meets its contract. Assumes nothing.
+-- `coords_ecl::frame_refusal` meets its contract.
 use Rattle.double.specs.laws.Calls.{asks-nothing}
 use Rattle.coords_ecl.proofs.frame_refusal.Statement.{statement}
 use Rattle.coords_ecl.proofs.frame_refusal.Tie as tie

@@ -1,4 +1,4 @@
--- `coords_ecl::point_of` meets its contract. Assumes nothing.
+-- `coords_ecl::point_of` meets its contract.
 use borrow.Author.Needs.{needs}
 use Rattle.coords_ecl.specs.rules.Point.{pointOf}
 use Rattle.coords_ecl.proofs.point_of.Statement.{statement}

@@ -1,4 +1,4 @@
--- `coords_ecl::steep_frame_refusal` meets its contract. Assumes nothing.
+-- `coords_ecl::steep_frame_refusal` meets its contract.
 use mathlib.Core.Path.{sym}
 use Rattle.double.specs.laws.Calls.{asks-nothing}
 use Rattle.double.specs.laws.Tests.{holds}

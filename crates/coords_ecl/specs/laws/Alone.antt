@@ -1,5 +1,5 @@
 -- The one call is both angles asked for alone, joined: it answers exactly where both are answered, each angle has its bits, and the longitude's
--- refusal comes before the latitude's. Assumes nothing.
+-- refusal comes before the latitude's.
 use Prim.Native.Nat.{ℕ}
 use mathlib.Core.Path.{_≡_, refl, sym, ap, _∙_}
 use mathlib.Core.Bool.{Bool, true, false, cond}

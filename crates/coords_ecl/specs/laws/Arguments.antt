@@ -1,4 +1,4 @@
--- A longitude, a latitude that goes into a tangent and an obliquity within their limits in size are not refused. Assumes nothing.
+-- A longitude, a latitude that goes into a tangent and an obliquity within their limits in size are not refused.
 use mathlib.Core.Path.{_≡_}
 use lib.Ieee.{le, ofBits}
 use Rattle.double.specs.rules.Sign.{size}

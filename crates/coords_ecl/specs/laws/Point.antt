@@ -1,4 +1,4 @@
--- A contract `shownEcliptic r ≡ rule` holds of one r only. Assumes nothing.
+-- A contract `shownEcliptic r ≡ rule` holds of one r only.
 use mathlib.Core.Path.{_≡_}
 use Rattle.coords_ecl.specs.declared.Ecliptic.{Ecliptic}
 use Rattle.coords_ecl.specs.declared.Ecliptic.the-variants.{Is, Refused}

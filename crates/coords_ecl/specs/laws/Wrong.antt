@@ -1,5 +1,5 @@
 -- Wrong variants are excluded: each differs from the rule at the input stated. A rule varies: a library that refuses everything, or
--- answers a constant, does not meet it. Assumes nothing.
+-- answers a constant, does not meet it.
 use mathlib.Core.Path.{refl}
 use std.Logic.{_≢_}
 use lib.Ieee.{neg}
@@ -14,7 +14,8 @@ use Rattle.elementary_arc.specs.notions.Computed.{computed}
 use Rattle.coords_ecl.specs.rules.Point.{pointOf}
 use Rattle.coords_ecl.specs.rules.Ecliptic.{longitudeIn, latitudeIn, eclFrmEqIn, eclFrmEqRule, ascFrmEclIn, ascFrmEclRule, decFrmEclIn, decFrmEclRule}
 use Rattle.coords_ecl.specs.notions.Code.{ofEclPoint}
-use Rattle.coords_ecl.specs.notions.Wrong.{tangentIsSine, latitudeWithoutItsMinus, anglesTraded, latitudeRefusedFirst, latitudeClamped, declinationNotSteep, ascFromTheMirror, decWithTheCosine}
+use Rattle.coords_ecl.specs.notions.Wrong.{tangentIsSine, latitudeWithoutItsMinus, anglesTraded, latitudeRefusedFirst, latitudeClamped}
+use Rattle.coords_ecl.specs.notions.Wrong.{declinationNotSteep, ascFromTheMirror, decWithTheCosine}
 
 -- a right ascension of minus a quarter turn
 abbrev west : Rad

@@ -1,4 +1,4 @@
--- `coords_gal::asc_frm_gal` meets its contract. Assumes nothing.
+-- `coords_gal::asc_frm_gal` meets its contract.
 use Rattle.double.specs.laws.Calls.{asks-nothing}
 use Rattle.quantity.specs.laws.Answer.{refuses, goes-on}
 use Rattle.coords_gal.proofs.asc_frm_gal.Statement.{statement}

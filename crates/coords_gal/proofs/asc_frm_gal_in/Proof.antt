@@ -1,4 +1,4 @@
--- `coords_gal::asc_frm_gal_in` meets its contract. Assumes nothing.
+-- `coords_gal::asc_frm_gal_in` meets its contract.
 use Rattle.double.specs.laws.Calls.{asks-nothing}
 use Rattle.coords_gal.specs.rules.Galactic.{ascFrmGalIn}
 use Rattle.coords_gal.proofs.asc_frm_gal_in.Statement.{statement}

@@ -1,4 +1,4 @@
--- `coords_gal::gal_lat_in` meets its contract. Assumes nothing.
+-- `coords_gal::gal_lat_in` meets its contract.
 use Rattle.double.specs.laws.Calls.{asks-nothing}
 use Rattle.coords_gal.specs.rules.Galactic.{galLatIn}
 use Rattle.coords_gal.proofs.gal_lat_in.Statement.{statement}

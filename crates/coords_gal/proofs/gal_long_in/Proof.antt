@@ -1,4 +1,4 @@
--- `coords_gal::gal_long_in` meets its contract. Assumes nothing.
+-- `coords_gal::gal_long_in` meets its contract.
 use Rattle.double.specs.laws.Calls.{asks-nothing}
 use Rattle.coords_gal.specs.rules.Galactic.{galLongIn}
 use Rattle.coords_gal.proofs.gal_long_in.Statement.{statement}

@@ -1,4 +1,4 @@
--- `coords_gal::gal_refusal` meets its contract. Assumes nothing.
+-- `coords_gal::gal_refusal` meets its contract.
 use Rattle.double.specs.laws.Calls.{asks-nothing}
 use Rattle.coords_gal.proofs.gal_refusal.Statement.{statement}
 use Rattle.coords_gal.proofs.gal_refusal.Tie as tie

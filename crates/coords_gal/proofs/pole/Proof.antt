@@ -1,4 +1,4 @@
--- `coords_gal::pole` meets its contract. Assumes nothing.
+-- `coords_gal::pole` meets its contract.
 use Rattle.double.specs.laws.Calls.{asks-nothing}
 use Rattle.coords_gal.proofs.pole.Statement.{statement}
 use Rattle.coords_gal.proofs.pole.Tie as tie

@@ -1,4 +1,4 @@
--- `coords_gal::round_pole` meets its contract. Assumes nothing.
+-- `coords_gal::round_pole` meets its contract.
 use Rattle.double.specs.laws.Calls.{asks-nothing}
 use Rattle.coords_gal.specs.rules.Galactic.{roundPole}
 use Rattle.coords_gal.proofs.round_pole.Statement.{statement}

@@ -1,4 +1,4 @@
--- `coords_gal::steep_gal_refusal` meets its contract. Assumes nothing.
+-- `coords_gal::steep_gal_refusal` meets its contract.
 use Rattle.double.specs.laws.Calls.{asks-nothing}
 use Rattle.coords_gal.proofs.steep_gal_refusal.Statement.{statement}
 use Rattle.coords_gal.proofs.steep_gal_refusal.Tie as tie

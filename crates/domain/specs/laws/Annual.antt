@@ -1,4 +1,4 @@
--- Annual precession of arguments that are not refused is answered, by finite numbers. Assumes nothing.
+-- Annual precession of arguments that are not refused is answered, by finite numbers.
 use Prim.Native.Nat.{ℕ}
 use mathlib.Core.Path.{_≡_}
 use lib.Ieee.{Float, neg, add, sub, mul, div, le, ofBits, round}

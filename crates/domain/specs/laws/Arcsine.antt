@@ -1,4 +1,4 @@
--- The arcsine of a number from −1.0 to 1.0 is answered: 7 is never met. Assumes nothing.
+-- The arcsine of a number from −1.0 to 1.0 is answered: 7 is never met.
 use Prim.Native.Nat.{ℕ}
 use lib.Dec.{T-not}
 use lib.Ieee.{Float, neg, lt}

@@ -1,5 +1,5 @@
 -- Refraction of an altitude that is not refused is above zero and 35 minutes of arc at most, from the true altitude 30; so an altitude is
--- never raised at the sight nor lowered for planning, and moves by no more than that. Assumes nothing.
+-- never raised at the sight nor lowered for planning, and moves by no more than that.
 use mathlib.Core.Path.{_≡_}
 use lib.Dec.{T}
 use lib.Ieee.{binary64, neg, add, sub, div, le, fits, ofBits, round}

@@ -1,5 +1,5 @@
 -- The angle that goes into refraction's tangent, of an altitude that is not refused: it is 1.57 at most, so that 4 is never met, and from
--- the least angle on the sine has the least bound that refraction needs. Assumes nothing.
+-- the least angle on the sine has the least bound that refraction needs.
 use Prim.Native.Nat.{ℕ, _%_}
 use mathlib.Core.Path.{_≡_, sym, subst}
 use mathlib.Core.Logic.{inl, inr}

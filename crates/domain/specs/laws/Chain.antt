@@ -1,5 +1,5 @@
 -- The chain on arguments that are not refused: the steps at the precessed point refuse nothing but its declination, by 4, so that the
--- chain meets 14, 7 and 4 only, 14 exactly where precession does; and each answer is finite. Assumes nothing.
+-- chain meets 14, 7 and 4 only, 14 exactly where precession does; and each answer is finite.
 use Prim.Native.Nat.{ℕ}
 use mathlib.Core.Path.{_≡_, refl, sym, ap, _∙_, subst}
 use mathlib.Core.Logic.{_↔_, Iff·trans, _⊎_, inl, inr}

@@ -1,5 +1,5 @@
 -- Seconds of arc and of time to degrees, and degrees to radians: every finite double is answered, by a finite number. That x is a double
--- is said by `fits binary64 x`, which every f64 has. Assumes nothing.
+-- is said by `fits binary64 x`, which every f64 has.
 use Prim.Native.Nat.{ℕ}
 use mathlib.Core.Path.{_≡_, refl, sym}
 use mathlib.Core.Bool.{Bool, true, false, cond}

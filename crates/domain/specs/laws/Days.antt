@@ -1,4 +1,4 @@
--- Days that are not refused: a century lies from −20 to 20, and the span of two days, in centuries, from −41 to 41. Assumes nothing.
+-- Days that are not refused: a century lies from −20 to 20, and the span of two days, in centuries, from −41 to 41.
 use mathlib.Core.Path.{_≡_}
 use mathlib.Core.Logic.{inl, inr}
 use native.Mathlib.Omega.{arith}

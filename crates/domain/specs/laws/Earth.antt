@@ -1,5 +1,4 @@
 -- The observer's place from the Earth's centre, for arguments that are not refused: it is answered, by numbers up to 2.0 in size.
--- Assumes nothing.
 use Prim.Native.Nat.{ℕ}
 use mathlib.Core.Path.{_≡_}
 use lib.Ieee.{Float, neg, add, mul, div, eq, le, ofBits, round}

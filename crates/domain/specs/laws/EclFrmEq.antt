@@ -1,5 +1,5 @@
 -- Ecliptic coordinates from equatorial ones: the longitude is half a turn at most in size, the latitude a quarter, and of arguments that
--- are not refused 7 is the only refusal. 14 never comes: no cosine is zero, and an arcsine never meets it. Assumes nothing.
+-- are not refused 7 is the only refusal. 14 never comes: no cosine is zero, and an arcsine never meets it.
 use Prim.Native.Nat.{ℕ}
 use mathlib.Core.Path.{_≡_, refl}
 use lib.Ieee.{neg, add, sub, mul, le, ofBits, round}

@@ -1,5 +1,5 @@
 -- Precession of ecliptic coordinates on arguments that are not refused: each angle that is worked out stays far below 400000.0, each
--- answer is finite, and 7 is the only refusal that the work meets. Assumes nothing.
+-- answer is finite, and 7 is the only refusal that the work meets.
 use Prim.Native.Nat.{ℕ}
 use mathlib.Core.Path.{_≡_, refl}
 use lib.Ieee.{Float, neg, add, sub, mul, div, le, ofBits, round}
@@ -19,7 +19,8 @@ use Rattle.elementary_arc.specs.rules.Arcsine.{arcsineIn}
 use Rattle.helpers.specs.rules.Angle.{arc, degree, radiansOf}
 use Rattle.helpers.specs.rules.Time.{centuryOf}
 use Rattle.precess_ecl.specs.declared.EclTurns.{EclTurns}
-use Rattle.precess_ecl.specs.rules.Numbers.{n0·000598, n47·0029, n0·06603, m0·03302, n0·00006, n174·876384, n3289·4789, n0·60622, n869·8089, n0·50491, n0·03536, n0·000042, n5029·0966, n2·22226, n1·11113, n0·000006}
+use Rattle.precess_ecl.specs.rules.Numbers.{n0·000598, n47·0029, n0·06603, m0·03302, n0·00006, n174·876384, n3289·4789, n0·60622, n869·8089, n0·50491}
+use Rattle.precess_ecl.specs.rules.Numbers.{n0·03536, n0·000042, n5029·0966, n2·22226, n1·11113, n0·000006}
 use Rattle.precess_angles.specs.rules.Days.{spanOf, daysRefusal, placeRefusal}
 use Rattle.precess_ecl.specs.rules.Ecliptic.{eclNu, eclPi, eclRho, eclTurned, eclTurnsOf, eclPlaced, eclTurnedIn, precessEclCoordsRule}
 use Rattle.domain_accepted.specs.laws.Accepted.{angle-between, latitude-sine, latitude-cosine}

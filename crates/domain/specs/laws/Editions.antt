@@ -1,5 +1,4 @@
 -- The published edition has Meeus's third angle as he prints it, whatever the arguments; and from 2451545.0 both editions are one.
--- Assumes nothing.
 use mathlib.Core.Path.{_≡_, refl, sym, ap, _∙_}
 use lib.Ieee.{Float, binary64, neg, add, sub, mul, div, le, ofBits, round}
 use Rattle.double.specs.rules.Operations.{_⊕_, _⊖_, _⊗_}

@@ -1,5 +1,5 @@
 -- No answer of sine, cosine, tangent, arctangent and arcsine, called alone, is a NaN or an infinity, and the arctangent of accepted
--- numbers is refused by 14 only, exactly where both are zero: so is work that goes on from it. Assumes nothing.
+-- numbers is refused by 14 only, exactly where both are zero: so is work that goes on from it.
 use Prim.Native.Nat.{ℕ}
 use mathlib.Core.Path.{_≡_, refl, sym, subst}
 use mathlib.Core.Bool.{Bool, true, false, cond}

@@ -1,6 +1,6 @@
 -- Precession of equatorial coordinates, by either function, on arguments that are not refused: each angle that is worked out stays
 -- far below 400000.0, each answer is finite, and the work meets 14 and 7 only: 14 exactly where both arguments of the arctangent are
--- zero, which is taken before the arcsine. Assumes nothing.
+-- zero, which is taken before the arcsine.
 use Prim.Native.Nat.{ℕ}
 use mathlib.Core.Path.{_≡_, refl}
 use mathlib.Core.Logic.{_↔_, inl, inr}
@@ -26,7 +26,9 @@ use Rattle.helpers.specs.rules.Angle.{arc, degree, radiansOf}
 use Rattle.helpers.specs.rules.Time.{centuryOf}
 use Rattle.precess_angles.specs.declared.EqAngles.{EqAngles}
 use Rattle.precess_angles.specs.declared.EqTurns.{EqTurns}
-use Rattle.precess_angles.specs.rules.Numbers.{n2306·2181, n1·39656, n0·000139, n0·30188, n0·000344, n0·017998, n1·09468, n0·000066, n0·018203, n0·000217, n2004·3109, n0·8533, n0·42665, n0·041833, n2304·25, n1·396, n0·302, n0·018, n0·791, n0·001, n2004·682, n0·853, n0·426, n0·042}
+use Rattle.precess_angles.specs.rules.Numbers.{n2306·2181, n1·39656, n0·000139, n0·30188, n0·000344, n0·017998, n1·09468, n0·000066, n0·018203}
+use Rattle.precess_angles.specs.rules.Numbers.{n0·000217, n2004·3109, n0·8533, n0·42665, n0·041833, n2304·25, n1·396, n0·302, n0·018, n0·791, n0·001}
+use Rattle.precess_angles.specs.rules.Numbers.{n2004·682, n0·853, n0·426, n0·042}
 use Rattle.precess_angles.specs.rules.Days.{spanOf, daysRefusal, placeRefusal}
 use Rattle.precess_angles.specs.rules.Equatorial.{eqXi, eqZeta, eqTheta, eqAnglesOf, turnsOf, eqTurnsOf}
 use Rattle.precess_angles.specs.rules.Fk4.{fk4Century, fk4Span, fk4Xi, fk4Zeta, fk4Theta, degreesAsRadians, fk4Angle, fk4AnglesOf, fk4TurnsOf}

@@ -1,4 +1,4 @@
--- Every function whose work can meet 14 does so at the input stated: there it has no direction to give. Assumes nothing.
+-- Every function whose work can meet 14 does so at the input stated: there it has no direction to give.
 use mathlib.Core.Path.{_≡_, refl}
 use mathlib.Core.Bool.{Bool, true, false}
 use lib.IntN.{negsuc}

@@ -1,6 +1,6 @@
 -- Which refusals the changes of frame meet in the work: those that end in an arctangent 14 only, exactly where both its arguments are
 -- zero, right ascension from ecliptic coordinates not even that, since a cosine is never zero; those that end in an arcsine never 14.
--- Ecliptic coordinates from equatorial ones stand in EclFrmEq. Assumes nothing.
+-- Ecliptic coordinates from equatorial ones stand in EclFrmEq.
 use Prim.Native.Nat.{ℕ}
 use mathlib.Core.Path.{_≡_, subst}
 use mathlib.Core.Logic.{_↔_}
@@ -26,11 +26,13 @@ use Rattle.elementary_arc.specs.laws.Arctangent.{arctangent-refuses-fourteen}
 use Rattle.elementary_arc.specs.laws.Arcsine.{arcsine-never-meets-fourteen}
 use Rattle.helpers.specs.rules.Angle.{radiansOf}
 use Rattle.coords.specs.rules.Arguments.{skyRefusal, steepSkyRefusal}
-use Rattle.coords.specs.rules.Horizon.{southward, azimuthIn, azFrmEqRule, upward, altitudeIn, altFrmEqRule, hrAnglFrmHzIn, hrAnglFrmHzRule, decFrmHzIn, decFrmHzRule}
+use Rattle.coords.specs.rules.Horizon.{southward, azimuthIn, azFrmEqRule, upward, altitudeIn, altFrmEqRule, hrAnglFrmHzIn, hrAnglFrmHzRule}
+use Rattle.coords.specs.rules.Horizon.{decFrmHzIn, decFrmHzRule}
 use Rattle.coords_ecl.specs.rules.Arguments.{frameRefusal, steepFrameRefusal}
 use Rattle.coords_ecl.specs.rules.Ecliptic.{ascFrmEclIn, ascFrmEclRule, decFrmEclIn, decFrmEclRule}
 use Rattle.coords_gal.specs.rules.Arguments.{galRefusal, steepGalRefusal}
-use Rattle.coords_gal.specs.rules.Galactic.{southCelPoleLong, southGalPoleAsc, pole, fromPoleAsc, fromPoleLong, roundPole, galLongIn, galLongFrmEqRule, galLatIn, galLatFrmEqRule, ascFrmGalIn, ascFrmGalRule}
+use Rattle.coords_gal.specs.rules.Galactic.{southCelPoleLong, southGalPoleAsc, pole, fromPoleAsc, fromPoleLong, roundPole, galLongIn}
+use Rattle.coords_gal.specs.rules.Galactic.{galLongFrmEqRule, galLatIn, galLatFrmEqRule, ascFrmGalIn, ascFrmGalRule}
 use Rattle.domain_accepted.specs.laws.Accepted.{none-of-three}
 use Rattle.domain_accepted.specs.laws.Cosine.{cosine-never-zero}
 use Rattle.domain.specs.laws.Elementary.{fourteen-at-end, fourteen-changed, fourteen-accepted}

@@ -1,6 +1,5 @@
 -- No answer of the changes of frame is a NaN or an infinity; altitude, declinations and latitudes are a quarter turn at most in size.
 -- Ecliptic coordinates from equatorial ones stand in EclFrmEq.
--- Assumes nothing.
 use Prim.Native.Nat.{ℕ}
 use mathlib.Core.Path.{_≡_, refl}
 use lib.Ieee.{Float, neg, add, sub, mul, le, ofBits, round}
@@ -28,8 +27,10 @@ use Rattle.coords.specs.rules.Arguments.{skyRefusal, steepSkyRefusal}
 use Rattle.coords_gal.specs.rules.Arguments.{galRefusal, steepGalRefusal}
 use Rattle.coords.specs.rules.HourAngle.{hrAnglFrmObserverLong, observerLongRefusal, hrAnglFrmObserverLongRule, locSidrRefusal, hrAnglFrmLocSidrRule}
 use Rattle.coords_ecl.specs.rules.Ecliptic.{ascFrmEclIn, ascFrmEclRule, decFrmEclIn, decFrmEclRule}
-use Rattle.coords.specs.rules.Horizon.{southward, azimuthIn, azFrmEqRule, upward, altitudeIn, altFrmEqRule, hrAnglFrmHzIn, hrAnglFrmHzRule, decFrmHzIn, decFrmHzRule}
-use Rattle.coords_gal.specs.rules.Galactic.{southCelPoleLong, galPoleAsc, galPoleDec, celPoleLong, southGalPoleAsc, roundPole, galLongIn, galLongFrmEqRule, galLatIn, galLatFrmEqRule, ascFrmGalIn, ascFrmGalRule}
+use Rattle.coords.specs.rules.Horizon.{southward, azimuthIn, azFrmEqRule, upward, altitudeIn, altFrmEqRule, hrAnglFrmHzIn, hrAnglFrmHzRule}
+use Rattle.coords.specs.rules.Horizon.{decFrmHzIn, decFrmHzRule}
+use Rattle.coords_gal.specs.rules.Galactic.{southCelPoleLong, galPoleAsc, galPoleDec, celPoleLong, southGalPoleAsc, roundPole, galLongIn}
+use Rattle.coords_gal.specs.rules.Galactic.{galLongFrmEqRule, galLatIn, galLatFrmEqRule, ascFrmGalIn, ascFrmGalRule}
 use Rattle.domain_accepted.specs.notions.Within.{Angle}
 use Rattle.domain_accepted.specs.notions.Outcome.{Outcome, Never, Seven, Fourteen}
 use Rattle.domain_accepted.specs.laws.Outcome.{outcome-answered, outcome-with, rule-answers}

@@ -1,4 +1,4 @@
--- The century and the two folds into one turn, of arguments that are not refused: what is answered is finite. Assumes nothing.
+-- The century and the two folds into one turn, of arguments that are not refused: what is answered is finite.
 use mathlib.Core.Path.{_≡_}
 use lib.Ieee.{Float}
 use Rattle.double.specs.rules.Operations.{zero}

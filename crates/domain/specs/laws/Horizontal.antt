@@ -1,4 +1,4 @@
--- The equatorial horizontal parallax of a distance that is not refused is answered: the arcsine never meets 7. Assumes nothing.
+-- The equatorial horizontal parallax of a distance that is not refused is answered: the arcsine never meets 7.
 use Prim.Native.Nat.{ℕ}
 use mathlib.Core.Path.{_≡_}
 use lib.Ieee.{Float, binary64, neg, add, sub, mul, div, le, lt, ofBits, ofInt, toUnsigned}

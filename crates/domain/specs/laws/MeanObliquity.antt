@@ -1,5 +1,4 @@
 -- The chain by the mean obliquity refuses exactly where the chain does, by the same number: on an accepted day neither obliquity is refused.
--- Assumes nothing.
 use Prim.Native.Nat.{ℕ}
 use mathlib.Core.Path.{_≡_, refl, sym, subst}
 use mathlib.Core.Bool.{Bool, true, false, cond}

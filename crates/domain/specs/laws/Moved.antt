@@ -1,5 +1,5 @@
 -- What is not below zero raises no double that it is taken from, and lowers none that it is added to. That x is a double is said by
--- `fits binary64 x`, which every f64 has. Assumes nothing.
+-- `fits binary64 x`, which every f64 has.
 use Prim.Native.Nat.{ℕ, _+_, _*_, _≤_}
 use native.Mathlib.Nat.{mul-pos}
 use native.Mathlib.Omega.{arith}

@@ -1,5 +1,4 @@
 -- The five arguments of nutation, each folded into one turn, are up to 7.0 in size, and each row's argument stays far below 400000.0.
--- Assumes nothing.
 use lib.Ieee.{Float, neg, add, sub, mul, div, le, ofBits, round}
 use Rattle.double.specs.rules.Sign.{isFinite}
 use Rattle.double.specs.rules.Order.{Finite}
@@ -7,7 +6,9 @@ use Rattle.double.specs.notions.Range.{known, con, _⊞_, _⊟_, _⊠_, _⧄_}
 use Rattle.quantity.specs.declared.Deg.{Deg}
 use Rattle.helpers.specs.rules.Angle.{degree}
 use Rattle.helpers.specs.laws.Limit.{limited-degrees}
-use Rattle.nutation_args.specs.rules.Numbers.{n134·96298, n477198·867398, n0·0086972, n56250, n357·52772, n35999·05034, n0·0001603, n300000, n297·85036, n445267·11148, n0·0019142, n189474, n93·27191, n483202·017538, n0·0036825, n327270, n125·04452, n1934·136261, n0·0020708, n450000}
+use Rattle.nutation_args.specs.rules.Numbers.{n134·96298, n477198·867398, n0·0086972, n56250, n357·52772, n35999·05034, n0·0001603, n300000}
+use Rattle.nutation_args.specs.rules.Numbers.{n297·85036, n445267·11148, n0·0019142, n189474, n93·27191, n483202·017538, n0·0036825, n327270}
+use Rattle.nutation_args.specs.rules.Numbers.{n125·04452, n1934·136261, n0·0020708, n450000}
 use Rattle.nutation_args.specs.rules.Arguments.{moonM1, sunM, moonD, moonF, moonNode, inTurn, moonFrom, moonOf}
 use Rattle.domain_accepted.specs.notions.Within.{Within}
 use Rattle.domain.specs.notions.Nutation.{MoonNear}

@@ -1,4 +1,4 @@
--- Nutation of a point whose arguments are not refused is answered, by finite numbers. Assumes nothing.
+-- Nutation of a point whose arguments are not refused is answered, by finite numbers.
 use Prim.Native.Nat.{ℕ}
 use mathlib.Core.Path.{_≡_}
 use lib.Ieee.{neg, add, sub, mul, le, ofBits, round}

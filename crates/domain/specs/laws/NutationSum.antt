@@ -1,5 +1,4 @@
 -- Nutation on a day that is not refused: each row's argument stays far below 400000.0, and both sums are up to 1.0 degree in size.
--- Assumes nothing.
 use Prim.Native.Nat.{ℕ}
 use mathlib.Core.Path.{_≡_}
 use mathlib.Core.List.{List, [], _∷_}

@@ -1,4 +1,4 @@
--- What belongs to the observer, and the answer of an arctangent that goes into a sine. Assumes nothing.
+-- What belongs to the observer, and the answer of an arctangent that goes into a sine.
 use Prim.Native.Nat.{ℕ}
 use mathlib.Core.Path.{_≡_}
 use lib.Ieee.{Float, neg, le, ofBits, round}

@@ -1,5 +1,5 @@
 -- Precession of orbital elements on arguments that are not refused: each angle that is worked out stays far below 400000.0, each
--- answer is finite, and the work meets 6 and 7 only: 6 where the node's arctangent would meet 14. Assumes nothing.
+-- answer is finite, and the work meets 6 and 7 only: 6 where the node's arctangent would meet 14.
 use Prim.Native.Nat.{ℕ}
 use mathlib.Core.Path.{_≡_, refl, sym, _∙_}
 use mathlib.Core.Logic.{inl, inr}
@@ -33,8 +33,10 @@ use Rattle.domain_accepted.specs.laws.Accepted.{none-of-three, angle-between, a
 use Rattle.domain_accepted.specs.notions.Outcome.{Outcome, SixOrSeven}
 use Rattle.domain_accepted.specs.notions.Within.{Angle, Within, AllFinite}
 use Rattle.domain.specs.notions.Turns.{EclTurnsNear}
-use Rattle.domain_accepted.specs.laws.Outcome.{outcome-answered, outcome-refused, outcome-cond, outcome-wider, outcome-kept, outcome-with, outcome-then, outcome-both, rule-answers, rule-refuses}
-use Rattle.domain_accepted.specs.laws.Elementary.{arctangent-outcome-of, square-of-zero, arcsine-outcome, arcsine-number-outcome, quotient-not-nan, root-outcome}
+use Rattle.domain_accepted.specs.laws.Outcome.{outcome-answered, outcome-refused, outcome-cond, outcome-wider, outcome-kept, outcome-with}
+use Rattle.domain_accepted.specs.laws.Outcome.{outcome-then, outcome-both, rule-answers, rule-refuses}
+use Rattle.domain_accepted.specs.laws.Elementary.{arctangent-outcome-of, square-of-zero, arcsine-outcome, arcsine-number-outcome, quotient-not-nan}
+use Rattle.domain_accepted.specs.laws.Elementary.{root-outcome}
 use Rattle.domain_accepted.specs.laws.Near.{within, near-far, near-sine, near-cosine}
 use Rattle.domain.specs.laws.Ecliptic.{ecl-turns-near}
 

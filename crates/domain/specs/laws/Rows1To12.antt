@@ -1,5 +1,5 @@
 -- Rows 1 to 12 of aberration, for a century from −20 to 20: each argument is up to 400000.0 in size, and each sum grows by 2000.0 at
--- most after the first two rows. Assumes nothing.
+-- most after the first two rows.
 use lib.Ieee.{Float, neg, add, sub, mul, le, ofBits, round}
 use Rattle.double.specs.rules.Operations.{_⊕_, _⊖_, _⊗_}
 use Rattle.double.specs.rules.Sign.{size, isFinite}
@@ -9,7 +9,9 @@ use Rattle.quantity.specs.rules.Angle.{rad}
 use Rattle.elementary.specs.rules.Sine.{turnOf, farthestAlone}
 use Rattle.elementary.specs.laws.Sine.{sine-between, cosine-between}
 use Rattle.aberr_args.specs.declared.Velocity.{Velocity}
-use Rattle.aberr_table.specs.rules.Numbers.{n2, n3, n4, n5, n6, n8, n9, n10, n11, n12, n13, n15, n16, n25, n26, n28, n30, n31, n32, n33, n36, n39, n48, n55, n59, n61, n94, n95, n107, n130, n141, n147, n156, n159, n193, n216, n236, n282, n285, n358, n446, n486, n656, n657, n715, n2559, n5904, n6434, n11141, n25697, n28007, n684185, n1578089, n1719914}
+use Rattle.aberr_table.specs.rules.Numbers.{n2, n3, n4, n5, n6, n8, n9, n10, n11, n12, n13, n15, n16, n25, n26, n28, n30, n31, n32, n33, n36, n39}
+use Rattle.aberr_table.specs.rules.Numbers.{n48, n55, n59, n61, n94, n95, n107, n130, n141, n147, n156, n159, n193, n216, n236, n282, n285, n358}
+use Rattle.aberr_table.specs.rules.Numbers.{n446, n486, n656, n657, n715, n2559, n5904, n6434, n11141, n25697, n28007, n684185, n1578089, n1719914}
 use Rattle.aberr_args.specs.rules.Arguments.{argumentsOf}
 use Rattle.aberr_table.specs.rules.Rows.{row1, row2, row3, row4, row5, row6, row7, row8, row9, row10, row11, row12}
 use Rattle.domain_accepted.specs.notions.Within.{Within}

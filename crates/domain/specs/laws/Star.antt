@@ -1,5 +1,5 @@
 -- What the batch stores of a star: its status is 0, 4, 7, 9 or 14 where the days are not refused, 14 exactly where the star is in range
--- and has no direction after precession; and both angles are finite. Assumes nothing.
+-- and has no direction after precession; and both angles are finite.
 use Prim.Native.Nat.{ℕ}
 use mathlib.Core.Path.{_≡_, refl}
 use mathlib.Core.Logic.{_↔_, inl, inr}

@@ -1,5 +1,5 @@
 -- Stellar aberration on a day and of a point that are not refused is answered, by finite numbers; the Earth's velocity is up to 2272000.0
--- in size, in the unit of the rows. Assumes nothing.
+-- in size, in the unit of the rows.
 use Prim.Native.Nat.{ℕ}
 use mathlib.Core.Path.{_≡_}
 use lib.Ieee.{Float, neg, add, sub, mul, div, le, ofBits, round}
@@ -25,9 +25,12 @@ use Rattle.domain.specs.notions.Aberration.{Held}
 use Rattle.domain_accepted.specs.laws.Outcome.{outcome-answered, rule-answers, rule-refuses}
 use Rattle.domain_accepted.specs.laws.Near.{within}
 use Rattle.domain.specs.laws.Days.{century-within}
-use Rattle.domain.specs.laws.Rows1To12.{row1-held, row2-held, row3-held, row4-held, row5-held, row6-held, row7-held, row8-held, row9-held, row10-held, row11-held, row12-held}
-use Rattle.domain.specs.laws.Rows13To24.{row13-held, row14-held, row15-held, row16-held, row17-held, row18-held, row19-held, row20-held, row21-held, row22-held, row23-held, row24-held}
-use Rattle.domain.specs.laws.Rows25To36.{row25-held, row26-held, row27-held, row28-held, row29-held, row30-held, row31-held, row32-held, row33-held, row34-held, row35-held, row36-held}
+use Rattle.domain.specs.laws.Rows1To12.{row1-held, row2-held, row3-held, row4-held, row5-held, row6-held, row7-held, row8-held, row9-held}
+use Rattle.domain.specs.laws.Rows1To12.{row10-held, row11-held, row12-held}
+use Rattle.domain.specs.laws.Rows13To24.{row13-held, row14-held, row15-held, row16-held, row17-held, row18-held, row19-held, row20-held}
+use Rattle.domain.specs.laws.Rows13To24.{row21-held, row22-held, row23-held, row24-held}
+use Rattle.domain.specs.laws.Rows25To36.{row25-held, row26-held, row27-held, row28-held, row29-held, row30-held, row31-held, row32-held}
+use Rattle.domain.specs.laws.Rows25To36.{row33-held, row34-held, row35-held, row36-held}
 
 -- ---- the Earth's velocity
 

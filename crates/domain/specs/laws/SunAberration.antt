@@ -1,4 +1,4 @@
--- Solar aberration at a distance that is not refused is finite. Assumes nothing.
+-- Solar aberration at a distance that is not refused is finite.
 use Prim.Native.Nat.{ℕ}
 use mathlib.Core.Path.{_≡_}
 use lib.Ieee.{Float, neg, mul, div, le, ofBits, round}

@@ -1,6 +1,6 @@
 -- Topocentric equatorial coordinates of arguments that are not refused: each angle that is worked out stays far below 400000.0, each
 -- answer is finite, and 14 is the only refusal that the work meets: exactly where both arguments of one of its two arctangents are
--- zero. Assumes nothing.
+-- zero.
 use Prim.Native.Nat.{ℕ}
 use mathlib.Core.Path.{_≡_, refl, sym}
 use mathlib.Core.Bool.{Bool, true, false, cond, _||_}

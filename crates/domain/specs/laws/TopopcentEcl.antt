@@ -1,6 +1,6 @@
 -- Topocentric ecliptic coordinates on arguments that are not refused: each angle that is worked out stays far below 400000.0, each
 -- answer is finite, and the work meets 6 and 7 only: N, the second argument of both arctangents, is tested first. The published
--- latitude lies within a quarter turn, but beside a longitude that is one to the last bit. Assumes nothing.
+-- latitude lies within a quarter turn, but beside a longitude that is one to the last bit.
 use Prim.Native.Nat.{ℕ}
 use mathlib.Core.Path.{_≡_, refl, sym, ap, _∙_, subst}
 use mathlib.Core.Logic.{_⊎_, inl, inr}
@@ -32,18 +32,21 @@ use Rattle.elementary.specs.rules.Sine.{sineOf, cosineOf, farthestAlone}
 use Rattle.elementary_arc.specs.rules.Arctangent.{base, turned, arctangentOf, arctangentIn}
 use Rattle.elementary_arc.specs.rules.Arcsine.{arcsineIn}
 use Rattle.elementary.specs.laws.Accepted.{lower-none, answered-unless}
-use Rattle.elementary_arc.specs.laws.Arctangent.{arctangent-size, arctangent-answered, arctangent-in-at-most-half, arctangent-in-at-least-half, arctangent-in-at-most-pi}
+use Rattle.elementary_arc.specs.laws.Arctangent.{arctangent-size, arctangent-answered, arctangent-in-at-most-half, arctangent-in-at-least-half}
+use Rattle.elementary_arc.specs.laws.Arctangent.{arctangent-in-at-most-pi}
 use Rattle.helpers.specs.rules.Angle.{withinTwoPI}
 use Rattle.helpers.specs.rules.Earth.{rhoIn}
 use Rattle.helpers.specs.laws.Limit.{limited-radians}
 use Rattle.parallax.specs.rules.Observer.{centreOf, observerRefusal}
-use Rattle.parallax_ecl.specs.rules.Ecliptic.{nearby, longTop, upward, latOfCrate, latPublished, latTop, semidiameterIn, eclipticFrom, eclipticAlong, eclipticAt, eclipticIn, topopcentRefusal, topopcentEclCoordsRule}
+use Rattle.parallax_ecl.specs.rules.Ecliptic.{nearby, longTop, upward, latOfCrate, latPublished, latTop, semidiameterIn, eclipticFrom, eclipticAlong}
+use Rattle.parallax_ecl.specs.rules.Ecliptic.{eclipticAt, eclipticIn, topopcentRefusal, topopcentEclCoordsRule}
 use Rattle.domain_accepted.specs.laws.Accepted.{angle-sine, angle-cosine, latitude-sine, latitude-cosine}
 use Rattle.domain_accepted.specs.notions.Away.{pastHalf}
 use Rattle.domain_accepted.specs.notions.Outcome.{Outcome, Never, SixOrSeven}
 use Rattle.domain_accepted.specs.notions.Within.{Angle, Within, AllFinite}
 use Rattle.domain_accepted.specs.laws.Outcome.{outcome-answered, outcome-refused, outcome-cond, outcome-then, outcome-wider, rule-answers, rule-refuses}
-use Rattle.domain_accepted.specs.laws.Elementary.{second-not-zero, arctangent-number-outcome, arctangent-number-at-most-half, arcsine-number-outcome, quotient-not-nan, quotient-no-minus, quotient-not-zero}
+use Rattle.domain_accepted.specs.laws.Elementary.{second-not-zero, arctangent-number-outcome, arctangent-number-at-most-half, arcsine-number-outcome}
+use Rattle.domain_accepted.specs.laws.Elementary.{quotient-not-nan, quotient-no-minus, quotient-not-zero}
 use Rattle.domain_accepted.specs.laws.Cosine.{cosine-away, away-not-zero, cosine-ahead, cosine-behind}
 use Rattle.domain_accepted.specs.laws.Neighbours.{neighbours}
 use Rattle.domain_accepted.specs.laws.Near.{within, near-far, near-cosine}

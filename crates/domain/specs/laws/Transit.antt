@@ -1,5 +1,5 @@
 -- Rise, culmination and set of arguments that are not refused: the arc lies from 0 to PI, each fraction from 0 to 1, and the work meets
--- 15 and 16 only, so that 7 never follows them. Assumes nothing.
+-- 15 and 16 only, so that 7 never follows them.
 use Prim.Native.Nat.{ℕ}
 use mathlib.Core.Path.{_≡_, refl}
 use mathlib.Core.Bool.{cond}

@@ -1,4 +1,4 @@
--- Wrong statements are refuted: each fails at the input stated. Assumes nothing.
+-- Wrong statements are refuted: each fails at the input stated.
 use Prim.Native.Nat.{ℕ}
 use mathlib.Core.Path.{_≡_, refl}
 use mathlib.Core.Logic.{inl, inr}
@@ -29,7 +29,8 @@ use Rattle.nutation_args.specs.rules.Sum.{summed, none}
 use Rattle.nutation_args.specs.notions.Computed as nutation
 use Rattle.nutation_table.specs.rules.Rows.{rows}
 use Rattle.parallax.specs.rules.Observer.{centreOf, observerRefusal}
-use Rattle.parallax_ecl.specs.rules.Ecliptic.{nearby, longTop, upward, latPublished, latTop, semidiameterIn, eclipticFrom, eclipticAlong, eclipticAt, eclipticIn, topopcentRefusal, topopcentEclCoordsRule}
+use Rattle.parallax_ecl.specs.rules.Ecliptic.{nearby, longTop, upward, latPublished, latTop, semidiameterIn, eclipticFrom, eclipticAlong, eclipticAt}
+use Rattle.parallax_ecl.specs.rules.Ecliptic.{eclipticIn, topopcentRefusal, topopcentEclCoordsRule}
 use Rattle.atmos.specs.rules.Refraction.{refracFrmApprntAltOf, refracFrmTrueAltOf, altRefusal}
 use Rattle.atmos.specs.notions.Computed as atmos
 use Rattle.atmos.specs.notions.Stated.{lowest}

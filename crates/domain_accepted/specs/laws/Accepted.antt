@@ -1,4 +1,4 @@
--- What is known of angles that are not refused: each may go into a sine, and a steep one into a tangent. Assumes nothing.
+-- What is known of angles that are not refused: each may go into a sine, and a steep one into a tangent.
 use mathlib.Core.Path.{_≡_}
 use Prim.Native.Nat.{ℕ}
 use lib.Ieee.{neg, le, ofBits}

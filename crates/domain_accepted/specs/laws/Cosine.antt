@@ -1,5 +1,4 @@
 -- The cosine of an angle up to 80.0 in size is 2^−100 at least in size, so that it is never zero; up to half a turn its sign is known.
--- Assumes nothing.
 use Prim.Native.Nat.{ℕ, zero, suc, _%_, _^_, _≤_, _<_}
 use native.Mathlib.Nat.{le-trans as le-trans-ℕ, le-of-suc-le-suc, eq-or-lt-of-le}
 use native.Mathlib.Omega.{arith}
@@ -32,7 +31,8 @@ use Rattle.elementary.specs.rules.Sine.{cosineQuarter, foldedCosine, cosineOf, 
 use Rattle.elementary.specs.laws.Accepted.{angle-accepted, latitude-accepted}
 use Rattle.elementary.specs.laws.Fold.{rest-at-most-one}
 use Rattle.elementary.specs.laws.Sine.{sineExpr, cosineExpr, square-one}
-use Rattle.domain_accepted.specs.notions.Away.{away, Away, pastHalf, stepAt, pointAt, lastBelow, firstAbove, fullLength, withinReach, staysBelow, staysAbove, sidesApart, keepsAway, allBelow}
+use Rattle.domain_accepted.specs.notions.Away.{away, Away, pastHalf, stepAt, pointAt, lastBelow, firstAbove, fullLength, withinReach}
+use Rattle.domain_accepted.specs.notions.Away.{staysBelow, staysAbove, sidesApart, keepsAway, allBelow}
 use Rattle.domain_accepted.specs.laws.Neighbours.{neighbours}
 
 -- ---- the series

@@ -1,4 +1,4 @@
--- What arctangent, arcsine and root answer to numbers met in the work: 14 and 7 are the only refusals. Assumes nothing.
+-- What arctangent, arcsine and root answer to numbers met in the work: 14 and 7 are the only refusals.
 use Prim.Native.Nat.{ℕ, suc, _+_, _*_, _≤_}
 use mathlib.Core.Path.{_≡_, refl, sym, ap, _∙_, subst}
 use mathlib.Core.Bool.{Bool, true, false, not, cond}

@@ -1,4 +1,4 @@
--- Both arguments of the azimuth's arctangent are finite, of arguments that are not refused. Assumes nothing.
+-- Both arguments of the azimuth's arctangent are finite, of arguments that are not refused.
 use mathlib.Core.Path.{_≡_}
 use lib.Ieee.{binary64, neg, add, sub, mul, le, ofBits, round}
 use Rattle.double.specs.rules.Sign.{isFinite}

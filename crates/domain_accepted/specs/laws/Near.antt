@@ -1,4 +1,4 @@
--- Bounds by whole numbers, and the sines of angles up to 2048.0 in size. Assumes nothing.
+-- Bounds by whole numbers, and the sines of angles up to 2048.0 in size.
 use Prim.Native.Nat.{ℕ}
 use lib.Dec.{T}
 use lib.Ieee.{Float, binary64, neg, le, ofBits, round}

@@ -1,4 +1,4 @@
--- No double lies between the points k / 2^(j + 1) and (k + 1) / 2^(j + 1), where k has 53 digits. Assumes nothing.
+-- No double lies between the points k / 2^(j + 1) and (k + 1) / 2^(j + 1), where k has 53 digits.
 use mathlib.Core.Path.{_≡_, sym, ap, _∙_}
 use mathlib.Core.Logic.{_⊎_, inl, inr}
 use mathlib.Core.Bool.{Bool, true, false, _&&_}

@@ -1,4 +1,4 @@
--- How what is known of an answer goes through the work, and what a rule that refuses first then answers. Assumes nothing.
+-- How what is known of an answer goes through the work, and what a rule that refuses first then answers.
 use Prim.Native.Nat.{ℕ}
 use mathlib.Core.Path.{_≡_, refl, sym, subst}
 use mathlib.Core.Bool.{Bool, true, false, not, cond}

@@ -1,4 +1,4 @@
--- `double::either` meets its contract. Assumes nothing.
+-- `double::either` meets its contract.
 use Rattle.double.proofs.either.Statement.{statement}
 use Rattle.double.proofs.either.Tie as tie
 

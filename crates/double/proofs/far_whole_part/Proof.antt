@@ -1,4 +1,4 @@
--- `double::far_whole_part` meets its contract. Assumes nothing.
+-- `double::far_whole_part` meets its contract.
 use borrow.Author.Needs.{needs}
 use mathlib.Core.Path.{sym, subst}
 use lib.Dec.{T}

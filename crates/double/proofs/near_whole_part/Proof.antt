@@ -1,4 +1,4 @@
--- `double::near_whole_part` meets its contract; that the format holds x is what owning an `f64` tells. Assumes nothing.
+-- `double::near_whole_part` meets its contract; that the format holds x is what owning an `f64` tells.
 use borrow.Author.Needs.{needs}
 use mathlib.Core.Path.{sym, subst}
 use native.Mathlib.Omega.{arith}

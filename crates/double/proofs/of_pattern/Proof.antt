@@ -1,4 +1,4 @@
--- `double::of_pattern` meets its contract. Assumes nothing.
+-- `double::of_pattern` meets its contract.
 use borrow.Author.Needs.{needs}
 use mathlib.Core.Path.{_≡_, refl, sym, _∙_}
 use lib.Ieee.{nan}

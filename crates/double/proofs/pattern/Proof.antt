@@ -1,4 +1,4 @@
--- `double::pattern` meets its contract. Assumes nothing.
+-- `double::pattern` meets its contract.
 use Rattle.double.specs.rules.Pattern.{patternOf}
 use Rattle.double.proofs.Tests.{itself}
 use Rattle.double.proofs.pattern.Statement.{statement}

@@ -1,4 +1,4 @@
--- Two values are apart where a number that is read off them differs. Assumes nothing.
+-- Two values are apart where a number that is read off them differs.
 use Prim.Native.Nat.{ℕ}
 use mathlib.Core.Path.{_≡_, ap, sym, subst, _∙_}
 use mathlib.Core.Bool.{false}

@@ -1,4 +1,4 @@
--- Doubles between two others, and sizes up to a limit. Assumes nothing.
+-- Doubles between two others, and sizes up to a limit.
 use mathlib.Core.Path.{_≡_, subst}
 use mathlib.Core.Logic.{_⊎_, inl, inr}
 use native.Mathlib.Omega.{arith}

@@ -1,4 +1,4 @@
--- Doubles as whole numbers: each is its count over 2^1074, and the count has at most 53 digits before its zeros. Assumes nothing.
+-- Doubles as whole numbers: each is its count over 2^1074, and the count has at most 53 digits before its zeros.
 use mathlib.Core.Path.{_≡_, refl, sym, ap, _∙_}
 use mathlib.Core.Bool.{Bool, true, false, _&&_, true≢false}
 use Prim.Native.Nat.{ℕ, zero, suc, _+_, _-_, _*_, _/_, _%_, _^_, _≤_, _<_}

@@ -1,8 +1,8 @@
 -- A format writes a value in one way, so a double taken from zero is the double negated, and its size the larger of the two.
--- Assumes nothing.
 use mathlib.Core.Path.{_≡_, refl, sym, ap, _∙_, subst}
 use Prim.Native.Nat.{ℕ, zero, suc, _+_, _*_, _%_, _^_, _≤_, _<_}
-use native.Mathlib.Nat.{zero-add, mul-one, one-mul, zero-mul, mul-assoc, mul-left-comm, mul-right-comm, mul-pos, zero-lt-suc, lt-irrefl, sub-zero, pow-succ', eq-of-mul-eq-mul-right}
+use native.Mathlib.Nat.{zero-add, mul-one, one-mul, zero-mul, mul-assoc, mul-left-comm, mul-right-comm, mul-pos, zero-lt-suc, lt-irrefl, sub-zero}
+use native.Mathlib.Nat.{pow-succ', eq-of-mul-eq-mul-right}
 use native.Mathlib.Omega.{arith}
 use mathlib.Core.Bool.{Bool, true, false, cond, _&&_}
 use lib.IntN.{ℤ, pos, negsuc}

@@ -1,4 +1,4 @@
--- What each operation rounds, and that rounding keeps the order of the fractions. Assumes nothing.
+-- What each operation rounds, and that rounding keeps the order of the fractions.
 use mathlib.Core.Path.{_≡_, refl, sym, ap, _∙_}
 use mathlib.Core.Logic.{inl, inr}
 use Prim.Native.Nat.{ℕ, _+_, _-_, _*_, _≤_, _<_}

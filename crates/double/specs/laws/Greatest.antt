@@ -1,5 +1,5 @@
 -- Every finite double lies from the negated greatest to the greatest. A `Float` need not be a double: `fits binary64 x` says that x is
--- one, and holds of `bits n` for every n. Assumes nothing.
+-- one, and holds of `bits n` for every n.
 use Prim.Native.Nat.{ℕ, zero, suc, _+_, _-_, _*_, _%_, _^_, _≤_, _<_}
 use mathlib.Core.Path.{_≡_, sym, ap, _∙_, subst}
 use native.Mathlib.Nat.{le-of-lt, mul-assoc, mul-one, mul-le-mul, mul-le-mul-right, le-mul-of-pos-right, lt-of-mul-lt-mul-right, le-trans}

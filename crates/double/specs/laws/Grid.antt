@@ -1,5 +1,5 @@
 -- A rounded fraction stands to a point k / 2^(j + 1) as the fraction does, so an inequality with such a point goes through an
--- operation with no error term. Assumes nothing.
+-- operation with no error term.
 use mathlib.Core.Path.{_≡_, refl, sym, ap, subst}
 use Prim.Native.Nat.{ℕ, suc, _+_, _*_, _^_, _≤_, _<_}
 use native.Mathlib.Nat.{le-trans, lt-of-lt-of-le, mul-comm, mul-one, mul-le-mul-right, le-of-mul-le-mul-right}

@@ -1,6 +1,6 @@
 -- A bound on an expression is a closed test: `bounded f a b e tt` proves that e's value lies from a to b, where e's range, computed
 -- from the bounds of what stands in e, does. `known i` stands for a double with the bounds i, `con c` for a constant; the proof unfolds
--- `isFinite`, `le` and the operations and roundings that stand in e. One theorem, `sound`, is behind it. Assumes nothing.
+-- `isFinite`, `le` and the operations and roundings that stand in e. One theorem, `sound`, is behind it.
 use mathlib.Core.Logic.{inl, inr}
 use mathlib.Core.Bool.{Bool, true, false, _&&_}
 use lib.Dec.{T}
@@ -9,7 +9,8 @@ use lib.Ieee.Fits.{and-l, and-r}
 use lib.Ieee.Positive.{positive, above, above-of-le}
 use Rattle.double.specs.rules.Sign.{isFinite}
 use Rattle.double.specs.rules.Order.{_≼_, Finite, Between}
-use Rattle.double.specs.notions.Range.{Amid, Range, unknown, _to_, In, span, lesser, greater, isBetween, hull, addRange, subRange, mulRange, divRange, Expr, known, con, _⊞_, _⊟_, _⊠_, _⧄_, value, range, inside}
+use Rattle.double.specs.notions.Range.{Amid, Range, unknown, _to_, In, span, lesser, greater, isBetween, hull, addRange, subRange, mulRange}
+use Rattle.double.specs.notions.Range.{divRange, Expr, known, con, _⊞_, _⊟_, _⊠_, _⧄_, value, range, inside}
 use Rattle.double.specs.laws.Tests.{by-test}
 use Rattle.double.specs.laws.Mirror.{mul-comm}
 use Rattle.double.specs.laws.Order.{le-trans}

@@ -1,5 +1,5 @@
 -- The sign laws of the four operations, at every format and for every operand. A sum whose sign is to turn must not be zero,
--- since x + −x is +0 either way round; nothing else is asked. Assumes nothing.
+-- since x + −x is +0 either way round; nothing else is asked.
 use mathlib.Core.Path.{_≡_, refl, ap, _∙_, subst}
 use Prim.Native.Nat.{ℕ, _+_, _-_, _*_, _≤_, _<_}
 use native.Mathlib.Nat as Nat

@@ -1,4 +1,4 @@
--- Each operation keeps the order, or turns it round. Assumes nothing.
+-- Each operation keeps the order, or turns it round.
 use mathlib.Core.Path.{_≡_}
 use mathlib.Core.Logic.{inl, inr}
 use Prim.Native.Nat.{ℕ, _+_, _*_, _≤_, _<_}

@@ -1,9 +1,10 @@
 -- Values near zero, where rounding is coarse: a double is its own rounding, a factor of size 1 at most makes no value larger, and
--- where no operand bears a minus sign no result does. Assumes nothing.
+-- where no operand bears a minus sign no result does.
 use mathlib.Core.Path.{_≡_, refl, sym, ap, _∙_, subst}
 use mathlib.Core.Logic.{inl, inr}
 use Prim.Native.Nat.{ℕ, zero, suc, _+_, _-_, _*_, _%_, _^_, _≤_, _<_}
-use native.Mathlib.Nat.{not-le-of-lt, lt-of-not-le, le-of-suc-le-suc, mul-assoc, mul-comm, mul-one, one-mul, zero-mul, mul-pos, mul-le-mul-right, mul-lt-mul-of-pos-right, mod-lt, le-of-lt, le-of-eq, le-trans as le-trans-ℕ}
+use native.Mathlib.Nat.{not-le-of-lt, lt-of-not-le, le-of-suc-le-suc, mul-assoc, mul-comm, mul-one, one-mul, zero-mul, mul-pos, mul-le-mul-right}
+use native.Mathlib.Nat.{mul-lt-mul-of-pos-right, mod-lt, le-of-lt, le-of-eq, le-trans as le-trans-ℕ}
 use native.Mathlib.Omega.{arith}
 use mathlib.Core.Bool.{Bool, true, false, _&&_, cond}
 use lib.IntN.{ℤ, pos, negsuc}

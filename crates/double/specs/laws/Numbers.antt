@@ -1,4 +1,4 @@
--- Whole numbers: comparison, powers of two and squares. Assumes nothing.
+-- Whole numbers: comparison, powers of two and squares.
 use mathlib.Core.Logic.{_⊎_, inl, inr}
 use mathlib.Core.Bool.{Bool, true, false, not}
 use Prim.Native.Nat.{ℕ, suc, _*_, _^_, _≤_, _<_}

@@ -1,4 +1,4 @@
--- The order of doubles, of both signs. Assumes nothing.
+-- The order of doubles, of both signs.
 use mathlib.Core.Path.{_≡_, refl, sym}
 use mathlib.Core.Logic.{_⊎_, inl, inr}
 use Prim.Native.Nat.{ℕ, _+_, _*_, _≤_, _<_}

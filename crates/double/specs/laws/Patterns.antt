@@ -1,4 +1,4 @@
--- Bit patterns of doubles: what each counts, and which are a finite double's. Assumes nothing.
+-- Bit patterns of doubles: what each counts, and which are a finite double's.
 use mathlib.Core.Path.{_≡_, refl, sym, ap, _∙_, subst}
 use mathlib.Core.Logic.{_⊎_, inl, inr}
 use mathlib.Core.Bool.{Bool, true, false, not, cond, true≢false}

@@ -1,4 +1,4 @@
--- A double's bits read back as that double, and a pattern that no NaN has as those bits. Assumes nothing.
+-- A double's bits read back as that double, and a pattern that no NaN has as those bits.
 use mathlib.Core.Path.{_≡_, refl, sym, ap, _∙_}
 use mathlib.Core.Bool.{Bool, true, false, not, cond, true≢false}
 use Prim.Native.Nat.{ℕ, _*_, _%_, _^_, _≤_, _<_}

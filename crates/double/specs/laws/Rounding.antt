@@ -1,4 +1,4 @@
--- A fraction rounded: rounding hands the sign on, keeps zero zero, and makes no NaN. Assumes nothing.
+-- A fraction rounded: rounding hands the sign on, keeps zero zero, and makes no NaN.
 use mathlib.Core.Path.{_≡_, refl, sym, ap, _∙_, subst}
 use Prim.Native.Nat.{ℕ, zero, suc, _+_, _-_, _*_, _/_, _%_, _^_, _<_, compare, compare·zero-suc}
 use native.Mathlib.Nat.{zero-mul, zero-div, zero-mod}

@@ -1,5 +1,4 @@
 -- The sign bit: a double that is no NaN bears a minus sign where its bit pattern is the sign's weight or more, 2^63.
--- Assumes nothing.
 use mathlib.Core.Path.{_≡_, refl, subst}
 use Prim.Native.Nat.{ℕ, _+_, _-_, _*_, _/_, _^_, _<_}
 use native.Mathlib.Nat.{not-le-of-lt}

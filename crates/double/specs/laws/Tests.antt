@@ -1,4 +1,4 @@
--- What a test tells. Assumes nothing.
+-- What a test tells.
 use mathlib.Core.Bool.{Bool, true, false, not, cond}
 use mathlib.Core.Path.{_≡_}
 use lib.Dec.{T}

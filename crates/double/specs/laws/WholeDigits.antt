@@ -1,4 +1,4 @@
--- The whole part of a double from 1/2 up to 2^53 is its 53 digits without those that stand after the point. Assumes nothing.
+-- The whole part of a double from 1/2 up to 2^53 is its 53 digits without those that stand after the point.
 use mathlib.Core.Path.{_≡_, refl, sym, ap, _∙_}
 use mathlib.Core.Logic.{_⊎_, inl, inr}
 use mathlib.Core.Bool.{Bool, true, false, not}

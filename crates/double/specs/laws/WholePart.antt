@@ -1,4 +1,4 @@
--- The whole part of a double and a whole number as a double: where each is exact, and that both keep the order. Assumes nothing.
+-- The whole part of a double and a whole number as a double: where each is exact, and that both keep the order.
 use mathlib.Core.Path.{_≡_, refl, sym, ap, _∙_}
 use Prim.Native.Nat.{ℕ, suc, _+_, _-_, _*_, _/_, _%_, _^_, _≤_, _<_, min, zero-le}
 use native.Mathlib.Nat.{div-add-mod', mod-lt}

@@ -1,4 +1,4 @@
--- Wrong variants are excluded: each differs from the rule at the input stated. Assumes nothing.
+-- Wrong variants are excluded: each differs from the rule at the input stated.
 use Prim.Native.Nat.{_^_}
 use mathlib.Core.Path.{refl}
 use mathlib.Core.Bool.{true, false, cond}
@@ -12,7 +12,8 @@ use Rattle.double.specs.rules.Whole.{wholePart, fromWhole}
 use Rattle.double.specs.rules.Pattern.{patternOf}
 use Rattle.double.specs.notions.Computed.{computed}
 use Rattle.double.specs.notions.Greatest.{greatest}
-use Rattle.double.specs.notions.Wrong.{bearsMinusBelowZero, negatedUnless, eitherTurned, sizeOfBelowZero, sizeBelowZero, finiteToInfinity, wholePartCapped, wholePartOfWritten, fromLowBits, patternOfSize, bitsOfSize, belowGreatest}
+use Rattle.double.specs.notions.Wrong.{bearsMinusBelowZero, negatedUnless, eitherTurned, sizeOfBelowZero, sizeBelowZero, finiteToInfinity}
+use Rattle.double.specs.notions.Wrong.{wholePartCapped, wholePartOfWritten, fromLowBits, patternOfSize, bitsOfSize, belowGreatest}
 use Rattle.double.specs.notions.Stated.{minusZero}
 use Rattle.double.specs.notions.Code.{ofFlag, ofFloat, ofNumber}
 use Rattle.double.specs.laws.Apart.{apart}

@@ -1,5 +1,4 @@
 -- What is zero, of either sign: a minus sign and a size keep it so, and so does negating both operands of a sum or a difference.
--- Assumes nothing.
 use mathlib.Core.Path.{_≡_, refl, sym, ap, _∙_}
 use mathlib.Core.Bool.{Bool, true, false, _&&_, _||_}
 use Prim.Native.Nat.{_*_}

@@ -1,4 +1,4 @@
--- `elementary::chosen` meets its contract. Assumes nothing.
+-- `elementary::chosen` meets its contract.
 use borrow.Author.Needs.{needs}
 use Rattle.double.specs.laws.Calls.{asks-nothing}
 use Rattle.elementary.specs.rules.Sine.{foldedSine, foldedCosine}

@@ -1,4 +1,4 @@
--- `elementary::cosine` meets its contract. Assumes nothing.
+-- `elementary::cosine` meets its contract.
 use Rattle.double.specs.laws.Calls.{asks-nothing}
 use Rattle.quantity.specs.laws.Answer.{refuses, goes-on}
 use Rattle.elementary.specs.rules.Sine.{cosineRule}

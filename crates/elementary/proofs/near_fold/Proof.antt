@@ -1,4 +1,4 @@
--- `elementary::near_fold` meets its contract: such an angle has few quarters. Assumes nothing.
+-- `elementary::near_fold` meets its contract: such an angle has few quarters.
 use mathlib.Core.Path.{sym}
 use Prim.Native.Nat.{ℕ, _≤_, _<_, _^_}
 use native.Mathlib.Omega.{arith}

@@ -1,4 +1,4 @@
--- `elementary::near_turns` meets its contract. Assumes nothing.
+-- `elementary::near_turns` meets its contract.
 use borrow.Author.Needs.{needs}
 use mathlib.Core.Path.{_≡_}
 use Prim.Native.Nat.{_<_}

@@ -1,4 +1,4 @@
--- `elementary::quarter_turn` meets its contract. Assumes nothing.
+-- `elementary::quarter_turn` meets its contract.
 use Rattle.double.specs.laws.Calls.{asks-nothing}
 use Rattle.elementary.specs.rules.Sine.{quarterTurn}
 use Rattle.elementary.proofs.Quarters.{sine-last, cosine-last}

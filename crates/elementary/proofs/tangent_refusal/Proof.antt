@@ -1,4 +1,4 @@
--- `elementary::tangent_refusal` meets its contract. Assumes nothing.
+-- `elementary::tangent_refusal` meets its contract.
 use Rattle.double.specs.laws.Calls.{asks-nothing}
 use Rattle.elementary.proofs.tangent_refusal.Statement.{statement}
 use Rattle.elementary.proofs.tangent_refusal.Tie as tie

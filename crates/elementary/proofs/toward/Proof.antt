@@ -1,4 +1,4 @@
--- `elementary::toward` meets its contract. Assumes nothing.
+-- `elementary::toward` meets its contract.
 use Rattle.double.specs.laws.Calls.{asks-nothing}
 use Rattle.elementary.specs.rules.Direction.{directionOf}
 use Rattle.elementary.specs.rules.Sine.{turnsOf}

@@ -1,4 +1,4 @@
--- `elementary::towards` meets its contract. Assumes nothing.
+-- `elementary::towards` meets its contract.
 use Rattle.double.specs.laws.Calls.{asks-nothing}
 use Rattle.elementary.specs.rules.Direction.{directionOf, directionsOf}
 use Rattle.elementary.specs.rules.Sine.{turnsOf}

@@ -1,4 +1,4 @@
--- `elementary::turn_of` meets its contract. Assumes nothing.
+-- `elementary::turn_of` meets its contract.
 use Rattle.double.specs.laws.Calls.{asks-nothing}
 use Rattle.elementary.specs.rules.Sine.{quarterTurn, foldedSine, foldedCosine, turnOf}
 use Rattle.elementary.proofs.turn_of.Statement.{statement}

@@ -1,4 +1,4 @@
--- `elementary::turns_at` meets its contract. Assumes nothing.
+-- `elementary::turns_at` meets its contract.
 use Rattle.double.specs.laws.Calls.{asks-nothing}
 use Rattle.double.specs.laws.Tests.{holds}
 use Rattle.elementary.specs.rules.Sine.{turnOf, turnsOf}

@@ -1,4 +1,4 @@
--- `elementary::turns_of` meets its contract. Assumes nothing.
+-- `elementary::turns_of` meets its contract.
 use Rattle.double.specs.laws.Calls.{asks-nothing}
 use Rattle.elementary.proofs.turns_of.Statement.{statement}
 use Rattle.elementary.proofs.turns_of.Tie as tie

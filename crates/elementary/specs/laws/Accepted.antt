@@ -1,4 +1,4 @@
--- What is known of an argument that is not refused, and of an answer that is none. Assumes nothing.
+-- What is known of an argument that is not refused, and of an answer that is none.
 use mathlib.Core.Path.{_≡_, refl}
 use Prim.Native.Nat.{ℕ, suc, _<_}
 use native.Mathlib.Omega.{arith}
@@ -16,7 +16,9 @@ use Rattle.double.specs.laws.Fraction.{sub-rounds, rounds-not-nan}
 use Rattle.quantity.specs.declared.Rad.{Rad}
 use Rattle.quantity.specs.rules.Angle.{HALF}
 use Rattle.quantity.specs.rules.Answer.{Answer, answered, refused, unless}
-use Rattle.quantity.specs.rules.Refusal.{lower, numberRefusal, past, outside, epoch, daysAround, dayRefusal, farthest, steepest, angleRefusal, latitudeRefusal, steepRefusal, leastDistance, mostDistance, distanceRefusal, leastHeight, mostHeight, heightRefusal}
+use Rattle.quantity.specs.rules.Refusal.{lower, numberRefusal, past, outside, epoch, daysAround, dayRefusal, farthest, steepest, angleRefusal}
+use Rattle.quantity.specs.rules.Refusal.{latitudeRefusal, steepRefusal, leastDistance, mostDistance, distanceRefusal, leastHeight, mostHeight}
+use Rattle.quantity.specs.rules.Refusal.{heightRefusal}
 
 -- ---- numbers
 

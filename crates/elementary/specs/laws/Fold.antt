@@ -1,4 +1,4 @@
--- The fold of a size up to 400000.0: k is the true whole part of s, and what is left is 1 at most in size. Assumes nothing.
+-- The fold of a size up to 400000.0: k is the true whole part of s, and what is left is 1 at most in size.
 use mathlib.Core.Path.{_≡_, refl, ap}
 use mathlib.Core.Logic.{_⊎_, inl, inr}
 use Prim.Native.Nat.{ℕ, suc, _+_, _-_, _*_, _^_, _≤_, _<_}

@@ -1,5 +1,5 @@
 -- Sine and cosine of an angle up to 400000.0 in size are 1 at most in size; up to 1.57 the cosine is above zero, so that the
--- tangent is finite. Assumes nothing.
+-- tangent is finite.
 use mathlib.Core.Path.{sym, subst}
 use mathlib.Core.Logic.{inl, inr}
 use Prim.Native.Nat.{ℕ, suc, _%_}

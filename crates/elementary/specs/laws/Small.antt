@@ -1,4 +1,4 @@
--- An angle below an eighth of a turn has no quarter and is its own rest. Assumes nothing.
+-- An angle below an eighth of a turn has no quarter and is its own rest.
 use Prim.Native.Nat.{ℕ, _-_, _*_, _^_, _<_, min, zero-le}
 use native.Mathlib.Nat.{add-zero, zero-mul, mul-one, sub-zero, div-eq-of-lt}
 use native.Mathlib.Omega.{arith}

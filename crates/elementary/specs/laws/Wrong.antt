@@ -1,5 +1,5 @@
 -- Wrong variants are excluded: each differs from the rule at the input stated. A rule varies: a library that refuses everything, or
--- answers a constant, does not meet it. Assumes nothing.
+-- answers a constant, does not meet it.
 use mathlib.Core.Path.{refl}
 use std.Logic.{_≢_}
 use Rattle.double.specs.rules.Operations.{bits, zero, one, two}
@@ -15,7 +15,9 @@ use Rattle.elementary.specs.declared.Directions.{Directions}
 use Rattle.elementary.specs.rules.Sine.{turnOf, turnsOf, sineRule, cosineRule, tangentRule}
 use Rattle.elementary.specs.rules.Direction.{directionOf, directionsOf}
 use Rattle.elementary.specs.notions.Computed.{computed}
-use Rattle.elementary.specs.notions.Wrong.{aloneLimitOffByOneDouble, foldWithoutP3, sineRegrouped, cosineAnswersSine, cosineOfTheOppositeRest, tangentNotSteep, tangentUpsideDown, turnTheOtherWay, directionTraded, turnsTraded, directionsTraded, firstTurnTwice}
+use Rattle.elementary.specs.notions.Wrong.{aloneLimitOffByOneDouble, foldWithoutP3, sineRegrouped, cosineAnswersSine, cosineOfTheOppositeRest}
+use Rattle.elementary.specs.notions.Wrong.{tangentNotSteep, tangentUpsideDown, turnTheOtherWay, directionTraded, turnsTraded, directionsTraded}
+use Rattle.elementary.specs.notions.Wrong.{firstTurnTwice}
 
 -- ---- sine
 

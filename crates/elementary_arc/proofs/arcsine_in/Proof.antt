@@ -1,4 +1,4 @@
--- `elementary_arc::arcsine_in` meets its contract. Assumes nothing.
+-- `elementary_arc::arcsine_in` meets its contract.
 use mathlib.Core.Path.{sym}
 use Rattle.double.specs.laws.Calls.{asks-nothing}
 use Rattle.double.specs.laws.Tests.{holds, fails}

@@ -1,4 +1,4 @@
--- `elementary_arc::arctangent_in` meets its contract. Assumes nothing.
+-- `elementary_arc::arctangent_in` meets its contract.
 use Rattle.double.specs.laws.Calls.{asks-nothing}
 use Rattle.elementary_arc.specs.rules.Arctangent.{arctangentIn}
 use Rattle.elementary_arc.proofs.arctangent_in.Statement.{statement}

@@ -1,4 +1,4 @@
--- `elementary_arc::arctangent_of` meets its contract. Assumes nothing.
+-- `elementary_arc::arctangent_of` meets its contract.
 use mathlib.Core.Path.{ap}
 use Rattle.double.specs.laws.Calls.{asks-nothing}
 use Rattle.quantity.specs.rules.Angle.{rad}

@@ -1,4 +1,4 @@
--- `elementary_arc::arctangent_refusal` meets its contract. Assumes nothing.
+-- `elementary_arc::arctangent_refusal` meets its contract.
 use Rattle.double.specs.laws.Calls.{asks-nothing}
 use Rattle.elementary_arc.proofs.arctangent_refusal.Statement.{statement}
 use Rattle.elementary_arc.proofs.arctangent_refusal.Tie as tie

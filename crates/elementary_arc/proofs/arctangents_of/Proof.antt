@@ -1,4 +1,4 @@
--- `elementary_arc::arctangents_of` meets its contract: each lane's work is that of its own two numbers. Assumes nothing.
+-- `elementary_arc::arctangents_of` meets its contract: each lane's work is that of its own two numbers.
 use Rattle.double.specs.laws.Calls.{asks-nothing}
 use Rattle.quantity.specs.rules.Angle.{rad}
 use Rattle.elementary_arc.specs.rules.Level.{arctangentsOf}

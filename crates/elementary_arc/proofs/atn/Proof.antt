@@ -1,4 +1,4 @@
--- `elementary_arc::atn` meets its contract. Assumes nothing.
+-- `elementary_arc::atn` meets its contract.
 use Rattle.double.specs.laws.Calls.{asks-nothing}
 use Rattle.elementary_arc.proofs.atn.Statement.{statement}
 use Rattle.elementary_arc.proofs.atn.Tie as tie

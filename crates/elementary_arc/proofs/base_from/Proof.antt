@@ -1,4 +1,4 @@
--- `elementary_arc::base_from` meets its contract. Assumes nothing.
+-- `elementary_arc::base_from` meets its contract.
 use Rattle.double.specs.laws.Calls.{asks-nothing}
 use Rattle.elementary_arc.proofs.base_from.Statement.{statement}
 use Rattle.elementary_arc.proofs.base_from.Tie as tie

@@ -1,4 +1,4 @@
--- `elementary_arc::both_zero` meets its contract. Assumes nothing.
+-- `elementary_arc::both_zero` meets its contract.
 use Rattle.elementary_arc.proofs.both_zero.Statement.{statement}
 use Rattle.elementary_arc.proofs.both_zero.Tie as tie
 

@@ -1,4 +1,4 @@
--- `elementary_arc::lesser_over` meets its contract. Assumes nothing.
+-- `elementary_arc::lesser_over` meets its contract.
 use mathlib.Core.Path.{_≡_, refl}
 use mathlib.Core.Bool.{Bool, true, false, cond}
 use lib.Ieee.{Float, le}

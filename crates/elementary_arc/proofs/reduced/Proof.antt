@@ -1,4 +1,4 @@
--- `elementary_arc::reduced` meets its contract; that the format holds v is what owning an `f64` tells. Assumes nothing.
+-- `elementary_arc::reduced` meets its contract; that the format holds v is what owning an `f64` tells.
 use mathlib.Core.Path.{_≡_, refl, sym, subst}
 use mathlib.Core.Bool.{Bool, true, false, cond}
 use lib.Dec.{T}

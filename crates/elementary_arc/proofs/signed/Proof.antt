@@ -1,4 +1,4 @@
--- `elementary_arc::signed` meets its contract. Assumes nothing.
+-- `elementary_arc::signed` meets its contract.
 use Rattle.double.specs.laws.Calls.{asks-nothing}
 use Rattle.elementary_arc.proofs.signed.Statement.{statement}
 use Rattle.elementary_arc.proofs.signed.Tie as tie

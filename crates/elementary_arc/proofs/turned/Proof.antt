@@ -1,4 +1,4 @@
--- `elementary_arc::turned` meets its contract. Assumes nothing.
+-- `elementary_arc::turned` meets its contract.
 use Rattle.elementary_arc.proofs.turned.Statement.{statement}
 use Rattle.elementary_arc.proofs.turned.Tie as tie
 

@@ -1,5 +1,5 @@
 -- The arcsine of a number of size 1 at most is answered: neither the root nor the arctangent is refused, and the answer bears the
--- number's sign and is a quarter turn at most. So 7 is the only refusal of a finite number, and 14 is never met. Assumes nothing.
+-- number's sign and is a quarter turn at most. So 7 is the only refusal of a finite number, and 14 is never met.
 use mathlib.Core.Path.{_≡_, refl, ap, _∙_, subst}
 use Prim.Native.Nat.{ℕ}
 use native.Mathlib.Omega.{arith}

@@ -1,6 +1,5 @@
 -- The arctangent of two finite numbers, not both zero: it bears the first one's sign, and its size is at most a quarter turn where
 -- the second bears no minus sign, and at least one where it does. Of two zeros it is refused by 14, and of nothing else.
--- Assumes nothing.
 use mathlib.Core.Path.{_≡_, refl, sym, ap, _∙_}
 use mathlib.Core.Logic.{_⊎_, inl, inr}
 use Prim.Native.Nat.{ℕ, _+_, _*_, _≤_, _<_}

@@ -1,5 +1,4 @@
 -- Each constant of the rules is the decimal, or each entry of a series the fraction, that the paper gives, rounded once.
--- Assumes nothing.
 use mathlib.Core.Path.{refl}
 use mathlib.Core.List.{List, [], _∷_, map}
 use lib.Ieee.{Float, ofBits, round}

@@ -1,4 +1,4 @@
--- Without a branch the base is the same, and so is the arctangent. Assumes nothing.
+-- Without a branch the base is the same, and so is the arctangent.
 use mathlib.Core.Path.{_≡_, refl, ap, _∙_}
 use mathlib.Core.Bool.{Bool, true, false, cond}
 use lib.Ieee.{Float, le}

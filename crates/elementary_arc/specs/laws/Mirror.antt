@@ -1,4 +1,4 @@
--- The arctangent is odd in its first argument, and the arcsine odd, on every double. Assumes nothing.
+-- The arctangent is odd in its first argument, and the arcsine odd, on every double.
 use mathlib.Core.Path.{_≡_, refl, ap}
 use mathlib.Core.Bool.{Bool, true, false, cond}
 use lib.Ieee.{Float, nan, binary64, neg, add, sub, mul, div, le, lt, ofBits}

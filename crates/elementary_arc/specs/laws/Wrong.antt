@@ -1,5 +1,5 @@
 -- Wrong variants are excluded: each differs from the rule at the input stated. A rule varies: a library that refuses everything, or
--- answers a constant, does not meet it. Assumes nothing.
+-- answers a constant, does not meet it.
 use mathlib.Core.Path.{refl}
 use mathlib.Core.Bool.{false}
 use std.Logic.{_≢_}
@@ -14,7 +14,9 @@ use Rattle.elementary_arc.specs.declared.Arctangents.{Arctangents}
 use Rattle.elementary_arc.specs.rules.Level.{lesserOver, reduced, arctangentsOf}
 use Rattle.elementary_arc.specs.rules.Arcsine.{arcsineRule}
 use Rattle.elementary_arc.specs.notions.Computed.{computed}
-use Rattle.elementary_arc.specs.notions.Wrong.{oneArgument, minusZeroIsPlus, behindIsAhead, onlyPlusZerosRefused, minusZeroNotSeen, zerosAnswered, arctangentLetsInfinityIn, arcsineClamped, arcsineLimitOff, arcsineRootRegrouped, arcsineLetsInfinityIn, arctangentsTraded, firstOver, notReduced}
+use Rattle.elementary_arc.specs.notions.Wrong.{oneArgument, minusZeroIsPlus, behindIsAhead, onlyPlusZerosRefused, minusZeroNotSeen}
+use Rattle.elementary_arc.specs.notions.Wrong.{zerosAnswered, arctangentLetsInfinityIn, arcsineClamped, arcsineLimitOff, arcsineRootRegrouped}
+use Rattle.elementary_arc.specs.notions.Wrong.{arcsineLetsInfinityIn, arctangentsTraded, firstOver, notReduced}
 
 -- ---- arctangent
 

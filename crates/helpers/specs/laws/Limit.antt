@@ -1,4 +1,4 @@
--- Folded into one turn, an angle lies from 0 to a full turn, and days folded into one from 0 to 1. Assumes nothing.
+-- Folded into one turn, an angle lies from 0 to a full turn, and days folded into one from 0 to 1.
 use lib.Dec.{T}
 use lib.Ieee.{Float, binary64, neg, add, le, lt, fits, ofBits}
 use lib.Ieee.Positive.{positive}

@@ -1,5 +1,5 @@
 -- Wrong variants are excluded: each differs from the rule at the input stated. A rule varies: a library that refuses everything, or
--- answers a constant, does not meet it. Assumes nothing.
+-- answers a constant, does not meet it.
 use mathlib.Core.Path.{refl}
 use std.Logic.{_≢_}
 use lib.Ieee.{neg}
@@ -14,7 +14,8 @@ use Rattle.helpers.specs.rules.Time.{julianCentRule}
 use Rattle.helpers.specs.rules.Angle.{degFrmDmsRule, degFrmHmsRule, toRadiansRule, turnInDegrees, limitTo360Rule, limitToTwoPIRule}
 use Rattle.helpers.specs.rules.Earth.{rhoSinCosPhiRule}
 use Rattle.helpers.specs.notions.Computed.{computed}
-use Rattle.helpers.specs.notions.Wrong.{anotherCentury, centuryOfAnyDay, arcIsTime, timeRegrouped, radiansOfNothing, anotherTurn, remainderNotLifted, halfATurn, heightNotOverRadius, roundEarth, latitudeNotReduced, heightNotRefused}
+use Rattle.helpers.specs.notions.Wrong.{anotherCentury, centuryOfAnyDay, arcIsTime, timeRegrouped, radiansOfNothing, anotherTurn}
+use Rattle.helpers.specs.notions.Wrong.{remainderNotLifted, halfATurn, heightNotOverRadius, roundEarth, latitudeNotReduced, heightNotRefused}
 
 -- ---- time
 

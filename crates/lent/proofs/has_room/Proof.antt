@@ -1,4 +1,4 @@
--- `lent::has_room` meets its contract. Assumes nothing.
+-- `lent::has_room` meets its contract.
 use mathlib.Core.Path.{_≡_, refl, sym}
 use mathlib.Core.Bool.{Bool, true, false}
 use Prim.Native.Nat.{ℕ, _+_, _-_, _≤_, _<_}

@@ -1,4 +1,4 @@
--- `lent::put` meets its contract: after i turns the first i bytes of src are written. Assumes nothing.
+-- `lent::put` meets its contract: after i turns the first i bytes of src are written.
 use borrow.Author.Needs.{needs}
 use mathlib.Core.Path.{_≡_}
 use mathlib.Core.List.{List, [], _∷_, _++_}

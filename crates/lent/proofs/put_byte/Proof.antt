@@ -1,4 +1,4 @@
--- `lent::put_byte` meets its contract. Assumes nothing.
+-- `lent::put_byte` meets its contract.
 use borrow.Author.Needs.{needs}
 use mathlib.Core.List.{[], _∷_}
 use Rattle.lent.specs.laws.Writing.{single, beyond}

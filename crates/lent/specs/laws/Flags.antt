@@ -1,4 +1,4 @@
--- What a test tells: two that hold together hold each, and one counts at most one. Assumes nothing.
+-- What a test tells: two that hold together hold each, and one counts at most one.
 use mathlib.Core.Path.{_≡_, refl}
 use mathlib.Core.Bool.{Bool, true, false, cond, _&&_}
 use Prim.Native.Nat.{ℕ, _≤_}

@@ -1,4 +1,4 @@
--- What a function that puts a text leaves, case by case; its promise fixes the whole slice and the answer. Assumes nothing.
+-- What a function that puts a text leaves, case by case; its promise fixes the whole slice and the answer.
 use mathlib.Core.Path.{_≡_, refl, sym, ap, _∙_, subst}
 use mathlib.Core.Bool.{Bool, true, false, cond}
 use mathlib.Core.List.{List}

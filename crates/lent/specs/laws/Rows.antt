@@ -1,4 +1,4 @@
--- A loop that writes the front of a lent slice, one store a turn, whatever the elements are. Assumes nothing.
+-- A loop that writes the front of a lent slice, one store a turn, whatever the elements are.
 use mathlib.Core.Path.{_≡_, refl, sym, ap, _∙_}
 use mathlib.Core.List.{List, [], _∷_, _++_}
 use Prim.Native.Nat.{ℕ, zero, suc, _+_, _≤_, _<_}

@@ -1,4 +1,4 @@
--- Texts one after the other: which are the same, and how long they are at most. Assumes nothing.
+-- Texts one after the other: which are the same, and how long they are at most.
 use Prim.Native.Nat.{ℕ, zero, suc, _*_, _≤_, _<_}
 use mathlib.Core.Path.{_≡_, refl, ap, _∙_}
 use mathlib.Core.List.{List, _++_}

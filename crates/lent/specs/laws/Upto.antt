@@ -1,4 +1,4 @@
--- Lists by their elements' rule: length, elements, and one element set. Assumes nothing.
+-- Lists by their elements' rule: length, elements, and one element set.
 use mathlib.Core.Path.{_≡_, refl, ap}
 use mathlib.Core.List.{List, _∷_}
 use Prim.Native.Nat.{ℕ, zero, suc, _<_}

@@ -1,4 +1,4 @@
--- A loop whose turn i writes text i writes the texts one after the other. Assumes nothing.
+-- A loop whose turn i writes text i writes the texts one after the other.
 use Prim.Native.Nat.{ℕ, _+_, _≤_, _<_, min}
 use mathlib.Core.Path.{_≡_, sym, ap}
 use mathlib.Core.List.{List}

@@ -1,4 +1,4 @@
--- Texts written one after the other are their join, and a text that has room stands whole between what was there. Assumes nothing.
+-- Texts written one after the other are their join, and a text that has room stands whole between what was there.
 use mathlib.Core.Path.{_≡_, refl, sym, ap, _∙_, subst}
 use mathlib.Core.List.{List, [], _∷_, _++_}
 use Prim.Native.Nat.{ℕ, zero, suc, _+_, _≤_, _<_, min}

@@ -1,4 +1,4 @@
--- `list::count` meets its contract. Assumes nothing.
+-- `list::count` meets its contract.
 use mathlib.Core.Path.{refl}
 use Rattle.list.specs.rules.Stars.{countOf}
 use Rattle.list.proofs.count.Statement.{statement}

@@ -1,4 +1,4 @@
--- `list::find` meets its contract: at each return the tests that led there say which case of the rule holds. Assumes nothing.
+-- `list::find` meets its contract: at each return the tests that led there say which case of the rule holds.
 use borrow.Author.Tests.{lt-ltb, le-ltb, not-true, not-false}
 use mathlib.Core.Path.{_≡_, sym, ap, _∙_}
 use mathlib.Core.Bool.{Bool, true, cond}

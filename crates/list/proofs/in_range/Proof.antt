@@ -1,4 +1,4 @@
--- `list::in_range` meets its contract. Assumes nothing.
+-- `list::in_range` meets its contract.
 use mathlib.Core.Path.{ap, _∙_}
 use Prim.Native.Nat.{ℕ}
 use lib.Dec.{leb}

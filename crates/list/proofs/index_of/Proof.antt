@@ -1,4 +1,4 @@
--- `list::index_of` meets its contract: what is found in the stars that are left, i after the first, is what is found. Assumes nothing.
+-- `list::index_of` meets its contract: what is found in the stars that are left, i after the first, is what is found.
 use borrow.Author.Needs.{needs}
 use borrow.Author.Tests.{eq-eqb, ne-eqb}
 use mathlib.Core.Path.{_≡_, sym, ap, _∙_}

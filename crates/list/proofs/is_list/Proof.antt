@@ -1,4 +1,4 @@
--- `list::is_list` meets its contract. Assumes nothing.
+-- `list::is_list` meets its contract.
 use borrow.Author.Tests.{lt-leb, le-leb}
 use Rattle.list.specs.rules.Stars.{isList}
 use Rattle.list.proofs.is_list.Statement.{statement}

@@ -1,4 +1,4 @@
--- `list::is_start` meets its contract. Assumes nothing.
+-- `list::is_start` meets its contract.
 use borrow.Author.Tests.{lt-ltb, le-ltb}
 use Rattle.list.specs.rules.Writer.{isStart}
 use Rattle.list.proofs.is_start.Statement.{statement}

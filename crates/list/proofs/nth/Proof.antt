@@ -1,4 +1,4 @@
--- `list::nth` meets its contract. Assumes nothing.
+-- `list::nth` meets its contract.
 use mathlib.Core.Path.{sym, _∙_}
 use Prim.Native.Nat.{_<_}
 use native.Mathlib.Omega.{arith}

@@ -1,4 +1,4 @@
--- `list::put_star` meets its contract: each test that leads to a return says which text there is, and whether it has room. Assumes nothing.
+-- `list::put_star` meets its contract: each test that leads to a return says which text there is, and whether it has room.
 use borrow.Author.Needs.{needs}
 use borrow.Author.Tests.{not-true, not-false}
 use mathlib.Core.Path.{sym, _∙_}

@@ -1,4 +1,4 @@
--- `list::put_word` meets its contract: four bytes, one after the other. Assumes nothing.
+-- `list::put_word` meets its contract: four bytes, one after the other.
 use borrow.Author.Needs.{needs}
 use Rattle.double.specs.laws.Calls.{asks-nothing}
 use Rattle.lent.specs.laws.Writing.{after}

@@ -1,4 +1,4 @@
--- `list::record_at` meets its contract, field by field. Assumes nothing.
+-- `list::record_at` meets its contract, field by field.
 use borrow.Author.Needs.{needs}
 use mathlib.Core.Path.{ap, _∙_}
 use mir.Syntax.{w32}

@@ -1,4 +1,4 @@
--- `list::star_at` meets its contract: at each return the tests that led there say which case of the rule holds. Assumes nothing.
+-- `list::star_at` meets its contract: at each return the tests that led there say which case of the rule holds.
 use borrow.Author.Needs.{needs}
 use borrow.Author.Tests.{lt-leb, le-leb, eq-eqb, ne-eqb, lt-ltb, le-ltb, not-true, not-false}
 use mathlib.Core.Path.{_≡_, sym, ap, _∙_}

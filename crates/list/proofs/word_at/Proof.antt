@@ -1,4 +1,4 @@
--- `list::word_at` meets its contract. Assumes nothing.
+-- `list::word_at` meets its contract.
 use borrow.Author.Needs.{needs}
 use Rattle.double.specs.laws.Calls.{asks-nothing}
 use Rattle.list.specs.rules.Record.{wordAt}

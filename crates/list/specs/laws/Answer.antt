@@ -1,4 +1,4 @@
--- What is shown of an answer loses nothing, so that each contract holds of one answer only. Assumes nothing.
+-- What is shown of an answer loses nothing, so that each contract holds of one answer only.
 use mathlib.Core.Path.{_≡_, ap}
 use Rattle.quantity.specs.rules.Answer.{answered}
 use Rattle.list.specs.rules.Reader.{shownSight}

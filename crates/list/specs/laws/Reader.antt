@@ -1,4 +1,4 @@
--- The reader shows star i at the i-th record's start, and none at the end. Assumes nothing.
+-- The reader shows star i at the i-th record's start, and none at the end.
 use mathlib.Core.Path.{_≡_, sym, ap}
 use mathlib.Core.Bool.{true}
 use mathlib.Core.List.{List}

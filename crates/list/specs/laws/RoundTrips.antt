@@ -1,4 +1,4 @@
--- A stored list and its stars say the same: either is had back from the other. Assumes nothing.
+-- A stored list and its stars say the same: either is had back from the other.
 use mathlib.Core.Path.{_≡_, sym, ap, _∙_, subst}
 use mathlib.Core.List.{List, [], _∷_, _++_}
 use Prim.Native.Nat.{ℕ, zero, suc, _+_, _*_, _/_, _%_, _≤_, _<_}

@@ -1,4 +1,4 @@
--- The stars of a stored list: how many, each by its index, and where its record lies. Assumes nothing.
+-- The stars of a stored list: how many, each by its index, and where its record lies.
 use mathlib.Core.Path.{_≡_, sym, ap, _∙_}
 use mathlib.Core.Bool.{true}
 use mathlib.Core.List.{List, [], _∷_, _++_}

@@ -1,4 +1,4 @@
--- What the writer's refusals are, and what a star that is put makes of the stars before it. Assumes nothing.
+-- What the writer's refusals are, and what a star that is put makes of the stars before it.
 use mathlib.Core.Path.{_≡_, refl, sym, ap, _∙_}
 use mathlib.Core.Bool.{Bool, true, false, cond}
 use mathlib.Core.List.{List, [], _∷_, _++_, append-assoc, append-nil}

@@ -1,5 +1,5 @@
 -- Wrong variants are excluded: each differs from the rule at the input stated. A rule varies: a library that refuses everything, or
--- answers a constant, does not meet it. Assumes nothing.
+-- answers a constant, does not meet it.
 use Prim.Native.Nat.{ℕ, suc, _*_}
 use mathlib.Core.Path.{_≡_, refl}
 use mathlib.Core.List.{List, [], _∷_, _++_}
@@ -20,7 +20,8 @@ use Rattle.list.specs.rules.Writer.{recordText}
 use Rattle.list.specs.rules.Find.{findRule}
 use Rattle.list.specs.notions.Code.{ofSight, ofEntry}
 use Rattle.list.specs.notions.Computed.{computed}
-use Rattle.list.specs.notions.Wrong.{wholeTurnInRange, oneStarTooMany, partRecordsCounted, endRefused, bigEndianRead, outOfRangePut, putWithinRecord, putPastTheLast, eightBeforeNine, lastNumberFound, nineBeforeTen}
+use Rattle.list.specs.notions.Wrong.{wholeTurnInRange, oneStarTooMany, partRecordsCounted, endRefused, bigEndianRead, outOfRangePut}
+use Rattle.list.specs.notions.Wrong.{putWithinRecord, putPastTheLast, eightBeforeNine, lastNumberFound, nineBeforeTen}
 
 -- records of zeros, and the record of a star with the number 1
 abbrev zeros : ℕ → List ℕ

@@ -1,4 +1,4 @@
--- `list_groups::count` meets its contract. Assumes nothing.
+-- `list_groups::count` meets its contract.
 use native.Mathlib.Omega.{arith}
 use Rattle.list_groups.specs.laws.Length.{one-group, two-groups, three-groups, four-groups, five-groups}
 use Rattle.list_groups.proofs.count.Statement.{statement}

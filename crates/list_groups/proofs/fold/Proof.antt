@@ -1,4 +1,4 @@
--- `list_groups::fold` meets its contract. Assumes nothing.
+-- `list_groups::fold` meets its contract.
 use mathlib.Core.Path.{sym, ap, _∙_}
 use Prim.Native.Nat.{ℕ, _+_, _*_, _<_}
 use native.Mathlib.Omega.{arith}

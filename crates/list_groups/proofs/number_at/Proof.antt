@@ -1,4 +1,4 @@
--- `list_groups::number_at` meets its contract: what was read so far and the bytes from p on make the number. Assumes nothing.
+-- `list_groups::number_at` meets its contract: what was read so far and the bytes from p on make the number.
 use native.Mathlib.Omega.{arith}
 use native.Mathlib.Nat.{mul-le-mul-left}
 use Prim.Native.Nat.{_-_, _≤_}

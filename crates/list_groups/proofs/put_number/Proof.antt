@@ -1,4 +1,4 @@
--- `list_groups::put_number` meets its contract: the groups written so far, and those of what is left. Assumes nothing.
+-- `list_groups::put_number` meets its contract: the groups written so far, and those of what is left.
 use borrow.Author.Needs.{needs}
 use native.Mathlib.Omega.{arith}
 use Rattle.double.specs.laws.Calls.{asks-nothing}

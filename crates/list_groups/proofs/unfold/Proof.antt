@@ -1,4 +1,4 @@
--- `list_groups::unfold` meets its contract. Assumes nothing.
+-- `list_groups::unfold` meets its contract.
 use borrow.Author.Needs.{needs}
 use Rattle.list_groups.proofs.Halves.{even, odd-fits, odd}
 use Rattle.list_groups.proofs.unfold.Statement.{statement}

@@ -1,4 +1,4 @@
--- The request's own numbers, worked out on the rules. Assumes nothing.
+-- The request's own numbers, worked out on the rules.
 use mathlib.Core.Path.{_≡_, refl}
 use mathlib.Core.List.{[], _∷_}
 use lib.IntN.{pos, negsuc}

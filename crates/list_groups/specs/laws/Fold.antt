@@ -1,4 +1,4 @@
--- The fold and its undoing are each other's inverse, and keep within 32 bits. Assumes nothing.
+-- The fold and its undoing are each other's inverse, and keep within 32 bits.
 use mathlib.Core.Path.{_≡_, refl, ap}
 use mathlib.Core.Bool.{Bool, true, false, cond}
 use Prim.Native.Nat.{ℕ, _+_, _*_, _/_, _%_, _<_}

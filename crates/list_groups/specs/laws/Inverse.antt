@@ -1,4 +1,4 @@
--- Reading and spelling are each other's inverse, so that a number has exactly one accepted spelling. Assumes nothing.
+-- Reading and spelling are each other's inverse, so that a number has exactly one accepted spelling.
 use mathlib.Core.Path.{_≡_, refl, sym, ap, _∙_, subst}
 use mathlib.Core.Bool.{Bool, true, false, cond}
 use mathlib.Core.List.{List, [], _∷_, _++_, append-nil}

@@ -1,4 +1,4 @@
--- How many groups a number has: one to five. Assumes nothing.
+-- How many groups a number has: one to five.
 use mathlib.Core.Path.{_≡_}
 use mathlib.Core.Bool.{Bool, true, false, cond}
 use mathlib.Core.List.{[], _∷_}

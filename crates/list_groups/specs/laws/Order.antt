@@ -1,4 +1,4 @@
--- A number is refused at the byte that shows it, whatever bytes stand after that. Assumes nothing.
+-- A number is refused at the byte that shows it, whatever bytes stand after that.
 use mathlib.Core.Path.{_≡_, refl, sym, ap, _∙_}
 use mathlib.Core.List.{List, [], _∷_, _++_, append-nil}
 use Prim.Native.Nat.{ℕ, zero, suc, _-_, _≤_}

@@ -1,4 +1,4 @@
--- Several things in turn: where reading and spelling one are each other's inverse, so are reading and spelling all. Assumes nothing.
+-- Several things in turn: where reading and spelling one are each other's inverse, so are reading and spelling all.
 use mathlib.Core.Path.{_≡_, refl, sym, ap, _∙_, subst}
 use mathlib.Core.List.{List, [], _∷_, _++_, append-assoc}
 use Prim.Native.Nat.{ℕ, zero, suc, _-_, _<_}

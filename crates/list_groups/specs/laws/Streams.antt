@@ -1,5 +1,5 @@
 -- A reader looks no further than it must: bytes after those that settle its answer change nothing, and a refusal other than 13, which is
--- for bytes that end first, is given at the byte that shows it. Assumes nothing.
+-- for bytes that end first, is given at the byte that shows it.
 use mathlib.Core.Path.{_≡_, refl, sym, ap, _∙_}
 use mathlib.Core.Bool.{Bool, true, false, cond}
 use mathlib.Core.List.{List, [], _∷_, _++_}

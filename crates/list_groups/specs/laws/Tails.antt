@@ -1,4 +1,4 @@
--- What stands after a thing that was read is a tail of the bytes, so that its place says all of it. Assumes nothing.
+-- What stands after a thing that was read is a tail of the bytes, so that its place says all of it.
 use mathlib.Core.Path.{_≡_, refl, sym, ap, _∙_}
 use mathlib.Core.Bool.{Bool, true, false, cond}
 use mathlib.Core.List.{List, [], _∷_, _++_, append-assoc}

@@ -1,4 +1,4 @@
--- A number takes at most five bytes, and several of them at most as many each. Assumes nothing.
+-- A number takes at most five bytes, and several of them at most as many each.
 use mathlib.Core.Path.{_≡_, refl, sym, ap, _∙_}
 use mathlib.Core.Bool.{Bool, true, false, cond}
 use mathlib.Core.List.{List, [], _∷_}

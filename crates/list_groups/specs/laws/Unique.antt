@@ -1,4 +1,4 @@
--- What is shown of an answer loses nothing, so that the contract holds of one answer only. Assumes nothing.
+-- What is shown of an answer loses nothing, so that the contract holds of one answer only.
 use Prim.Native.Nat.{ℕ}
 use mathlib.Core.Path.{_≡_, ap}
 use Rattle.quantity.specs.rules.Answer.{answered}

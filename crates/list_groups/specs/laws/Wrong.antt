@@ -1,5 +1,5 @@
 -- Wrong variants are excluded: each differs from the rule at the input stated. A rule varies: a library that refuses everything, or
--- answers a constant, does not meet it. Assumes nothing.
+-- answers a constant, does not meet it.
 use Prim.Native.Nat.{ℕ, _+_, _*_}
 use mathlib.Core.Path.{refl}
 use mathlib.Core.List.{[], _∷_}
@@ -13,7 +13,8 @@ use Rattle.lent.specs.notions.Code.{ofBytes}
 use Rattle.list_groups.specs.rules.Groups.{groups}
 use Rattle.list_groups.specs.rules.Reading.{Got, readNumber, Placed, readAt}
 use Rattle.list_groups.specs.rules.Fold.{folded, unfolded}
-use Rattle.list_groups.specs.notions.Wrong.{overLongTaken, sixthGroupTaken, above32Taken, twelveForCutShort, lastGroupMarked, highGroupFirst, fourGroups, minusOneIsTwo, signKept}
+use Rattle.list_groups.specs.notions.Wrong.{overLongTaken, sixthGroupTaken, above32Taken, twelveForCutShort, lastGroupMarked, highGroupFirst}
+use Rattle.list_groups.specs.notions.Wrong.{fourGroups, minusOneIsTwo, signKept}
 
 abbrev ofGot : Got ℕ → ℕ
 ofGot g = g .value

@@ -1,4 +1,4 @@
--- `list_radio::check_stars` meets its contract: the stars passed, and what is left, say how many there are. Assumes nothing.
+-- `list_radio::check_stars` meets its contract: the stars passed, and what is left, say how many there are.
 use borrow.Author.Needs.{needs}
 use mathlib.Core.Path.{sym, ap, _∙_}
 use Prim.Native.Nat.{_-_}

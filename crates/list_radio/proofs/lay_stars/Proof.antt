@@ -1,4 +1,4 @@
--- `list_radio::lay_stars` meets its contract: the records laid, and the stars that are left. Assumes nothing.
+-- `list_radio::lay_stars` meets its contract: the records laid, and the stars that are left.
 use borrow.Author.Needs.{needs}
 use mathlib.Core.Path.{sym, ap, _∙_}
 use Prim.Native.Nat.{_-_}

@@ -1,4 +1,4 @@
--- `list_radio::list_to_radio` meets its contract: nothing is written before the whole list is known to be good, and to have room. Assumes nothing.
+-- `list_radio::list_to_radio` meets its contract: nothing is written before the whole list is known to be good, and to have room.
 use borrow.Author.Needs.{needs}
 use borrow.Author.Tests.{not-true, not-false}
 use mathlib.Core.Path.{_≡_, sym, ap, _∙_}

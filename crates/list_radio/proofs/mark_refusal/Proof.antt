@@ -1,4 +1,4 @@
--- `list_radio::mark_refusal` meets its contract. Assumes nothing.
+-- `list_radio::mark_refusal` meets its contract.
 use borrow.Author.Needs.{needs}
 use native.Mathlib.Omega.{arith}
 use Rattle.list_radio.proofs.Reading.{mark-empty, mark-there, mark-other}

@@ -1,4 +1,4 @@
--- `list_radio::put_head` meets its contract. Assumes nothing.
+-- `list_radio::put_head` meets its contract.
 use borrow.Author.Needs.{needs}
 use borrow.Author.Tests.{not-true, not-false}
 use mathlib.Core.Path.{_≡_}

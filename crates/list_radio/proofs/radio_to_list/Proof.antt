@@ -1,4 +1,4 @@
--- `list_radio::radio_to_list` meets its contract: nothing is written before the whole list is known to be good, and to have room. Assumes nothing.
+-- `list_radio::radio_to_list` meets its contract: nothing is written before the whole list is known to be good, and to have room.
 use borrow.Author.Needs.{needs}
 use mathlib.Core.Path.{sym, ap, _∙_}
 use native.Mathlib.Omega.{arith}

@@ -1,4 +1,4 @@
--- `list_radio::star_from` meets its contract: what `number_at` says of each number, and the range after the last. Assumes nothing.
+-- `list_radio::star_from` meets its contract: what `number_at` says of each number, and the range after the last.
 use borrow.Author.Needs.{needs}
 use mathlib.Core.Path.{sym, ap, _∙_}
 use mir.Syntax.{w32}

@@ -1,4 +1,4 @@
--- `list_radio::star_size` meets its contract. Assumes nothing.
+-- `list_radio::star_size` meets its contract.
 use mathlib.Core.Path.{ap, _∙_}
 use Prim.Native.Nat.{ℕ}
 use native.Mathlib.Omega.{arith}

@@ -1,4 +1,4 @@
--- `list_radio::stars_size` meets its contract: after i turns the bytes of the first i stars are counted. Assumes nothing.
+-- `list_radio::stars_size` meets its contract: after i turns the bytes of the first i stars are counted.
 use borrow.Author.Tests.{not-true, not-false}
 use mathlib.Core.Path.{sym, _∙_}
 use Prim.Native.Nat.{_-_}

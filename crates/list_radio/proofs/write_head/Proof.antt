@@ -1,4 +1,4 @@
--- `list_radio::write_head` meets its contract. Assumes nothing.
+-- `list_radio::write_head` meets its contract.
 use borrow.Author.Needs.{needs}
 use Rattle.double.specs.laws.Calls.{asks-nothing}
 use Rattle.lent.specs.laws.Writing.{after}

@@ -1,4 +1,4 @@
--- `list_radio::write_stars` meets its contract: after i turns the first i stars are written. Assumes nothing.
+-- `list_radio::write_stars` meets its contract: after i turns the first i stars are written.
 use borrow.Author.Needs.{needs}
 use mathlib.Core.Path.{_≡_, ap, _∙_}
 use mathlib.Core.List.{_++_}

@@ -1,4 +1,4 @@
--- The movers' calls undo each other, each in a slice that is long enough: both are answered. Assumes nothing.
+-- The movers' calls undo each other, each in a slice that is long enough: both are answered.
 use mathlib.Core.Path.{_≡_, refl, sym, ap, _∙_, subst}
 use mathlib.Core.Bool.{true}
 use mathlib.Core.List.{List}

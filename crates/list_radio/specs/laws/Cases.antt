@@ -1,4 +1,4 @@
--- Radio lists worked out on the rules. Assumes nothing.
+-- Radio lists worked out on the rules.
 use mathlib.Core.Path.{_≡_, refl}
 use mathlib.Core.List.{List, [], _∷_}
 use Prim.Native.Nat.{ℕ}

@@ -1,4 +1,4 @@
--- The passes of the moves, star by star. Assumes nothing.
+-- The passes of the moves, star by star.
 use mathlib.Core.Path.{_≡_, refl, sym, ap, _∙_}
 use mathlib.Core.Bool.{Bool, true, false, cond, _&&_}
 use mathlib.Core.List.{List, [], _∷_, _++_, append-nil}

@@ -1,4 +1,4 @@
--- Which refusal comes out first, in the request's order. Assumes nothing.
+-- Which refusal comes out first, in the request's order.
 use mathlib.Core.Path.{_≡_, refl, _∙_}
 use mathlib.Core.List.{List, [], _∷_}
 use Prim.Native.Nat.{ℕ, _<_}

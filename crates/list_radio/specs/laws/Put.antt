@@ -1,4 +1,4 @@
--- The writer's texts, case by case. Assumes nothing.
+-- The writer's texts, case by case.
 use mathlib.Core.Path.{_≡_}
 use mathlib.Core.Bool.{true, false}
 use Prim.Native.Nat.{ℕ, _+_, _≤_, _<_}

@@ -1,4 +1,4 @@
--- A radio list and its stars say the same: either is had back from the other. Assumes nothing.
+-- A radio list and its stars say the same: either is had back from the other.
 use mathlib.Core.Path.{_≡_, refl, sym, ap, _∙_, subst}
 use mathlib.Core.Bool.{Bool, true, false, cond}
 use mathlib.Core.List.{List, [], _∷_, _++_, append-nil}

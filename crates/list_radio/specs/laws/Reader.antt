@@ -1,4 +1,4 @@
--- A list is accepted as it is opened, and then star by star. Assumes nothing.
+-- A list is accepted as it is opened, and then star by star.
 use mathlib.Core.Path.{_≡_, sym}
 use mathlib.Core.Bool.{Bool, true, false, cond}
 use mathlib.Core.List.{List}

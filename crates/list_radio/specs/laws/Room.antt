@@ -1,5 +1,4 @@
 -- No radio list is longer than `mostBytes`, so a slice of so many has room for every one; and one byte more decides for all that may follow.
--- Assumes nothing.
 use mathlib.Core.Path.{_≡_, refl, sym, ap, _∙_}
 use mathlib.Core.Bool.{Bool, true, false, cond}
 use mathlib.Core.List.{List, [], _∷_, _++_}

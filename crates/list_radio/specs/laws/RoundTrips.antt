@@ -1,4 +1,4 @@
--- The two moves undo each other. Assumes nothing.
+-- The two moves undo each other.
 use mathlib.Core.Path.{_≡_, refl, sym, ap, _∙_}
 use mathlib.Core.Bool.{Bool, true, false, cond}
 use mathlib.Core.List.{List, [], _∷_}

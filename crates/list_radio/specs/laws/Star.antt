@@ -1,4 +1,4 @@
--- A star and its numbers, its numbers and their bytes: each is had back from the other. Assumes nothing.
+-- A star and its numbers, its numbers and their bytes: each is had back from the other.
 use mathlib.Core.Path.{_≡_, refl, sym, ap, _∙_, subst}
 use mathlib.Core.Bool.{Bool, true, false, cond}
 use mathlib.Core.List.{List, [], _∷_, _++_}

@@ -1,5 +1,5 @@
 -- A list is accepted as a caller reads it: as it is opened, then as each star is read from the place answered before it, then 13 for bytes
--- over. Assumes nothing.
+-- over.
 use mathlib.Core.Path.{_≡_, refl, sym, ap, _∙_}
 use mathlib.Core.Bool.{Bool, true, false, cond}
 use mathlib.Core.List.{List, []}

@@ -1,5 +1,5 @@
 -- A radio list is refused at the byte that shows it: where it is refused by another number than 13, which is for bytes that end first or
--- stand over, no byte after it matters. Assumes nothing.
+-- stand over, no byte after it matters.
 use mathlib.Core.Path.{_≡_, refl, sym, ap, _∙_}
 use mathlib.Core.Bool.{Bool, true, false, cond}
 use mathlib.Core.List.{List, [], _∷_, _++_}

@@ -1,4 +1,4 @@
--- What is shown of an answer loses nothing, so that each contract holds of one answer only. Assumes nothing.
+-- What is shown of an answer loses nothing, so that each contract holds of one answer only.
 use mathlib.Core.Path.{_≡_, ap}
 use Prim.Native.Nat.{ℕ}
 use Rattle.list.specs.declared.Star.{Star}

@@ -1,5 +1,5 @@
 -- Wrong variants are excluded: each differs from the rule at the input stated. A rule varies: a library that refuses everything, or
--- answers a constant, does not meet it. Assumes nothing.
+-- answers a constant, does not meet it.
 use Prim.Native.Nat.{ℕ, _+_, _*_}
 use mathlib.Core.Path.{refl}
 use mathlib.Core.List.{List, [], _∷_, _++_}
@@ -21,7 +21,10 @@ use Rattle.list_radio.specs.rules.Reader.{openRule, starAtRule, acceptRu
 use Rattle.list_radio.specs.rules.Put.{headText, starText}
 use Rattle.list_radio.specs.rules.Moves.{toList, toRadio}
 use Rattle.list_radio.specs.notions.Computed.{computed}
-use Rattle.list_radio.specs.notions.Wrong.{emptyIsEleven, anyFirstByte, countAbove5000Taken, rangeUnchecked, nineBeforeTheLastNumber, ownPlace, byteOverTaken, acceptsAbove5000, twelveForBytesOver, ascensionFirst, declinationUnfolded, countLeftOut, bytesCounted, eightBeforeNine, anyCountPut, anyStarPut, movesOutOfRange, nineBeforeEight, starsTurnedRound}
+use Rattle.list_radio.specs.notions.Wrong.{emptyIsEleven, anyFirstByte, countAbove5000Taken, rangeUnchecked, nineBeforeTheLastNumber, ownPlace}
+use Rattle.list_radio.specs.notions.Wrong.{byteOverTaken, acceptsAbove5000, twelveForBytesOver, ascensionFirst, declinationUnfolded}
+use Rattle.list_radio.specs.notions.Wrong.{countLeftOut, bytesCounted, eightBeforeNine, anyCountPut, anyStarPut, movesOutOfRange}
+use Rattle.list_radio.specs.notions.Wrong.{nineBeforeEight, starsTurnedRound}
 
 abbrev ofCount : Got ℕ → ℕ
 ofCount g = g .value

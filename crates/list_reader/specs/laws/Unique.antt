@@ -1,4 +1,4 @@
--- The promise of `make` fixes the reader: its bytes and its place are all of it. Assumes nothing.
+-- The promise of `make` fixes the reader: its bytes and its place are all of it.
 use mathlib.Core.Path.{_≡_}
 use Rattle.list_reader.specs.declared.Reader.{Reader}
 

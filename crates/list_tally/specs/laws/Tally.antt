@@ -1,4 +1,4 @@
--- Raising the tally of some statuses by one more is the tally of them all. Assumes nothing.
+-- Raising the tally of some statuses by one more is the tally of them all.
 use mathlib.Core.Path.{_≡_, refl, sym, ap, _∙_}
 use mathlib.Core.Bool.{Bool, cond}
 use mathlib.Core.List.{List, [], _∷_, _++_, append-assoc, append-nil}

@@ -1,4 +1,4 @@
--- `list_words::reach` meets its contract. Assumes nothing.
+-- `list_words::reach` meets its contract.
 use mathlib.Core.Path.{sym, ap, _∙_}
 use lib.IntN.{ℤ}
 use mir.Syntax.{w32}

@@ -1,4 +1,4 @@
--- `list_words::signed_of` meets its contract. Assumes nothing.
+-- `list_words::signed_of` meets its contract.
 use borrow.Author.Needs.{needs}
 use Rattle.list_words.proofs.Cases.{fits-high, signed-high}
 use Rattle.list_words.proofs.signed_of.Statement.{statement}

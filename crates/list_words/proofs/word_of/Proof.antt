@@ -1,4 +1,4 @@
--- `list_words::word_of` meets its contract. Assumes nothing.
+-- `list_words::word_of` meets its contract.
 use borrow.Author.Needs.{needs}
 use mathlib.Core.Path.{sym, ap, _∙_}
 use Prim.Native.Nat.{ℕ, _-_}

@@ -1,4 +1,4 @@
--- A signed number and its word say the same. Assumes nothing.
+-- A signed number and its word say the same.
 use mathlib.Core.Path.{_≡_, refl}
 use mathlib.Core.Bool.{Bool, true, false}
 use Prim.Native.Nat.{ℕ, suc, _-_, _<_}

@@ -1,4 +1,4 @@
--- `listcases::room_case` meets its contract. Assumes nothing.
+-- `listcases::room_case` meets its contract.
 use borrow.Author.Needs.{needs}
 use mathlib.Core.Path.{sym}
 use lib.Seq.{length-take-le}

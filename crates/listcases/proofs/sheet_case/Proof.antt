@@ -1,4 +1,4 @@
--- `listcases::sheet_case` meets its contract: what is printed are bytes of the sheet's slice. Assumes nothing.
+-- `listcases::sheet_case` meets its contract: what is printed are bytes of the sheet's slice.
 use borrow.Author.Needs.{needs}
 use mathlib.Core.Path.{sym, subst}
 use Prim.Native.Nat.{_≤_}

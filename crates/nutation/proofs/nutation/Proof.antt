@@ -1,4 +1,4 @@
--- `nutation::nutation` meets its contract. Assumes nothing.
+-- `nutation::nutation` meets its contract.
 use Rattle.double.specs.laws.Calls.{asks-nothing}
 use mathlib.Core.Path.{ap}
 use Rattle.quantity.specs.rules.Answer.{answered, pair}

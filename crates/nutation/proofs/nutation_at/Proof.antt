@@ -1,4 +1,4 @@
--- `nutation::nutation_at` meets its contract. Assumes nothing.
+-- `nutation::nutation_at` meets its contract.
 use mathlib.Core.Path.{refl}
 use Rattle.nutation.specs.rules.Point.{nutationAt}
 use Rattle.nutation.proofs.nutation_at.Statement.{statement}

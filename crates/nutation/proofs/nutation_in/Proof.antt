@@ -1,4 +1,4 @@
--- `nutation::nutation_in` meets its contract. Assumes nothing.
+-- `nutation::nutation_in` meets its contract.
 use Rattle.double.specs.laws.Calls.{asks-nothing}
 use Rattle.nutation.specs.rules.Point.{nutationInEqCoordsIn}
 use Rattle.nutation.proofs.nutation_in.Statement.{statement}

@@ -1,4 +1,4 @@
--- `nutation::nutation_in_refusal` meets its contract. Assumes nothing.
+-- `nutation::nutation_in_refusal` meets its contract.
 use Rattle.double.specs.laws.Calls.{asks-nothing}
 use Rattle.nutation.proofs.nutation_in_refusal.Statement.{statement}
 use Rattle.nutation.proofs.nutation_in_refusal.Tie as tie

@@ -1,4 +1,4 @@
--- `nutation_args::converted` meets its contract. Assumes nothing.
+-- `nutation_args::converted` meets its contract.
 use Rattle.double.specs.laws.Calls.{asks-nothing}
 use Rattle.nutation_args.specs.rules.Sum.{converted}
 use Rattle.nutation_args.proofs.converted.Statement.{statement}

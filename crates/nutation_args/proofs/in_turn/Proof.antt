@@ -1,4 +1,4 @@
--- `nutation_args::in_turn` meets its contract. Assumes nothing.
+-- `nutation_args::in_turn` meets its contract.
 use Rattle.double.specs.laws.Calls.{asks-nothing}
 use mathlib.Core.Path.{ap, _∙_}
 use Rattle.helpers.specs.rules.Angle.{radiansOf}

@@ -1,4 +1,4 @@
--- `nutation_args::moon_at` meets its contract. Assumes nothing.
+-- `nutation_args::moon_at` meets its contract.
 use Rattle.double.specs.laws.Calls.{asks-nothing}
 use Rattle.nutation_args.specs.rules.Arguments.{moonOf}
 use Rattle.nutation_args.proofs.moon_at.Statement.{statement}

@@ -1,4 +1,4 @@
--- `nutation_args::moon_from` meets its contract. Assumes nothing.
+-- `nutation_args::moon_from` meets its contract.
 use mathlib.Core.Path.{refl}
 use Rattle.nutation_args.specs.rules.Arguments.{moonFrom}
 use Rattle.nutation_args.proofs.moon_from.Statement.{statement}

@@ -1,4 +1,4 @@
--- `nutation_args::moon_m1` meets its contract. Assumes nothing.
+-- `nutation_args::moon_m1` meets its contract.
 use mathlib.Core.Path.{refl}
 use Rattle.nutation_args.specs.rules.Arguments.{moonM1}
 use Rattle.nutation_args.proofs.moon_m1.Statement.{statement}

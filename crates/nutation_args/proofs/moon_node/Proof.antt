@@ -1,4 +1,4 @@
--- `nutation_args::moon_node` meets its contract. Assumes nothing.
+-- `nutation_args::moon_node` meets its contract.
 use mathlib.Core.Path.{refl}
 use Rattle.nutation_args.specs.rules.Arguments.{moonNode}
 use Rattle.nutation_args.proofs.moon_node.Statement.{statement}

@@ -1,4 +1,4 @@
--- `nutation_args::sun_m` meets its contract. Assumes nothing.
+-- `nutation_args::sun_m` meets its contract.
 use mathlib.Core.Path.{refl}
 use Rattle.nutation_args.specs.rules.Arguments.{sunM}
 use Rattle.nutation_args.proofs.sun_m.Statement.{statement}

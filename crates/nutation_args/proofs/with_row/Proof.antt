@@ -1,4 +1,4 @@
--- `nutation_args::with_row` meets its contract. Assumes nothing.
+-- `nutation_args::with_row` meets its contract.
 use Rattle.double.specs.laws.Calls.{asks-nothing}
 use Rattle.elementary.specs.rules.Sine.{turnOf}
 use Rattle.nutation_args.specs.rules.Sum.{withRow}

@@ -6,7 +6,9 @@ use Rattle.quantity.specs.declared.Rad.{Rad}
 use Rattle.quantity.specs.rules.Angle.{deg}
 use Rattle.helpers.specs.rules.Angle.{within360, radiansOf}
 use Rattle.nutation_args.specs.declared.Moon.{Moon}
-use Rattle.nutation_args.specs.rules.Numbers.{n134·96298, n477198·867398, n0·0086972, n56250, n357·52772, n35999·05034, n0·0001603, n300000, n297·85036, n445267·11148, n0·0019142, n189474, n93·27191, n483202·017538, n0·0036825, n327270, n125·04452, n1934·136261, n0·0020708, n450000}
+use Rattle.nutation_args.specs.rules.Numbers.{n134·96298, n477198·867398, n0·0086972, n56250, n357·52772, n35999·05034, n0·0001603, n300000}
+use Rattle.nutation_args.specs.rules.Numbers.{n297·85036, n445267·11148, n0·0019142, n189474, n93·27191, n483202·017538, n0·0036825, n327270}
+use Rattle.nutation_args.specs.rules.Numbers.{n125·04452, n1934·136261, n0·0020708, n450000}
 
 -- M'
 unfoldable pub moonM1 : Float → Deg

@@ -1,4 +1,4 @@
--- `nutation_table::nutation_on` meets its contract. Assumes nothing.
+-- `nutation_table::nutation_on` meets its contract.
 use Rattle.double.specs.laws.Calls.{asks-nothing}
 use mathlib.Core.Path.{ap, _∙_}
 use Rattle.nutation_args.specs.declared.Moon.{Moon}

@@ -1,4 +1,4 @@
--- Wrong variants are excluded: each differs from the rule on the day stated. Assumes nothing.
+-- Wrong variants are excluded: each differs from the rule on the day stated.
 use Prim.Native.Nat.{ℕ}
 use mathlib.Core.Path.{refl}
 use std.Logic.{_≢_}

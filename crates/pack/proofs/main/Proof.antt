@@ -1,4 +1,4 @@
--- `pack::main` meets its contract: what is printed are bytes of the answer's slice. Assumes nothing.
+-- `pack::main` meets its contract: what is printed are bytes of the answer's slice.
 use borrow.Author.Needs.{needs}
 use mathlib.Core.Path.{sym}
 use lib.Seq.{length-take-le}

@@ -1,4 +1,4 @@
--- `parallax::ahead` meets its contract. Assumes nothing.
+-- `parallax::ahead` meets its contract.
 use Rattle.double.specs.laws.Calls.{asks-nothing}
 use Rattle.parallax.specs.rules.Equatorial.{ahead}
 use Rattle.parallax.proofs.ahead.Statement.{statement}

@@ -1,4 +1,4 @@
--- `parallax::centre_of` meets its contract. Assumes nothing.
+-- `parallax::centre_of` meets its contract.
 use Rattle.double.specs.laws.Calls.{asks-nothing}
 use Rattle.parallax.specs.rules.Observer.{centreOf}
 use Rattle.parallax.proofs.centre_of.Statement.{statement}

@@ -1,4 +1,4 @@
--- `parallax::eastward` meets its contract. Assumes nothing.
+-- `parallax::eastward` meets its contract.
 use Rattle.double.specs.laws.Calls.{asks-nothing}
 use Rattle.parallax.specs.rules.Equatorial.{eastward}
 use Rattle.parallax.proofs.eastward.Statement.{statement}

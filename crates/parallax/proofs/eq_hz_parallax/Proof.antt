@@ -1,4 +1,4 @@
--- `parallax::eq_hz_parallax` meets its contract. Assumes nothing.
+-- `parallax::eq_hz_parallax` meets its contract.
 use Rattle.double.specs.laws.Calls.{asks-nothing}
 use Rattle.quantity.specs.laws.Answer.{refuses, goes-on}
 use Rattle.parallax.proofs.eq_hz_parallax.Statement.{statement}

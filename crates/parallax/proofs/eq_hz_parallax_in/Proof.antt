@@ -1,4 +1,4 @@
--- `parallax::eq_hz_parallax_in` meets its contract. Assumes nothing.
+-- `parallax::eq_hz_parallax_in` meets its contract.
 use Rattle.double.specs.laws.Calls.{asks-nothing}
 use Rattle.parallax.specs.rules.Horizontal.{eqHzParallaxIn}
 use Rattle.parallax.proofs.eq_hz_parallax_in.Statement.{statement}

@@ -1,4 +1,4 @@
--- `parallax::observer_refusal` meets its contract. Assumes nothing.
+-- `parallax::observer_refusal` meets its contract.
 use Rattle.double.specs.laws.Calls.{asks-nothing}
 use Rattle.parallax.specs.rules.Observer.{observerRefusal}
 use Rattle.parallax.proofs.observer_refusal.Statement.{statement}

@@ -1,4 +1,4 @@
--- `parallax::sun_parallax` meets its contract. Assumes nothing.
+-- `parallax::sun_parallax` meets its contract.
 use Rattle.double.specs.laws.Calls.{asks-nothing}
 use Rattle.parallax.specs.rules.Horizontal.{sunParallax}
 use Rattle.parallax.proofs.sun_parallax.Statement.{statement}

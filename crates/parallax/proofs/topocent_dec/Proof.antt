@@ -1,4 +1,4 @@
--- `parallax::topocent_dec` meets its contract. Assumes nothing.
+-- `parallax::topocent_dec` meets its contract.
 use Rattle.double.specs.laws.Calls.{asks-nothing}
 use Rattle.parallax.specs.rules.Equatorial.{topocentDec}
 use Rattle.parallax.proofs.topocent_dec.Statement.{statement}

@@ -1,4 +1,4 @@
--- `parallax::topocent_eq_coords` meets its contract. Assumes nothing.
+-- `parallax::topocent_eq_coords` meets its contract.
 use Rattle.double.specs.laws.Calls.{asks-nothing}
 use Rattle.quantity.specs.laws.Answer.{refuses, goes-on}
 use Rattle.parallax.proofs.topocent_eq_coords.Statement.{statement}

@@ -1,4 +1,4 @@
--- `parallax::topocent_from` meets its contract. Assumes nothing.
+-- `parallax::topocent_from` meets its contract.
 use borrow.Author.Needs.{needs}
 use Rattle.double.specs.laws.Calls.{asks-nothing}
 use mathlib.Core.Path.{refl}

@@ -1,4 +1,4 @@
--- `parallax::topocent_in` meets its contract. Assumes nothing.
+-- `parallax::topocent_in` meets its contract.
 use borrow.Author.Needs.{needs}
 use Rattle.double.specs.laws.Calls.{asks-nothing}
 use Rattle.quantity.specs.laws.Answer.{then-two-answered, then-two-refused}

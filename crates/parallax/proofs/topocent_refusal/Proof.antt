@@ -1,4 +1,4 @@
--- `parallax::topocent_refusal` meets its contract. Assumes nothing.
+-- `parallax::topocent_refusal` meets its contract.
 use Rattle.double.specs.laws.Calls.{asks-nothing}
 use Rattle.parallax.proofs.topocent_refusal.Statement.{statement}
 use Rattle.parallax.proofs.topocent_refusal.Tie as tie

@@ -1,5 +1,5 @@
 -- Wrong variants are excluded: each differs from the rule at the input stated. A rule varies: a library that refuses everything, or
--- answers a constant, does not meet it. Assumes nothing.
+-- answers a constant, does not meet it.
 use mathlib.Core.Path.{refl}
 use std.Logic.{_≢_}
 use lib.Ieee.{neg}
@@ -13,7 +13,8 @@ use Rattle.parallax.specs.rules.Horizontal.{eqHzParallaxRule}
 use Rattle.parallax.specs.rules.Equatorial.{topocentEqCoordsRule}
 use Rattle.parallax.specs.notions.Stated.{equator, polar}
 use Rattle.parallax.specs.notions.Computed.{computed}
-use Rattle.parallax.specs.notions.Wrong.{anotherParallax, distanceMultiplies, distanceNotRefused, changeNotAdded, sineOfParallaxIsCosine, observerNotSteep}
+use Rattle.parallax.specs.notions.Wrong.{anotherParallax, distanceMultiplies, distanceNotRefused, changeNotAdded, sineOfParallaxIsCosine}
+use Rattle.parallax.specs.notions.Wrong.{observerNotSteep}
 
 -- ---- horizontal parallax
 

@@ -1,4 +1,4 @@
--- `parallax_ecl::ecliptic_along` meets its contract. Assumes nothing.
+-- `parallax_ecl::ecliptic_along` meets its contract.
 use borrow.Author.Needs.{needs}
 use Rattle.double.specs.laws.Calls.{asks-nothing}
 use Rattle.quantity.specs.laws.Answer.{then-radians-answered, then-radians-refused}

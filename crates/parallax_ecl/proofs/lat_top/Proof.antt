@@ -1,4 +1,4 @@
--- `parallax_ecl::lat_top` meets its contract. Assumes nothing.
+-- `parallax_ecl::lat_top` meets its contract.
 use borrow.Author.Needs.{needs}
 use Rattle.double.specs.laws.Calls.{asks-nothing}
 use Rattle.parallax_ecl.specs.rules.Ecliptic.{latTop}

@@ -1,4 +1,4 @@
--- `parallax_ecl::long_top` meets its contract. Assumes nothing.
+-- `parallax_ecl::long_top` meets its contract.
 use Rattle.double.specs.laws.Calls.{asks-nothing}
 use Rattle.parallax_ecl.specs.rules.Ecliptic.{longTop}
 use Rattle.parallax_ecl.proofs.long_top.Statement.{statement}

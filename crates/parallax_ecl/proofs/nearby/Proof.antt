@@ -1,4 +1,4 @@
--- `parallax_ecl::nearby` meets its contract. Assumes nothing.
+-- `parallax_ecl::nearby` meets its contract.
 use Rattle.double.specs.laws.Calls.{asks-nothing}
 use Rattle.parallax_ecl.specs.rules.Ecliptic.{nearby}
 use Rattle.parallax_ecl.proofs.nearby.Statement.{statement}

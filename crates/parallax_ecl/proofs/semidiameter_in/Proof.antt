@@ -1,4 +1,4 @@
--- `parallax_ecl::semidiameter_in` meets its contract. Assumes nothing.
+-- `parallax_ecl::semidiameter_in` meets its contract.
 use Rattle.double.specs.laws.Calls.{asks-nothing}
 use Rattle.parallax_ecl.specs.rules.Ecliptic.{semidiameterIn}
 use Rattle.parallax_ecl.proofs.semidiameter_in.Statement.{statement}

@@ -1,4 +1,4 @@
--- `parallax_ecl::topopcent_ecl_coords` meets its contract. Assumes nothing.
+-- `parallax_ecl::topopcent_ecl_coords` meets its contract.
 use Rattle.double.specs.laws.Calls.{asks-nothing}
 use Rattle.quantity.specs.laws.Answer.{refuses, goes-on}
 use Rattle.parallax_ecl.proofs.topopcent_ecl_coords.Statement.{statement}

@@ -1,4 +1,4 @@
--- `parallax_ecl::topopcent_refusal` meets its contract. Assumes nothing.
+-- `parallax_ecl::topopcent_refusal` meets its contract.
 use Rattle.double.specs.laws.Calls.{asks-nothing}
 use Rattle.parallax_ecl.proofs.topopcent_refusal.Statement.{statement}
 use Rattle.parallax_ecl.proofs.topopcent_refusal.Tie as tie

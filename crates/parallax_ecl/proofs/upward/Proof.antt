@@ -1,4 +1,4 @@
--- `parallax_ecl::upward` meets its contract. Assumes nothing.
+-- `parallax_ecl::upward` meets its contract.
 use Rattle.double.specs.laws.Calls.{asks-nothing}
 use Rattle.parallax_ecl.specs.rules.Ecliptic.{upward}
 use Rattle.parallax_ecl.proofs.upward.Statement.{statement}

@@ -1,4 +1,4 @@
--- In the crate's edition the rule is the one of before; in the published one its latitude is Meeus's. Assumes nothing.
+-- In the crate's edition the rule is the one of before; in the published one its latitude is Meeus's.
 use Prim.Native.Nat.{ℕ}
 use mathlib.Core.Path.{_≡_, refl}
 use mathlib.Core.Bool.{Bool, true, false, cond}

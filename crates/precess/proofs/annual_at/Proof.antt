@@ -1,4 +1,4 @@
--- `precess::annual_at` meets its contract. Assumes nothing.
+-- `precess::annual_at` meets its contract.
 use Rattle.double.specs.laws.Calls.{asks-nothing}
 use Rattle.precess.specs.rules.Annual.{annualAt}
 use Rattle.precess.proofs.annual_at.Statement.{statement}

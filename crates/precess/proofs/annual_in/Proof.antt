@@ -1,4 +1,4 @@
--- `precess::annual_in` meets its contract. Assumes nothing.
+-- `precess::annual_in` meets its contract.
 use Rattle.double.specs.laws.Calls.{asks-nothing}
 use Rattle.precess.specs.rules.Annual.{annualIn}
 use Rattle.precess.proofs.annual_in.Statement.{statement}

@@ -1,4 +1,4 @@
--- `precess::annual_m` meets its contract. Assumes nothing.
+-- `precess::annual_m` meets its contract.
 use mathlib.Core.Path.{refl}
 use Rattle.precess.specs.rules.Annual.{annualM}
 use Rattle.precess.proofs.annual_m.Statement.{statement}

@@ -1,4 +1,4 @@
--- `precess::annual_n` meets its contract. Assumes nothing.
+-- `precess::annual_n` meets its contract.
 use mathlib.Core.Path.{refl}
 use Rattle.precess.specs.rules.Annual.{annualN}
 use Rattle.precess.proofs.annual_n.Statement.{statement}

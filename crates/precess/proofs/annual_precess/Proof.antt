@@ -1,4 +1,4 @@
--- `precess::annual_precess` meets its contract. Assumes nothing.
+-- `precess::annual_precess` meets its contract.
 use Rattle.double.specs.laws.Calls.{asks-nothing}
 use Rattle.quantity.specs.laws.Answer.{refuses, goes-on}
 use Rattle.precess.proofs.annual_precess.Statement.{statement}

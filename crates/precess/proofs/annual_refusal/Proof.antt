@@ -1,4 +1,4 @@
--- `precess::annual_refusal` meets its contract. Assumes nothing.
+-- `precess::annual_refusal` meets its contract.
 use Rattle.double.specs.laws.Calls.{asks-nothing}
 use Rattle.precess.proofs.annual_refusal.Statement.{statement}
 use Rattle.precess.proofs.annual_refusal.Tie as tie

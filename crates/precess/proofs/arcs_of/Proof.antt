@@ -1,4 +1,4 @@
--- `precess::arcs_of` meets its contract. Assumes nothing.
+-- `precess::arcs_of` meets its contract.
 use mathlib.Core.Path.{refl}
 use Rattle.precess.specs.rules.Equatorial.{arcsOf}
 use Rattle.precess.proofs.arcs_of.Statement.{statement}

@@ -1,4 +1,4 @@
--- `precess::arcs_refusal` meets its contract. Assumes nothing.
+-- `precess::arcs_refusal` meets its contract.
 use Rattle.double.specs.laws.Calls.{asks-nothing}
 use Rattle.precess.specs.rules.Arcs.{arcsRefusal}
 use Rattle.precess.proofs.arcs_refusal.Statement.{statement}

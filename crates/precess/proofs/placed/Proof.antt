@@ -1,4 +1,4 @@
--- `precess::placed` meets its contract. Assumes nothing.
+-- `precess::placed` meets its contract.
 use Rattle.double.specs.laws.Calls.{asks-nothing}
 use Rattle.precess.specs.rules.Equatorial.{placed}
 use Rattle.precess.proofs.placed.Statement.{statement}

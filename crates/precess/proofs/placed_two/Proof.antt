@@ -1,4 +1,4 @@
--- `precess::placed_two` meets its contract: each lane is its own direction's place. Assumes nothing.
+-- `precess::placed_two` meets its contract: each lane is its own direction's place.
 use Rattle.double.specs.laws.Calls.{asks-nothing}
 use Rattle.elementary_arc.specs.rules.Level.{arctangentsOf}
 use Rattle.precess.specs.rules.Two.{placedTwo}

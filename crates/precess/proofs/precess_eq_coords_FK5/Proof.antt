@@ -1,4 +1,4 @@
--- `precess::precess_eq_coords_FK5` meets its contract. Assumes nothing.
+-- `precess::precess_eq_coords_FK5` meets its contract.
 use Rattle.double.specs.laws.Calls.{asks-nothing}
 use Rattle.quantity.specs.laws.Answer.{refuses, goes-on}
 use Rattle.precess.proofs.precess_eq_coords_FK5.Statement.{statement}

@@ -1,4 +1,4 @@
--- `precess::turned_in` meets its contract. Assumes nothing.
+-- `precess::turned_in` meets its contract.
 use Rattle.double.specs.laws.Calls.{asks-nothing}
 use Rattle.precess.specs.rules.Equatorial.{turnedIn}
 use Rattle.precess.proofs.turned_in.Statement.{statement}

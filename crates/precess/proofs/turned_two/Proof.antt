@@ -1,4 +1,4 @@
--- `precess::turned_two` meets its contract. Assumes nothing.
+-- `precess::turned_two` meets its contract.
 use Rattle.double.specs.laws.Calls.{asks-nothing}
 use Rattle.elementary.specs.rules.Direction.{directionsOf}
 use Rattle.precess.specs.rules.Two.{turnedTwo}

@@ -1,4 +1,4 @@
--- Both arcs side by side make the place. Assumes nothing.
+-- Both arcs side by side make the place.
 use Prim.Native.Nat.{ℕ}
 use mathlib.Core.Path.{_≡_, refl, sym, ap, _∙_}
 use mathlib.Core.Bool.{Bool, true, false, cond}

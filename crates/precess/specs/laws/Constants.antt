@@ -1,4 +1,4 @@
--- Each number of the rules is the decimal that its name spells, rounded once. Assumes nothing.
+-- Each number of the rules is the decimal that its name spells, rounded once.
 use mathlib.Core.Path.{refl}
 use mathlib.Core.List.{List, [], _∷_}
 use lib.Ieee.{Float, ofBits, round}

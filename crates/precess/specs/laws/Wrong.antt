@@ -1,5 +1,5 @@
 -- Wrong variants are excluded: each differs from the rule at the input stated. A rule varies: a library that refuses everything, or
--- answers a constant, does not meet it. What the editions share is worked out in the crate's. Assumes nothing.
+-- answers a constant, does not meet it. What the editions share is worked out in the crate's.
 use mathlib.Core.Path.{refl}
 use std.Logic.{_≢_}
 use lib.Ieee.{Float}

@@ -1,4 +1,4 @@
--- `precess_angles::days_refusal` meets its contract. Assumes nothing.
+-- `precess_angles::days_refusal` meets its contract.
 use Rattle.double.specs.laws.Calls.{asks-nothing}
 use Rattle.precess_angles.specs.rules.Days.{daysRefusal}
 use Rattle.precess_angles.proofs.days_refusal.Statement.{statement}

@@ -1,4 +1,4 @@
--- `precess_angles::degrees_as_radians` meets its contract. Assumes nothing.
+-- `precess_angles::degrees_as_radians` meets its contract.
 use mathlib.Core.Path.{refl}
 use Rattle.precess_angles.specs.rules.Fk4.{degreesAsRadians}
 use Rattle.precess_angles.proofs.degrees_as_radians.Statement.{statement}

@@ -1,4 +1,4 @@
--- `precess_angles::eq_xi` meets its contract. Assumes nothing.
+-- `precess_angles::eq_xi` meets its contract.
 use mathlib.Core.Path.{refl}
 use Rattle.precess_angles.specs.rules.Equatorial.{eqXi}
 use Rattle.precess_angles.proofs.eq_xi.Statement.{statement}

@@ -1,4 +1,4 @@
--- `precess_angles::fk4_angle` meets its contract. Assumes nothing.
+-- `precess_angles::fk4_angle` meets its contract.
 use borrow.Author.Needs.{needs}
 use Rattle.double.specs.laws.Calls.{asks-nothing}
 use Rattle.precess_angles.specs.rules.Fk4.{fk4Angle}

@@ -1,4 +1,4 @@
--- `precess_angles::fk4_angles` meets its contract. Assumes nothing.
+-- `precess_angles::fk4_angles` meets its contract.
 use Rattle.double.specs.laws.Calls.{asks-nothing}
 use Rattle.precess_angles.specs.rules.Fk4.{fk4AnglesOf}
 use Rattle.precess_angles.proofs.fk4_angles.Statement.{statement}

@@ -1,4 +1,4 @@
--- `precess_angles::fk4_theta` meets its contract. Assumes nothing.
+-- `precess_angles::fk4_theta` meets its contract.
 use mathlib.Core.Path.{refl}
 use Rattle.precess_angles.specs.rules.Fk4.{fk4Theta}
 use Rattle.precess_angles.proofs.fk4_theta.Statement.{statement}

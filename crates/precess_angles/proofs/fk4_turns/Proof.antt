@@ -1,4 +1,4 @@
--- `precess_angles::fk4_turns` meets its contract. Assumes nothing.
+-- `precess_angles::fk4_turns` meets its contract.
 use Rattle.double.specs.laws.Calls.{asks-nothing}
 use Rattle.precess_angles.specs.rules.Fk4.{fk4TurnsOf}
 use Rattle.precess_angles.proofs.fk4_turns.Statement.{statement}

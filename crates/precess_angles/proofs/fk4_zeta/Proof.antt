@@ -1,4 +1,4 @@
--- `precess_angles::fk4_zeta` meets its contract. Assumes nothing.
+-- `precess_angles::fk4_zeta` meets its contract.
 use mathlib.Core.Path.{refl}
 use Rattle.precess_angles.specs.rules.Fk4.{fk4Zeta}
 use Rattle.precess_angles.proofs.fk4_zeta.Statement.{statement}

@@ -1,4 +1,4 @@
--- `precess_angles::place_refusal` meets its contract. Assumes nothing.
+-- `precess_angles::place_refusal` meets its contract.
 use Rattle.double.specs.laws.Calls.{asks-nothing}
 use Rattle.precess_angles.proofs.place_refusal.Statement.{statement}
 use Rattle.precess_angles.proofs.place_refusal.Tie as tie

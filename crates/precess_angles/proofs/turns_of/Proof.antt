@@ -1,4 +1,4 @@
--- `precess_angles::turns_of` meets its contract. Assumes nothing.
+-- `precess_angles::turns_of` meets its contract.
 use Rattle.double.specs.laws.Calls.{asks-nothing}
 use Rattle.elementary.specs.rules.Sine.{turnOf}
 use Rattle.precess_angles.specs.rules.Equatorial.{turnsOf}

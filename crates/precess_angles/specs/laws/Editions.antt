@@ -1,4 +1,4 @@
--- In the crate's edition the angles are those of before; in the published one they are Meeus's. Assumes nothing.
+-- In the crate's edition the angles are those of before; in the published one they are Meeus's.
 use mathlib.Core.Path.{_≡_, refl}
 use lib.Ieee.{Float}
 use Rattle.edition.specs.declared.Edition.the-variants.{Crate, Published}

@@ -10,7 +10,8 @@ use Rattle.edition.specs.rules.Edition.{chosen}
 use Rattle.helpers.specs.rules.Angle.{arc, radiansOf}
 use Rattle.precess_angles.specs.declared.EqAngles.{EqAngles}
 use Rattle.precess_angles.specs.declared.EqTurns.{EqTurns}
-use Rattle.precess_angles.specs.rules.Numbers.{n2415020·3135, n36524·2199, n2304·25, n1·396, n0·302, n0·018, n0·791, n0·001, n2004·682, n0·853, n0·426, n0·042}
+use Rattle.precess_angles.specs.rules.Numbers.{n2415020·3135, n36524·2199, n2304·25, n1·396, n0·302, n0·018, n0·791, n0·001, n2004·682, n0·853}
+use Rattle.precess_angles.specs.rules.Numbers.{n0·426, n0·042}
 use Rattle.precess_angles.specs.rules.Equatorial.{turnsOf}
 
 abbrev pub fk4Century : Float → Float

@@ -1,4 +1,4 @@
--- `precess_ecl::ecl_nu` meets its contract. Assumes nothing.
+-- `precess_ecl::ecl_nu` meets its contract.
 use mathlib.Core.Path.{refl}
 use Rattle.precess_ecl.specs.rules.Ecliptic.{eclNu}
 use Rattle.precess_ecl.proofs.ecl_nu.Statement.{statement}

@@ -1,4 +1,4 @@
--- `precess_ecl::ecl_pi` meets its contract. Assumes nothing.
+-- `precess_ecl::ecl_pi` meets its contract.
 use mathlib.Core.Path.{refl}
 use Rattle.precess_ecl.specs.rules.Ecliptic.{eclPi}
 use Rattle.precess_ecl.proofs.ecl_pi.Statement.{statement}

@@ -1,4 +1,4 @@
--- `precess_ecl::ecl_placed` meets its contract. Assumes nothing.
+-- `precess_ecl::ecl_placed` meets its contract.
 use Rattle.double.specs.laws.Calls.{asks-nothing}
 use Rattle.precess_ecl.specs.rules.Ecliptic.{eclPlaced}
 use Rattle.precess_ecl.proofs.ecl_placed.Statement.{statement}

@@ -1,4 +1,4 @@
--- `precess_ecl::ecl_rho` meets its contract. Assumes nothing.
+-- `precess_ecl::ecl_rho` meets its contract.
 use mathlib.Core.Path.{refl}
 use Rattle.precess_ecl.specs.rules.Ecliptic.{eclRho}
 use Rattle.precess_ecl.proofs.ecl_rho.Statement.{statement}

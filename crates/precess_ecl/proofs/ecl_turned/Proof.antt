@@ -1,4 +1,4 @@
--- `precess_ecl::ecl_turned` meets its contract. Assumes nothing.
+-- `precess_ecl::ecl_turned` meets its contract.
 use Rattle.double.specs.laws.Calls.{asks-nothing}
 use Rattle.elementary.specs.rules.Sine.{turnOf}
 use Rattle.precess_ecl.specs.rules.Ecliptic.{eclTurned}

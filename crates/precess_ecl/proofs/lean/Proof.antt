@@ -1,4 +1,4 @@
--- `precess_ecl::lean` meets its contract. Assumes nothing.
+-- `precess_ecl::lean` meets its contract.
 use Rattle.double.specs.laws.Calls.{asks-nothing}
 use Rattle.precess_ecl.specs.rules.Orbit.{leanedOf}
 use Rattle.precess_ecl.proofs.lean.Statement.{statement}

@@ -1,4 +1,4 @@
--- `precess_ecl::new_inclination` meets its contract. Assumes nothing.
+-- `precess_ecl::new_inclination` meets its contract.
 use borrow.Author.Needs.{needs}
 use Rattle.double.specs.laws.Calls.{asks-nothing}
 use Rattle.quantity.specs.laws.Answer.{then-answered, then-refused}

@@ -1,4 +1,4 @@
--- `precess_ecl::new_node` meets its contract. Assumes nothing.
+-- `precess_ecl::new_node` meets its contract.
 use Rattle.double.specs.laws.Calls.{asks-nothing}
 use Rattle.precess_ecl.specs.rules.Orbit.{newNode}
 use Rattle.precess_ecl.proofs.new_node.Statement.{statement}

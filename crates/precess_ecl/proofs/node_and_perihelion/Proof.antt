@@ -1,4 +1,4 @@
--- `precess_ecl::node_and_perihelion` meets its contract. Assumes nothing.
+-- `precess_ecl::node_and_perihelion` meets its contract.
 use Rattle.double.specs.laws.Calls.{asks-nothing}
 use Rattle.precess_ecl.specs.rules.Orbit.{nodeAndPerihelion}
 use Rattle.precess_ecl.proofs.node_and_perihelion.Statement.{statement}

@@ -1,4 +1,4 @@
--- `precess_ecl::orbit_from` meets its contract. Assumes nothing.
+-- `precess_ecl::orbit_from` meets its contract.
 use borrow.Author.Needs.{needs}
 use Rattle.double.specs.laws.Calls.{asks-nothing}
 use mathlib.Core.Path.{refl, ap, _∙_}

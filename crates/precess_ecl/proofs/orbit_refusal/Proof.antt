@@ -1,4 +1,4 @@
--- `precess_ecl::orbit_refusal` meets its contract. Assumes nothing.
+-- `precess_ecl::orbit_refusal` meets its contract.
 use Rattle.double.specs.laws.Calls.{asks-nothing}
 use Rattle.precess_ecl.proofs.orbit_refusal.Statement.{statement}
 use Rattle.precess_ecl.proofs.orbit_refusal.Tie as tie

@@ -1,4 +1,4 @@
--- `precess_ecl::precess_ecl_coords` meets its contract. Assumes nothing.
+-- `precess_ecl::precess_ecl_coords` meets its contract.
 use Rattle.double.specs.laws.Calls.{asks-nothing}
 use Rattle.quantity.specs.laws.Answer.{refuses, goes-on}
 use Rattle.precess_ecl.proofs.precess_ecl_coords.Statement.{statement}

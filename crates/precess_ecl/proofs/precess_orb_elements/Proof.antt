@@ -1,4 +1,4 @@
--- `precess_ecl::precess_orb_elements` meets its contract. Assumes nothing.
+-- `precess_ecl::precess_orb_elements` meets its contract.
 use Rattle.double.specs.laws.Calls.{asks-nothing}
 use Rattle.quantity.specs.laws.Answer.{refuses, goes-on}
 use Rattle.precess_ecl.proofs.precess_orb_elements.Statement.{statement}

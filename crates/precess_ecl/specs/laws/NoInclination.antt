@@ -1,5 +1,5 @@
 -- An orbit without inclination, from the epoch to the epoch, has no new one either: 6, at every argument of perihelion and every node
--- that is not refused. Assumes nothing.
+-- that is not refused.
 use mathlib.Core.Path.{_≡_, refl}
 use mathlib.Core.Bool.{Bool, true, false}
 use Rattle.double.specs.rules.Sign.{negatedIf}

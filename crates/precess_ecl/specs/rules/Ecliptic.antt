@@ -14,7 +14,8 @@ use Rattle.elementary_arc.specs.rules.Arcsine.{arcsineIn}
 use Rattle.helpers.specs.rules.Angle.{arc, radiansOf}
 use Rattle.helpers.specs.rules.Time.{centuryOf}
 use Rattle.precess_ecl.specs.declared.EclTurns.{EclTurns}
-use Rattle.precess_ecl.specs.rules.Numbers.{n0·000598, n47·0029, n0·06603, m0·03302, n0·00006, n174·876384, n3289·4789, n0·60622, n869·8089, n0·50491, n0·03536, n0·000042, n5029·0966, n2·22226, n1·11113, n0·000006}
+use Rattle.precess_ecl.specs.rules.Numbers.{n0·000598, n47·0029, n0·06603, m0·03302, n0·00006, n174·876384, n3289·4789, n0·60622, n869·8089}
+use Rattle.precess_ecl.specs.rules.Numbers.{n0·50491, n0·03536, n0·000042, n5029·0966, n2·22226, n1·11113, n0·000006}
 use Rattle.precess_angles.specs.rules.Days.{spanOf, placeRefusal}
 
 unfoldable pub eclNu : Float → Float → Deg

@@ -1,4 +1,4 @@
--- `quantity::added_to` meets its contract. Assumes nothing.
+-- `quantity::added_to` meets its contract.
 use borrow.Author.Needs.{needs}
 use Rattle.quantity.specs.rules.Answer.{addedTo}
 use Rattle.quantity.proofs.added_to.Statement.{statement}

@@ -1,4 +1,4 @@
--- `quantity::angle_refusal` meets its contract. Assumes nothing.
+-- `quantity::angle_refusal` meets its contract.
 use Rattle.double.specs.laws.Calls.{asks-nothing}
 use Rattle.quantity.specs.rules.Refusal.{angleRefusal}
 use Rattle.quantity.proofs.angle_refusal.Statement.{statement}

@@ -1,4 +1,4 @@
--- `quantity::both` meets its contract. Assumes nothing.
+-- `quantity::both` meets its contract.
 use borrow.Author.Needs.{needs}
 use Rattle.quantity.specs.rules.Answer.{both}
 use Rattle.quantity.proofs.both.Statement.{statement}

@@ -1,4 +1,4 @@
--- `quantity::day_refusal` meets its contract. Assumes nothing.
+-- `quantity::day_refusal` meets its contract.
 use Rattle.double.specs.laws.Calls.{asks-nothing}
 use Rattle.quantity.specs.rules.Refusal.{dayRefusal}
 use Rattle.quantity.proofs.day_refusal.Statement.{statement}

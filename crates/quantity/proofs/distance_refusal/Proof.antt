@@ -1,4 +1,4 @@
--- `quantity::distance_refusal` meets its contract. Assumes nothing.
+-- `quantity::distance_refusal` meets its contract.
 use Rattle.double.specs.laws.Calls.{asks-nothing}
 use Rattle.quantity.specs.rules.Refusal.{distanceRefusal}
 use Rattle.quantity.proofs.distance_refusal.Statement.{statement}

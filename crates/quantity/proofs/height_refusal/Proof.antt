@@ -1,4 +1,4 @@
--- `quantity::height_refusal` meets its contract. Assumes nothing.
+-- `quantity::height_refusal` meets its contract.
 use Rattle.double.specs.laws.Calls.{asks-nothing}
 use Rattle.quantity.specs.rules.Refusal.{heightRefusal}
 use Rattle.quantity.proofs.height_refusal.Statement.{statement}

@@ -1,4 +1,4 @@
--- `quantity::latitude_refusal` meets its contract. Assumes nothing.
+-- `quantity::latitude_refusal` meets its contract.
 use Rattle.double.specs.laws.Calls.{asks-nothing}
 use Rattle.quantity.specs.rules.Refusal.{latitudeRefusal}
 use Rattle.quantity.proofs.latitude_refusal.Statement.{statement}

@@ -1,4 +1,4 @@
--- `quantity::number_refusal` meets its contract. Assumes nothing.
+-- `quantity::number_refusal` meets its contract.
 use Rattle.double.specs.laws.Calls.{asks-nothing}
 use Rattle.quantity.proofs.number_refusal.Statement.{statement}
 use Rattle.quantity.proofs.number_refusal.Tie as tie

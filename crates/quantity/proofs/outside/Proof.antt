@@ -1,4 +1,4 @@
--- `quantity::outside` meets its contract. Assumes nothing.
+-- `quantity::outside` meets its contract.
 use Rattle.double.specs.laws.Calls.{asks-nothing}
 use Rattle.quantity.proofs.outside.Statement.{statement}
 use Rattle.quantity.proofs.outside.Tie as tie

@@ -1,4 +1,4 @@
--- `quantity::plus` meets its contract. Assumes nothing.
+-- `quantity::plus` meets its contract.
 use borrow.Author.Needs.{needs}
 use Rattle.quantity.specs.rules.Answer.{plus}
 use Rattle.quantity.proofs.plus.Statement.{statement}

@@ -1,4 +1,4 @@
--- `quantity::taken_from` meets its contract. Assumes nothing.
+-- `quantity::taken_from` meets its contract.
 use borrow.Author.Needs.{needs}
 use Rattle.quantity.specs.rules.Answer.{takenFrom}
 use Rattle.quantity.proofs.taken_from.Statement.{statement}

@@ -1,5 +1,4 @@
 -- An answer and a refusal are apart, each says its value or its number, and each step that led to an answer was answered.
--- Assumes nothing.
 use Prim.Native.Nat.{ℕ}
 use mathlib.Core.Path.{_≡_, refl, sym, ap}
 use native.Mathlib.Omega.{arith}

@@ -1,5 +1,5 @@
 -- A library that refuses everything and one that answers a constant are excluded (section 9): `found` and `other` are what any function
--- gives that meets its promise, at the two inputs where the rule answers a and b. Assumes nothing.
+-- gives that meets its promise, at the two inputs where the rule answers a and b.
 use mathlib.Core.Path.{_≡_, sym, ap, _∙_}
 use mathlib.Core.Bool.{true}
 use std.Logic.{_≢_}

@@ -1,4 +1,4 @@
--- Wrong variants are excluded: each differs from the rule at the input stated. Assumes nothing.
+-- Wrong variants are excluded: each differs from the rule at the input stated.
 use mathlib.Core.Path.{refl}
 use mathlib.Core.Bool.{false}
 use std.Logic.{_≢_}
@@ -10,10 +10,14 @@ use Rattle.double.specs.laws.Apart.{apart}
 use Rattle.quantity.specs.declared.Places.{Places}
 use Rattle.quantity.specs.rules.Angle.{rad}
 use Rattle.quantity.specs.rules.Answer.{answered, firstPlace, secondPlace, plus, addedTo, takenFrom, both}
-use Rattle.quantity.specs.rules.Refusal.{lower, past, numberRefusal, dayRefusal, angleRefusal, latitudeRefusal, steepRefusal, distanceRefusal, heightRefusal, leastDistance}
+use Rattle.quantity.specs.rules.Refusal.{lower, past, numberRefusal, dayRefusal, angleRefusal, latitudeRefusal, steepRefusal, distanceRefusal}
+use Rattle.quantity.specs.rules.Refusal.{heightRefusal, leastDistance}
 use Rattle.quantity.specs.notions.Computed.{computed}
 use Rattle.quantity.specs.notions.Code.{ofFloat, ofRad, ofPair, ofAnswer}
-use Rattle.quantity.specs.notions.Wrong.{refusedPlaceAnswered, refusedByTheOther, placesMixed, plusTakesAway, addedToDropsTheAngle, takenFromTheOtherWay, bothTraded, lowerIsHigher, numberLetsInfinityIn, pastTakesTheLimitIn, dayLimitOff, angleLimitOff, steepestOff, steepLimitOff, distanceLimitOff, everyAngleRefused, latitudeLimitIsAnAngles, heightFromTheSea}
+use Rattle.quantity.specs.notions.Wrong.{refusedPlaceAnswered, refusedByTheOther, placesMixed, plusTakesAway, addedToDropsTheAngle}
+use Rattle.quantity.specs.notions.Wrong.{takenFromTheOtherWay, bothTraded, lowerIsHigher, numberLetsInfinityIn, pastTakesTheLimitIn}
+use Rattle.quantity.specs.notions.Wrong.{dayLimitOff, angleLimitOff, steepestOff, steepLimitOff, distanceLimitOff, everyAngleRefused}
+use Rattle.quantity.specs.notions.Wrong.{latitudeLimitIsAnAngles, heightFromTheSea}
 use Rattle.quantity.specs.notions.Stated.{r1, r2}
 
 -- ---- two places side by side: the first is refused, the second is not

@@ -1,4 +1,4 @@
--- `remainder::digits` meets its contract. Assumes nothing.
+-- `remainder::digits` meets its contract.
 use borrow.Author.Needs.{needs}
 use mathlib.Core.Path.{sym}
 use Rattle.remainder.specs.laws.Digits.{digits-low, digits-high}

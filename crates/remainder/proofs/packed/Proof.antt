@@ -1,4 +1,4 @@
--- `remainder::packed` meets its contract: r is `Raised` by its leading zeros, or as far as g goes. Assumes nothing.
+-- `remainder::packed` meets its contract: r is `Raised` by its leading zeros, or as far as g goes.
 use borrow.Author.Needs.{needs}
 use mathlib.Core.Path.{_≡_, sym, ap, _∙_}
 use Prim.Native.Nat.{ℕ, _+_, _-_, _*_, _%_, _^_}

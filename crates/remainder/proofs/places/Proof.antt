@@ -1,4 +1,4 @@
--- `remainder::places` meets its contract. Assumes nothing.
+-- `remainder::places` meets its contract.
 use borrow.Author.Needs.{needs}
 use mathlib.Core.Path.{sym}
 use Rattle.remainder.specs.laws.Digits.{places-low, places-high}

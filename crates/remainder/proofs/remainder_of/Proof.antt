@@ -1,4 +1,4 @@
--- `remainder::remainder_of` meets its contract: the tests leave two finite sizes to the whole numbers. Assumes nothing.
+-- `remainder::remainder_of` meets its contract: the tests leave two finite sizes to the whole numbers.
 use mathlib.Core.Path.{_≡_, sym, _∙_, subst}
 use mathlib.Core.Bool.{true}
 use Prim.Native.Nat.{_%_}
@@ -12,7 +12,8 @@ use Rattle.double.specs.laws.Calls.{asks-nothing}
 use Rattle.double.specs.laws.Patterns.{finite-no-nan, from-zero-pattern, pattern-from-zero, pattern-no-nan}
 use Rattle.remainder.specs.notions.Steps.{Divisible}
 use Rattle.remainder.specs.laws.Remainder.{remainder-is-only, signed-remainder}
-use Rattle.remainder.specs.laws.Tests.{infinite-has-none, none-by-zero, size-from-zero, pattern-counts, above-no-nan, smaller-is-itself, divisible, minus-below-zero}
+use Rattle.remainder.specs.laws.Tests.{infinite-has-none, none-by-zero, size-from-zero, pattern-counts, above-no-nan, smaller-is-itself}
+use Rattle.remainder.specs.laws.Tests.{divisible, minus-below-zero}
 use Rattle.remainder.proofs.remainder_of.Statement.{statement}
 use Rattle.remainder.proofs.remainder_of.Tie as tie
 

@@ -1,4 +1,4 @@
--- `remainder::remainder_pattern` meets its contract: what counts no less has no fewer places. Assumes nothing.
+-- `remainder::remainder_pattern` meets its contract: what counts no less has no fewer places.
 use borrow.Author.Needs.{needs}
 use borrow.Author.Tests.{le-ltb}
 use mathlib.Core.Path.{_≡_, refl, _∙_}

@@ -1,4 +1,4 @@
--- `remainder::rest_of` meets its contract: a turn moves places from what is left of them to the digits. Assumes nothing.
+-- `remainder::rest_of` meets its contract: a turn moves places from what is left of them to the digits.
 use mathlib.Core.Path.{_≡_, refl, ap, _∙_}
 use Prim.Native.Nat.{ℕ, _+_, _-_, _*_, _%_, _^_, _≤_, _<_}
 use native.Mathlib.Nat.{lt-of-lt-of-le, lt-trans, mod-lt, mod-eq-of-lt}

@@ -1,4 +1,4 @@
--- Remainders worked out by the rule. Assumes nothing.
+-- Remainders worked out by the rule.
 use mathlib.Core.Path.{refl}
 use mathlib.Core.List.{List, [], _∷_}
 use Prim.Native.Nat.{ℕ}

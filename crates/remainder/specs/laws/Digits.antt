@@ -1,4 +1,4 @@
--- What the digits and places of a pattern count, and which pattern counts a number of 53 digits and its places. Assumes nothing.
+-- What the digits and places of a pattern count, and which pattern counts a number of 53 digits and its places.
 use mathlib.Core.Path.{_≡_, sym, ap, _∙_}
 use mathlib.Core.Logic.{_⊎_, inl, inr}
 use Prim.Native.Nat.{ℕ, _+_, _-_, _*_, _/_, _%_, _^_, _≤_, _<_}

@@ -1,4 +1,4 @@
--- The remainder is exact: it is `IsRemainder` of every two finite doubles, the second not zero. Assumes nothing.
+-- The remainder is exact: it is `IsRemainder` of every two finite doubles, the second not zero.
 use mathlib.Core.Path.{_≡_, refl, sym, subst, _∙_}
 use mathlib.Core.Logic.{_⊎_, inl, inr}
 use mathlib.Core.Bool.{true}

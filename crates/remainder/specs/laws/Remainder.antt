@@ -1,5 +1,4 @@
 -- The remainder is exact: it bears the first number's sign and counts what is left over whole numbers, and nothing else is it.
--- Assumes nothing.
 use mathlib.Core.Path.{_≡_, refl, sym, ap, _∙_}
 use mathlib.Core.Bool.{Bool, true, false, true≢false}
 use Prim.Native.Nat.{ℕ, _*_, _%_, _^_, _<_}

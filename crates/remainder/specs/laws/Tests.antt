@@ -1,4 +1,4 @@
--- What the tests of `remainder_of` tell. Assumes nothing.
+-- What the tests of `remainder_of` tell.
 use mathlib.Core.Path.{_≡_, refl, sym, ap, _∙_}
 use mathlib.Core.Bool.{true, false, not, true≢false}
 use Prim.Native.Nat.{ℕ, zero, suc, _+_, _*_, _^_, _≤_, _<_}

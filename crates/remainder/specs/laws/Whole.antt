@@ -1,4 +1,4 @@
--- What is left of a whole number by another: of a product, and of numbers with zeros at their end. Assumes nothing.
+-- What is left of a whole number by another: of a product, and of numbers with zeros at their end.
 use mathlib.Core.Path.{_≡_, sym, ap, _∙_}
 use Prim.Native.Nat.{ℕ, _+_, _-_, _*_, _/_, _%_, _^_, _≤_, _<_}
 use native.Mathlib.Nat.{mul-assoc, mul-lt-mul-of-pos-right, mod-lt, div-add-mod', add-mul-mod-self-right}

@@ -1,4 +1,4 @@
--- `report::put_report` meets its contract. Assumes nothing.
+-- `report::put_report` meets its contract.
 use borrow.Author.Needs.{needs}
 use Rattle.double.specs.laws.Calls.{asks-nothing}
 use mathlib.Core.Path.{refl}

@@ -1,4 +1,4 @@
--- The text of what a call of the batch answered and left is the report of the list. Assumes nothing.
+-- The text of what a call of the batch answered and left is the report of the list.
 use Prim.Native.Nat.{ℕ, _<_}
 use mathlib.Core.Path.{_≡_, refl, ap, _∙_}
 use mathlib.Core.Bool.{Bool, true, false, cond}

@@ -1,4 +1,4 @@
--- The text of any bytes has room in `room` bytes, in each style. Assumes nothing.
+-- The text of any bytes has room in `room` bytes, in each style.
 use Prim.Native.Nat.{ℕ, _+_, _≤_}
 use mathlib.Core.Path.{_≡_, refl}
 use mathlib.Core.Bool.{Bool, true, false, cond}

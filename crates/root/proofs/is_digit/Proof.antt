@@ -1,4 +1,4 @@
--- `root::is_digit` meets its contract: no difference that passes its test has wrapped. Assumes nothing.
+-- `root::is_digit` meets its contract: no difference that passes its test has wrapped.
 use borrow.Author.Needs.{needs}
 use borrow.Author.Tests.{leb-true, leb-false}
 use mathlib.Core.Path.{_≡_, refl, sym, ap, _∙_}

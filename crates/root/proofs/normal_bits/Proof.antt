@@ -1,4 +1,4 @@
--- `root::normal_bits` meets its contract: the pattern, with 1021 more in its exponent's field, is what `pack` takes. Assumes nothing.
+-- `root::normal_bits` meets its contract: the pattern, with 1021 more in its exponent's field, is what `pack` takes.
 use mathlib.Core.Path.{_≡_, sym, ap, _∙_, subst}
 use Prim.Native.Nat.{_+_, _/_, _%_, _^_}
 use native.Mathlib.Omega.{arith}

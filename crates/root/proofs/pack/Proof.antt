@@ -1,4 +1,4 @@
--- `root::pack` meets its contract: p stands for a number in `Normal` form. Assumes nothing.
+-- `root::pack` meets its contract: p stands for a number in `Normal` form.
 use borrow.Author.Needs.{needs}
 use mathlib.Core.Path.{_≡_, ap, _∙_}
 use Prim.Native.Nat.{ℕ, _+_, _*_, _/_, _%_, _^_}

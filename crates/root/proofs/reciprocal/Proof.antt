@@ -1,4 +1,4 @@
--- `root::reciprocal` is safe: no pattern that it makes is a NaN's. Assumes nothing.
+-- `root::reciprocal` is safe: no pattern that it makes is a NaN's.
 use borrow.Author.Needs.{needs}
 use native.Mathlib.Omega.{arith}
 use Rattle.double.specs.laws.Patterns.{pattern-no-nan}

@@ -1,4 +1,4 @@
--- `root::root_of` meets its contract: what is not at most the greatest double is not finite. Assumes nothing.
+-- `root::root_of` meets its contract: what is not at most the greatest double is not finite.
 use borrow.Author.Needs.{needs}
 use mathlib.Core.Path.{_≡_, refl, sym, subst}
 use mathlib.Core.Bool.{Bool, true, false, cond}

@@ -1,4 +1,4 @@
--- `root::root_refusal` meets its contract. Assumes nothing.
+-- `root::root_refusal` meets its contract.
 use Rattle.double.specs.laws.Calls.{asks-nothing}
 use Rattle.root.proofs.root_refusal.Statement.{statement}
 use Rattle.root.proofs.root_refusal.Tie as tie

@@ -1,11 +1,12 @@
--- `root::rounded_root` meets its contract: two digits, and what is left beside them. Assumes nothing.
+-- `root::rounded_root` meets its contract: two digits, and what is left beside them.
 use borrow.Author.Needs.{needs}
 use mathlib.Core.Path.{_≡_, subst}
 use Prim.Native.Nat.{ℕ, _+_, _-_, _*_, _/_, _%_, _^_, _≤_, _<_}
 use native.Mathlib.Nat.{mul-le-mul}
 use native.Mathlib.Omega.{arith}
 use Rattle.root.specs.rules.Whole.{IsWholeRoot, IsDigit}
-use Rattle.root.specs.laws.Whole.{whole-root-least, whole-root-most, first-digit, second-most, first-fits, second-fits, rest-most, rounded-down, rounded-up}
+use Rattle.root.specs.laws.Whole.{whole-root-least, whole-root-most, first-digit, second-most, first-fits, second-fits, rest-most, rounded-down}
+use Rattle.root.specs.laws.Whole.{rounded-up}
 use Rattle.root.proofs.rounded_root.Statement.{statement}
 use Rattle.root.proofs.rounded_root.Tie as tie
 

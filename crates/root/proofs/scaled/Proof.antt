@@ -1,4 +1,4 @@
--- `root::scaled` is safe: the pattern that it makes is no NaN's. Assumes nothing.
+-- `root::scaled` is safe: the pattern that it makes is no NaN's.
 use borrow.Author.Needs.{needs}
 use native.Mathlib.Omega.{arith}
 use Rattle.double.specs.laws.Patterns.{pattern-no-nan}

@@ -1,4 +1,4 @@
--- `root::square_root` meets its contract: no normal number above zero is refused. Assumes nothing.
+-- `root::square_root` meets its contract: no normal number above zero is refused.
 use borrow.Author.Needs.{needs}
 use mathlib.Core.Path.{sym, ap, _∙_, subst}
 use lib.Dec.{T}

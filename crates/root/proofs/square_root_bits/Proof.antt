@@ -1,4 +1,4 @@
--- `root::square_root_bits` meets its contract. Assumes nothing.
+-- `root::square_root_bits` meets its contract.
 use borrow.Author.Needs.{needs}
 use mathlib.Core.Path.{sym, ap, _∙_, subst}
 use lib.Dec.{T}

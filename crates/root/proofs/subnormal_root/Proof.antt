@@ -1,4 +1,4 @@
--- `root::subnormal_root` meets its contract: the digits are `Raised` by their leading zeros. Assumes nothing.
+-- `root::subnormal_root` meets its contract: the digits are `Raised` by their leading zeros.
 use mathlib.Core.Path.{_≡_, sym, ap, _∙_, subst}
 use Prim.Native.Nat.{_-_, _*_, _^_, _<_}
 use native.Mathlib.Omega.{arith}

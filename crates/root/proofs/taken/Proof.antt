@@ -1,4 +1,4 @@
--- `root::taken` meets its contract: neither product has more than 61 digits. Assumes nothing.
+-- `root::taken` meets its contract: neither product has more than 61 digits.
 use borrow.Author.Needs.{needs}
 use mathlib.Core.Path.{_≡_}
 use Prim.Native.Nat.{ℕ, _+_, _-_, _*_, _/_, _%_, _^_, _≤_, _<_}

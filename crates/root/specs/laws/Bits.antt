@@ -1,4 +1,4 @@
--- The bits of a root. Assumes nothing.
+-- The bits of a root.
 use mathlib.Core.Path.{_≡_, sym, ap, _∙_}
 use Prim.Native.Nat.{ℕ}
 use lib.Ieee.{Float}

@@ -1,4 +1,4 @@
--- Roots worked out by the rule. Assumes nothing.
+-- Roots worked out by the rule.
 use mathlib.Core.Path.{refl}
 use Prim.Native.Nat.{ℕ}
 use mathlib.Core.List.{List, [], _∷_}

@@ -1,5 +1,5 @@
 -- No double a·2^j, a below 2^53, lies nearer to a root than q·2^e, q of 53 digits, if the root lies within half of 2^e of that: all on
--- plain numbers, w the square of twice the root. Assumes nothing.
+-- plain numbers, w the square of twice the root.
 use mathlib.Core.Path.{_≡_, sym, ap, _∙_}
 use mathlib.Core.Logic.{_⊎_, inl, inr}
 use Prim.Native.Nat.{ℕ, suc, _+_, _-_, _*_, _^_, _≤_, _<_}

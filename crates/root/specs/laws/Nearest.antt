@@ -1,4 +1,4 @@
--- The root of the rule is the nearest double: IEEE 754's squareRoot to nearest. Assumes nothing.
+-- The root of the rule is the nearest double: IEEE 754's squareRoot to nearest.
 use mathlib.Core.Path.{_≡_, refl, sym, ap, _∙_, subst}
 use Prim.Native.Nat.{ℕ, zero, suc, _+_, _-_, _*_, _/_, _%_, _^_, _≤_, _<_}
 use native.Mathlib.Nat.{le-trans, lt-of-lt-of-le, mul-pos, mul-le-mul, mul-le-mul-right, mul-lt-mul-of-pos-right, mul-mul-mul-comm}

@@ -1,4 +1,4 @@
--- The square of twice a root in normal form, d·2^54·4^e with d of 53 or 54 digits, and what `rootPattern` makes of it. Assumes nothing.
+-- The square of twice a root in normal form, d·2^54·4^e with d of 53 or 54 digits, and what `rootPattern` makes of it.
 use mathlib.Core.Path.{_≡_, sym, ap, _∙_}
 use mathlib.Core.Logic.{_⊎_, inl, inr}
 use Prim.Native.Nat.{ℕ, _+_, _-_, _*_, _/_, _%_, _^_, _≤_, _<_}

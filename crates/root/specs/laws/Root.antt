@@ -1,4 +1,4 @@
--- Roots of doubles from zero on are such doubles, and are not refused. Assumes nothing.
+-- Roots of doubles from zero on are such doubles, and are not refused.
 use mathlib.Core.Path.{_≡_, refl, sym}
 use mathlib.Core.Bool.{Bool, true, false, cond, true≢false}
 use Prim.Native.Nat.{zero, _*_, zero-le}

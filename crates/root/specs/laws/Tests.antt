@@ -1,4 +1,4 @@
--- What the tests of `root_of` tell. Assumes nothing.
+-- What the tests of `root_of` tell.
 use mathlib.Core.Path.{_≡_, refl, sym, _∙_}
 use mathlib.Core.Logic.{_⊎_, inl, inr}
 use mathlib.Core.Bool.{Bool, true, false, true≢false}

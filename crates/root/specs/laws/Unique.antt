@@ -1,4 +1,4 @@
--- One double at most is the nearest to a root: the root would lie on both sides of the midpoint between two. Assumes nothing.
+-- One double at most is the nearest to a root: the root would lie on both sides of the midpoint between two.
 use mathlib.Core.Path.{_≡_, sym}
 use mathlib.Core.Logic.{_⊎_, inl, inr}
 use Prim.Native.Nat.{ℕ, _+_, _*_, _≤_, _<_}

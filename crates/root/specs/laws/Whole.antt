@@ -1,4 +1,4 @@
--- `wholeRoot` finds the whole part of a root; there is one only; its digits can be found several at once. Assumes nothing.
+-- `wholeRoot` finds the whole part of a root; there is one only; its digits can be found several at once.
 use mathlib.Core.Path.{_≡_, refl, sym, subst}
 use mathlib.Core.Logic.{_⊎_, inl, inr}
 use mathlib.Core.Bool.{Bool, true, false, cond}

@@ -1,5 +1,5 @@
 -- Wrong variants are excluded: each differs from the rule at the input stated. The rule varies: a library that refuses everything, or
--- answers a constant, does not meet it. Assumes nothing.
+-- answers a constant, does not meet it.
 use mathlib.Core.Path.{refl}
 use mathlib.Core.Bool.{false}
 use std.Logic.{_≢_}
@@ -18,7 +18,8 @@ use Rattle.quantity.specs.notions.Varies.{Varies}
 use Rattle.root.specs.rules.Whole.{IsDigit}
 use Rattle.root.specs.rules.Root.{rootOf, rootRule}
 use Rattle.root.specs.notions.Computed.{computed}
-use Rattle.root.specs.notions.Wrong.{infinityLetIn, largestRefused, least, leastBelowZeroLetIn, wrongNumber, zeroLosesSign, bitsLoseTheSign, cutNotRounded, oddTwoLost, subnormalExponent, oneDigitFewer, RestTooLarge, MidpointWrong}
+use Rattle.root.specs.notions.Wrong.{infinityLetIn, largestRefused, least, leastBelowZeroLetIn, wrongNumber, zeroLosesSign, bitsLoseTheSign}
+use Rattle.root.specs.notions.Wrong.{cutNotRounded, oddTwoLost, subnormalExponent, oneDigitFewer, RestTooLarge, MidpointWrong}
 
 -- 3.0 and 5.0
 abbrev three : Float

@@ -1,4 +1,4 @@
--- `starlist::main` meets its contract: what is printed are bytes of the sheet's slice. Assumes nothing.
+-- `starlist::main` meets its contract: what is printed are bytes of the sheet's slice.
 use borrow.Author.Needs.{needs}
 use mathlib.Core.Path.{sym, subst}
 use Prim.Native.Nat.{_≤_}

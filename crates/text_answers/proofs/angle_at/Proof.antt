@@ -1,4 +1,4 @@
--- `text_answers::angle_at` meets its contract. Assumes nothing.
+-- `text_answers::angle_at` meets its contract.
 use borrow.Author.Needs.{needs}
 use Prim.Native.Nat.{ℕ}
 use mathlib.Core.Path.{sym, ap}

@@ -1,4 +1,4 @@
--- `text_answers::byte_at` meets its contract. Assumes nothing.
+-- `text_answers::byte_at` meets its contract.
 use borrow.Author.Needs.{needs}
 use mathlib.Core.Path.{sym}
 use lib.ListN.{List·getD-eq-default}

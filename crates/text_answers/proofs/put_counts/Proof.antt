@@ -1,4 +1,4 @@
--- `text_answers::put_counts` meets its contract: after k turns the first k counts are written. Assumes nothing.
+-- `text_answers::put_counts` meets its contract: after k turns the first k counts are written.
 use borrow.Author.Needs.{needs}
 use Prim.Native.Nat.{_+_, _-_}
 use Rattle.double.specs.laws.Calls.{asks-nothing}

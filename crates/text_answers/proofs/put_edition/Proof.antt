@@ -1,4 +1,4 @@
--- `text_answers::put_edition` meets its contract. Assumes nothing.
+-- `text_answers::put_edition` meets its contract.
 use borrow.Author.Needs.{needs}
 use mathlib.Core.Path.{sym, ap}
 use native.Mathlib.Nat.{zero-min}

@@ -1,4 +1,4 @@
--- `text_answers::put_head` meets its contract. Assumes nothing.
+-- `text_answers::put_head` meets its contract.
 use borrow.Author.Needs.{needs}
 use Rattle.double.specs.laws.Calls.{asks-nothing}
 use mathlib.Core.Path.{sym}

@@ -1,4 +1,4 @@
--- `text_answers::put_stars` meets its contract: after i turns the first i stars are written. Assumes nothing.
+-- `text_answers::put_stars` meets its contract: after i turns the first i stars are written.
 use borrow.Author.Needs.{needs}
 use Prim.Native.Nat.{_-_}
 use Rattle.double.specs.laws.Calls.{asks-nothing}

@@ -1,4 +1,4 @@
--- `text_answers::refusal_in` meets its contract. Assumes nothing.
+-- `text_answers::refusal_in` meets its contract.
 use borrow.Author.Needs.{needs}
 use Rattle.double.specs.laws.Calls.{asks-nothing}
 use Rattle.text_answers.proofs.refusal_in.Statement.{statement}

@@ -1,4 +1,4 @@
--- `text_day::day_from` meets its contract. Assumes nothing.
+-- `text_day::day_from` meets its contract.
 use Rattle.double.specs.laws.Calls.{asks-nothing}
 use Rattle.text_day.specs.rules.Day.{dayFrom}
 use Rattle.text_day.proofs.day_from.Statement.{statement}

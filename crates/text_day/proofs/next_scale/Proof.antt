@@ -1,4 +1,4 @@
--- `text_day::next_scale` meets its contract. Assumes nothing.
+-- `text_day::next_scale` meets its contract.
 use Rattle.text_day.proofs.next_scale.Statement.{statement}
 use Rattle.text_day.proofs.next_scale.Tie as tie
 

@@ -1,4 +1,4 @@
--- `text_day::read` meets its contract: what is left to scan leads to the same end. Assumes nothing.
+-- `text_day::read` meets its contract: what is left to scan leads to the same end.
 use borrow.Author.Needs.{needs}
 use mathlib.Core.Path.{_≡_, refl, sym, ap, _∙_}
 use mathlib.Core.List.{List}

@@ -1,4 +1,4 @@
--- `text_day::with_byte` meets its contract. Assumes nothing.
+-- `text_day::with_byte` meets its contract.
 use borrow.Author.Tests.{eq-eqb, ne-eqb, le-leb, lt-leb}
 use Rattle.double.specs.laws.Calls.{asks-nothing}
 use Rattle.text_day.specs.rules.Day.{withByte}

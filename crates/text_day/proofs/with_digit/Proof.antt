@@ -1,4 +1,4 @@
--- `text_day::with_digit` meets its contract. Assumes nothing.
+-- `text_day::with_digit` meets its contract.
 use borrow.Author.Needs.{needs}
 use borrow.Author.Tests.{le-leb, lt-leb}
 use mathlib.Core.Path.{_≡_, sym, ap, _∙_}

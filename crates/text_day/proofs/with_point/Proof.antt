@@ -1,4 +1,4 @@
--- `text_day::with_point` meets its contract. Assumes nothing.
+-- `text_day::with_point` meets its contract.
 use Rattle.double.specs.laws.Calls.{asks-nothing}
 use Rattle.text_day.specs.rules.Day.{withPoint}
 use Rattle.text_day.proofs.with_point.Statement.{statement}

@@ -1,4 +1,4 @@
--- Every power of ten that a scan can reach is exact, and the last of them is the widest. Assumes nothing.
+-- Every power of ten that a scan can reach is exact, and the last of them is the widest.
 use mathlib.Core.Path.{_≡_, refl}
 use lib.Ieee.{ofBits, mul}
 use Rattle.double.specs.rules.Table.{Agrees}

@@ -1,4 +1,4 @@
--- The promise of `read` fixes its answer: a reading is of one day only. Assumes nothing.
+-- The promise of `read` fixes its answer: a reading is of one day only.
 use mathlib.Core.Path.{_≡_, sym, _∙_}
 use Rattle.text_day.specs.declared.Day.{Day}
 use Rattle.text_day.specs.declared.Day.the-variants.{Is, Unclear}

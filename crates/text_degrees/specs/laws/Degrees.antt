@@ -1,4 +1,4 @@
--- The rule without a byte and by the first one, and that the promise of `read` fixes its answer. Assumes nothing.
+-- The rule without a byte and by the first one, and that the promise of `read` fixes its answer.
 use Prim.Native.Nat.{ℕ, _<_}
 use mathlib.Core.Path.{_≡_, refl, sym, _∙_}
 use mathlib.Core.Bool.{true, false, cond}

@@ -1,4 +1,4 @@
--- Wrong variants are excluded: each differs from the rule at the text stated. Assumes nothing.
+-- Wrong variants are excluded: each differs from the rule at the text stated.
 use mathlib.Core.Path.{refl}
 use std.Logic.{_≢_}
 use Rattle.double.specs.laws.Apart.{apart}

@@ -1,4 +1,4 @@
--- `text_line::has_minus` meets its contract. Assumes nothing.
+-- `text_line::has_minus` meets its contract.
 use Rattle.text_line.proofs.has_minus.Statement.{statement}
 use Rattle.text_line.proofs.has_minus.Tie as tie
 

@@ -1,4 +1,4 @@
--- `text_line::put_line` meets its contract. Assumes nothing.
+-- `text_line::put_line` meets its contract.
 use borrow.Author.Needs.{needs}
 use borrow.Author.Tests.{eq-eqb, ne-eqb}
 use mathlib.Core.List.{append-assoc}

@@ -1,4 +1,4 @@
--- A wrong variant is excluded: it differs from the rule at the input stated. Assumes nothing.
+-- A wrong variant is excluded: it differs from the rule at the input stated.
 use mathlib.Core.Path.{refl}
 use std.Logic.{_≢_}
 use Rattle.double.specs.laws.Apart.{apart}

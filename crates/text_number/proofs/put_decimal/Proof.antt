@@ -1,4 +1,4 @@
--- `text_number::put_decimal` meets its contract. Assumes nothing.
+-- `text_number::put_decimal` meets its contract.
 use borrow.Author.Needs.{needs}
 use mathlib.Core.Path.{_∙_}
 use Rattle.double.specs.laws.Calls.{asks-nothing}

@@ -1,4 +1,4 @@
--- `text_number::put_integer` meets its contract. Assumes nothing.
+-- `text_number::put_integer` meets its contract.
 use borrow.Author.Needs.{needs}
 use mathlib.Core.Path.{ap, _∙_}
 use mathlib.Core.Bool.{Bool}

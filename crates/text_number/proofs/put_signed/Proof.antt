@@ -1,4 +1,4 @@
--- `text_number::put_signed` meets its contract. Assumes nothing.
+-- `text_number::put_signed` meets its contract.
 use borrow.Author.Needs.{needs}
 use Rattle.double.specs.laws.Calls.{asks-nothing}
 use Rattle.lent.specs.laws.Writing.{after, same}

@@ -1,4 +1,4 @@
--- How long numbers and refusals are as text. Assumes nothing.
+-- How long numbers and refusals are as text.
 use mathlib.Core.Path.{_≡_, refl}
 use mathlib.Core.Bool.{Bool, true, false, cond}
 use mathlib.Core.List.{List, [], _∷_, _++_}

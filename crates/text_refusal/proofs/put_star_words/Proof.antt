@@ -1,4 +1,4 @@
--- `text_refusal::put_star_words` meets its contract. Assumes nothing.
+-- `text_refusal::put_star_words` meets its contract.
 use borrow.Author.Needs.{needs}
 use Rattle.double.specs.laws.Calls.{asks-nothing}
 use borrow.Author.Tests.{eq-eqb, ne-eqb}

@@ -1,4 +1,4 @@
--- How long a refusal in words is, at most. Assumes nothing.
+-- How long a refusal in words is, at most.
 use Prim.Native.Nat.{ℕ, _≤_}
 use mathlib.Core.Bool.{Bool, true, false, cond}
 use mathlib.Core.List.{List, [], _∷_, _++_}

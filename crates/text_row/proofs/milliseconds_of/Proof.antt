@@ -1,4 +1,4 @@
--- `text_row::milliseconds_of` meets its contract. Assumes nothing.
+-- `text_row::milliseconds_of` meets its contract.
 use Rattle.double.specs.laws.Calls.{asks-nothing}
 use Rattle.text_row.specs.rules.Place.{millisecondsOf}
 use Rattle.text_row.proofs.milliseconds_of.Statement.{statement}

@@ -1,4 +1,4 @@
--- `text_row::put_arc` meets its contract. Assumes nothing.
+-- `text_row::put_arc` meets its contract.
 use borrow.Author.Needs.{needs}
 use Rattle.double.specs.laws.Calls.{asks-nothing}
 use Prim.Native.Nat.{ℕ, _/_, _%_}

@@ -1,4 +1,4 @@
--- `text_row::put_column` meets its contract. Assumes nothing.
+-- `text_row::put_column` meets its contract.
 use borrow.Author.Needs.{needs}
 use Rattle.double.specs.laws.Calls.{asks-nothing}
 use mathlib.Core.Path.{_≡_, sym, ap}

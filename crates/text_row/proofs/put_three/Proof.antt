@@ -1,4 +1,4 @@
--- `text_row::put_three` meets its contract. Assumes nothing.
+-- `text_row::put_three` meets its contract.
 use borrow.Author.Needs.{needs}
 use Rattle.double.specs.laws.Calls.{asks-nothing}
 use borrow.Author.Tests.{lt-ltb, le-ltb}

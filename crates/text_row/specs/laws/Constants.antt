@@ -1,4 +1,4 @@
--- The constants of the rules are their decimals, rounded once. Assumes nothing.
+-- The constants of the rules are their decimals, rounded once.
 use mathlib.Core.Path.{_≡_, refl}
 use lib.Ieee.{ofBits, round}
 use Rattle.double.specs.rules.Table.{decimal}

@@ -1,5 +1,5 @@
 -- What is shown is the nearest: of every finite right ascension the number of milliseconds before a whole turn is taken off, and of a
--- declination, up to the farthest angle, the number of hundredths. Assumes nothing.
+-- declination, up to the farthest angle, the number of hundredths.
 use Prim.Native.Nat.{_≤_}
 use mathlib.Core.Path.{_≡_, refl}
 use native.Mathlib.Nat.{le-trans}

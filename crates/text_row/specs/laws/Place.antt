@@ -1,5 +1,5 @@
 -- A place in its columns: a right ascension has twelve bytes, and so has a declination below a hundred degrees; what the parts say is the
--- whole number that was rounded to; and a whole turn is shown as none. Assumes nothing.
+-- whole number that was rounded to; and a whole turn is shown as none.
 use Prim.Native.Nat.{ℕ, suc, _+_, _*_, _/_, _%_, _≤_, _<_}
 use mathlib.Core.Path.{_≡_, refl}
 use mathlib.Core.Bool.{Bool, true, false, cond}

@@ -1,4 +1,4 @@
--- A number below 2^32 fills its column of ten, and a row has 145 bytes at most. Assumes nothing.
+-- A number below 2^32 fills its column of ten, and a row has 145 bytes at most.
 use Prim.Native.Nat.{ℕ, _+_, _-_, _/_, _%_, _≤_, _<_}
 use mathlib.Core.Path.{_≡_}
 use mathlib.Core.Bool.{Bool, true, false, cond}

@@ -1,4 +1,4 @@
--- `text_sheet::good` meets its contract. Assumes nothing.
+-- `text_sheet::good` meets its contract.
 use mathlib.Core.Path.{sym, _∙_}
 use Rattle.double.specs.laws.Calls.{asks-nothing}
 use Rattle.text_sheet.proofs.good.Statement.{statement}

@@ -1,4 +1,4 @@
--- `text_sheet::put_heading` meets its contract. Assumes nothing.
+-- `text_sheet::put_heading` meets its contract.
 use borrow.Author.Needs.{needs}
 use Rattle.double.specs.laws.Calls.{asks-nothing}
 use mathlib.Core.List.{append-assoc}

@@ -1,4 +1,4 @@
--- `text_sheet::put_line` meets its contract, piece by piece. Assumes nothing.
+-- `text_sheet::put_line` meets its contract, piece by piece.
 use borrow.Author.Needs.{needs}
 use mathlib.Core.Path.{_≡_, sym, ap, _∙_}
 use mathlib.Core.Bool.{true, false}

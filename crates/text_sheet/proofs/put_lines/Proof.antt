@@ -1,4 +1,4 @@
--- `text_sheet::put_lines` meets its contract: after i turns the first i lines are written. Assumes nothing.
+-- `text_sheet::put_lines` meets its contract: after i turns the first i lines are written.
 use borrow.Author.Needs.{needs}
 use Prim.Native.Nat.{_-_}
 use mathlib.Core.Path.{ap}

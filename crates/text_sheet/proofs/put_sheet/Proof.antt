@@ -1,4 +1,4 @@
--- `text_sheet::put_sheet` meets its contract: heading, lines and footing, one after the other. Assumes nothing.
+-- `text_sheet::put_sheet` meets its contract: heading, lines and footing, one after the other.
 use borrow.Author.Needs.{needs}
 use mathlib.Core.Path.{_≡_, sym, _∙_}
 use mathlib.Core.Bool.{true, false}

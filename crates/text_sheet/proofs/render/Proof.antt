@@ -1,4 +1,4 @@
--- `text_sheet::render` meets its contract. Assumes nothing.
+-- `text_sheet::render` meets its contract.
 use borrow.Author.Needs.{needs}
 use mathlib.Core.Path.{_≡_, ap, _∙_}
 use mathlib.Core.List.{List, _++_}

@@ -1,4 +1,4 @@
--- What is shown of an answer loses nothing, so that the contract holds of one answer only. Assumes nothing.
+-- What is shown of an answer loses nothing, so that the contract holds of one answer only.
 use mathlib.Core.Path.{_≡_}
 use Rattle.text_sheet.specs.rules.Render.{shownWritten}
 use Rattle.text_sheet.specs.declared.Written.{Written}

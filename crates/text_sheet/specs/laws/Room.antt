@@ -1,4 +1,4 @@
--- The sheet of any bytes has room in `room` bytes. Assumes nothing.
+-- The sheet of any bytes has room in `room` bytes.
 use mathlib.Core.Path.{_≡_, refl}
 use mathlib.Core.Bool.{Bool, true, false, cond}
 use mathlib.Core.List.{List, _∷_, _++_}

@@ -1,4 +1,4 @@
--- The good stars of a list, star by star. Assumes nothing.
+-- The good stars of a list, star by star.
 use mathlib.Core.Path.{_≡_, refl, sym, ap, _∙_}
 use mathlib.Core.Bool.{cond}
 use mathlib.Core.List.{List, [], _∷_, _++_}

@@ -1,4 +1,4 @@
--- `text_time::put_two` meets its contract. Assumes nothing.
+-- `text_time::put_two` meets its contract.
 use borrow.Author.Needs.{needs}
 use Rattle.double.specs.laws.Calls.{asks-nothing}
 use borrow.Author.Tests.{lt-ltb, le-ltb}

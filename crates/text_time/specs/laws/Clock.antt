@@ -1,5 +1,5 @@
 -- A clock below a hundred hours, as a time up to the end of a day is, has eight bytes, two digits to each part; and what the parts say is
--- the seconds. Assumes nothing.
+-- the seconds.
 use Prim.Native.Nat.{ℕ, suc, _+_, _*_, _/_, _%_, _<_}
 use mathlib.Core.Path.{_≡_, refl}
 use mathlib.Core.Bool.{Bool, true, false, cond}

@@ -1,4 +1,4 @@
--- The constant of the rules is its decimal, rounded once. Assumes nothing.
+-- The constant of the rules is its decimal, rounded once.
 use mathlib.Core.Path.{_≡_, refl}
 use lib.Ieee.{ofBits, round}
 use Rattle.double.specs.rules.Table.{decimal}

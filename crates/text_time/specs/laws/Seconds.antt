@@ -1,4 +1,4 @@
--- The seconds of a fraction from 0.0 to 1.0 are 86400 at most, and the true whole part of the seconds and a half. Assumes nothing.
+-- The seconds of a fraction from 0.0 to 1.0 are 86400 at most, and the true whole part of the seconds and a half.
 use Prim.Native.Nat.{_≤_}
 use native.Mathlib.Nat.{le-trans}
 use native.Mathlib.Omega.{arith}

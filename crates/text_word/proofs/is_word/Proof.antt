@@ -1,4 +1,4 @@
--- `text_word::is_word` meets its contract: before each turn the bytes so far are the word's. Assumes nothing.
+-- `text_word::is_word` meets its contract: before each turn the bytes so far are the word's.
 use borrow.Author.Needs.{needs}
 use mathlib.Core.Path.{_≡_, sym, ap, _∙_}
 use Prim.Native.Nat.{ℕ, _-_, _≤_, _<_}

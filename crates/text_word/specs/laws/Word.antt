@@ -1,4 +1,4 @@
--- A text is a word where it is equal to it, and only there. Assumes nothing.
+-- A text is a word where it is equal to it, and only there.
 use Prim.Native.Nat.{ℕ, zero, suc, _+_, _≤_, _<_}
 use mathlib.Core.Path.{_≡_, refl, sym, ap, _∙_}
 use mathlib.Core.Bool.{Bool, true, false}

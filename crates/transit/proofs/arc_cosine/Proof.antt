@@ -1,4 +1,4 @@
--- `transit::arc_cosine` meets its contract. Assumes nothing.
+-- `transit::arc_cosine` meets its contract.
 use Rattle.double.specs.laws.Calls.{asks-nothing}
 use Rattle.elementary.specs.rules.Sine.{turnOf}
 use Rattle.transit.specs.rules.Arc.{arcCosine}

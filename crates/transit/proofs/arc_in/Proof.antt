@@ -1,4 +1,4 @@
--- `transit::arc_in` meets its contract. Assumes nothing.
+-- `transit::arc_in` meets its contract.
 use Rattle.double.specs.laws.Calls.{asks-nothing}
 use Rattle.transit.specs.rules.Arc.{arcIn}
 use Rattle.transit.proofs.arc_in.Statement.{statement}

@@ -1,4 +1,4 @@
--- `transit::fractions` meets its contract. Assumes nothing.
+-- `transit::fractions` meets its contract.
 use Rattle.double.specs.laws.Calls.{asks-nothing}
 use Rattle.transit.specs.rules.RiseCulmSet.{fractions}
 use Rattle.transit.proofs.fractions.Statement.{statement}

@@ -1,4 +1,4 @@
--- `transit::observer_refusal` meets its contract. Assumes nothing.
+-- `transit::observer_refusal` meets its contract.
 use Rattle.double.specs.laws.Calls.{asks-nothing}
 use Rattle.transit.specs.rules.RiseCulmSet.{observerRefusal}
 use Rattle.transit.proofs.observer_refusal.Statement.{statement}

@@ -1,4 +1,4 @@
--- `transit::planned` meets its contract. Assumes nothing.
+-- `transit::planned` meets its contract.
 use Rattle.double.specs.laws.Calls.{asks-nothing}
 use mathlib.Core.Path.{refl}
 use Rattle.quantity.specs.laws.Answer.{refuses, goes-on}

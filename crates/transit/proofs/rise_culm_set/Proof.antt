@@ -1,4 +1,4 @@
--- `transit::rise_culm_set` meets its contract. Assumes nothing.
+-- `transit::rise_culm_set` meets its contract.
 use Rattle.double.specs.laws.Calls.{asks-nothing}
 use Rattle.quantity.specs.laws.Answer.{refuses, goes-on}
 use Rattle.transit.proofs.rise_culm_set.Statement.{statement}

@@ -1,4 +1,4 @@
--- `transit::rise_culm_set_in` meets its contract. Assumes nothing.
+-- `transit::rise_culm_set_in` meets its contract.
 use borrow.Author.Needs.{needs}
 use Rattle.double.specs.laws.Calls.{asks-nothing}
 use Rattle.quantity.specs.laws.Answer.{then-radians-answered, then-radians-refused}

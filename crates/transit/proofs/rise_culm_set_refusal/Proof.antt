@@ -1,4 +1,4 @@
--- `transit::rise_culm_set_refusal` meets its contract. Assumes nothing.
+-- `transit::rise_culm_set_refusal` meets its contract.
 use Rattle.double.specs.laws.Calls.{asks-nothing}
 use Rattle.transit.specs.rules.RiseCulmSet.{riseCulmSetRefusal}
 use Rattle.transit.proofs.rise_culm_set_refusal.Statement.{statement}

@@ -1,5 +1,4 @@
 -- Of arguments that are not refused, 15 is given exactly where the quotient exceeds 1, and 16 exactly where it is below −1.
--- Assumes nothing.
 use Prim.Native.Nat.{ℕ, _≤_}
 use native.Mathlib.Omega.{arith}
 use mathlib.Core.Path.{_≡_, refl, sym}

@@ -1,5 +1,5 @@
 -- The limits: a quotient of exactly 1 or −1 is answered, the star then touching the altitude at its culmination or half a day from it;
--- and a fraction below zero by next to nothing is folded to 1.0 itself. Assumes nothing.
+-- and a fraction below zero by next to nothing is folded to 1.0 itself.
 use mathlib.Core.Path.{_≡_, refl}
 use lib.Ieee.{neg}
 use Rattle.double.specs.rules.Operations.{bits, zero, one}

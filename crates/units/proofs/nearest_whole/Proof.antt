@@ -1,4 +1,4 @@
--- `units::nearest_whole` meets its contract. Assumes nothing.
+-- `units::nearest_whole` meets its contract.
 use borrow.Author.Needs.{needs}
 use borrow.Author.Tests.{lt-ltb, le-ltb}
 use Rattle.double.specs.laws.Calls.{asks-nothing}

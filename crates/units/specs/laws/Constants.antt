@@ -1,4 +1,4 @@
--- The constants of the rules are what the paper gives, rounded once. Assumes nothing.
+-- The constants of the rules are what the paper gives, rounded once.
 use mathlib.Core.Path.{_≡_, refl}
 use lib.Ieee.{ofBits, round, div}
 use Rattle.double.specs.rules.Operations.{_⊘_}

@@ -1,4 +1,4 @@
--- Below 2^53 the rounding of the rules gives the nearest whole number, since the difference on which it goes is exact. Assumes nothing.
+-- Below 2^53 the rounding of the rules gives the nearest whole number, since the difference on which it goes is exact.
 use mathlib.Core.Path.{_≡_, refl, sym, ap, _∙_, subst}
 use mathlib.Core.Bool.{Bool, true, false, not, _&&_}
 use Prim.Native.Nat.{ℕ, zero, suc, _+_, _-_, _*_, _%_, _^_, _≤_, _<_}

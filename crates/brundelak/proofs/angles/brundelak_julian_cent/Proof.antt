@@ -1,4 +1,4 @@
--- `brundelak::angles::brundelak_julian_cent` meets its contract. Assumes nothing.
+-- `brundelak::angles::brundelak_julian_cent` meets its contract.
 use Rattle.double.specs.laws.Calls.{asks-nothing}
 use Rattle.brundelak_handed.specs.laws.Boundary.{told}
 use Rattle.brundelak.proofs.angles.brundelak_julian_cent.Statement.{statement}

@@ -1,4 +1,4 @@
--- `brundelak::angles::brundelak_rho_sin_cos_phi` meets its contract. Assumes nothing.
+-- `brundelak::angles::brundelak_rho_sin_cos_phi` meets its contract.
 use Rattle.double.specs.laws.Calls.{asks-nothing}
 use Rattle.brundelak_handed.specs.laws.Boundary.{told-two}
 use Rattle.brundelak.proofs.angles.brundelak_rho_sin_cos_phi.Statement.{statement}

@@ -1,4 +1,4 @@
--- `brundelak::angles::brundelak_to_radians` meets its contract. Assumes nothing.
+-- `brundelak::angles::brundelak_to_radians` meets its contract.
 use Rattle.double.specs.laws.Calls.{asks-nothing}
 use Rattle.brundelak_handed.specs.laws.Boundary.{told-radians}
 use Rattle.brundelak.proofs.angles.brundelak_to_radians.Statement.{statement}

@@ -1,4 +1,4 @@
--- `brundelak::functions::brundelak_arctangent` meets its contract. Assumes nothing.
+-- `brundelak::functions::brundelak_arctangent` meets its contract.
 use Rattle.double.specs.laws.Calls.{asks-nothing}
 use Rattle.brundelak_handed.specs.laws.Boundary.{told-radians}
 use Rattle.brundelak.proofs.functions.brundelak_arctangent.Statement.{statement}

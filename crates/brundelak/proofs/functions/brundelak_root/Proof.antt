@@ -1,4 +1,4 @@
--- `brundelak::functions::brundelak_root` meets its contract. Assumes nothing.
+-- `brundelak::functions::brundelak_root` meets its contract.
 use Rattle.double.specs.laws.Calls.{asks-nothing}
 use Rattle.brundelak_handed.specs.laws.Boundary.{told-bits}
 use Rattle.brundelak.proofs.functions.brundelak_root.Statement.{statement}

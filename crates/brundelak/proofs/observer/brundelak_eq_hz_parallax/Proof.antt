@@ -1,4 +1,4 @@
--- `brundelak::observer::brundelak_eq_hz_parallax` meets its contract. Assumes nothing.
+-- `brundelak::observer::brundelak_eq_hz_parallax` meets its contract.
 use Rattle.double.specs.laws.Calls.{asks-nothing}
 use Rattle.brundelak_handed.specs.laws.Boundary.{told-radians}
 use Rattle.brundelak.proofs.observer.brundelak_eq_hz_parallax.Statement.{statement}

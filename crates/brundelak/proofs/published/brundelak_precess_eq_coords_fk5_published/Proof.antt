@@ -1,4 +1,4 @@
--- `brundelak::published::brundelak_precess_eq_coords_fk5_published` meets its contract. Assumes nothing.
+-- `brundelak::published::brundelak_precess_eq_coords_fk5_published` meets its contract.
 use Rattle.double.specs.laws.Calls.{asks-nothing}
 use Rattle.brundelak_handed.specs.laws.Boundary.{told-two}
 use Rattle.brundelak.proofs.published.brundelak_precess_eq_coords_fk5_published.Statement.{statement}

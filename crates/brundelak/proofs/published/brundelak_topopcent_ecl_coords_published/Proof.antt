@@ -1,4 +1,4 @@
--- `brundelak::published::brundelak_topopcent_ecl_coords_published` meets its contract. Assumes nothing.
+-- `brundelak::published::brundelak_topopcent_ecl_coords_published` meets its contract.
 use Rattle.double.specs.laws.Calls.{asks-nothing}
 use Rattle.brundelak_handed.specs.laws.Boundary.{told-three}
 use Rattle.brundelak.proofs.published.brundelak_topopcent_ecl_coords_published.Statement.{statement}

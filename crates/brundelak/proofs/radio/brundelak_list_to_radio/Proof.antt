@@ -1,4 +1,4 @@
--- `brundelak::radio::brundelak_list_to_radio` meets its contract. Assumes nothing.
+-- `brundelak::radio::brundelak_list_to_radio` meets its contract.
 use borrow.Author.Needs.{needs}
 use Rattle.double.specs.laws.Calls.{asks-nothing}
 use Rattle.brundelak.specs.laws.Put.{put-told, not-put-told}

@@ -1,4 +1,4 @@
--- `brundelak::radio::brundelak_radio_accept` meets its contract. Assumes nothing.
+-- `brundelak::radio::brundelak_radio_accept` meets its contract.
 use borrow.Author.Needs.{needs}
 use Rattle.double.specs.laws.Calls.{asks-nothing}
 use Rattle.brundelak.specs.laws.Radio.{accepted-told, not-accepted-told}

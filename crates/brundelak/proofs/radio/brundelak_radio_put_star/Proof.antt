@@ -1,4 +1,4 @@
--- `brundelak::radio::brundelak_radio_put_star` meets its contract. Assumes nothing.
+-- `brundelak::radio::brundelak_radio_put_star` meets its contract.
 use borrow.Author.Needs.{needs}
 use mir.Facts.{toZ-ofZ}
 use Rattle.double.specs.laws.Calls.{asks-nothing}

@@ -1,4 +1,4 @@
--- `brundelak::reduction::brundelak_precess_orb_elements` meets its contract. Assumes nothing.
+-- `brundelak::reduction::brundelak_precess_orb_elements` meets its contract.
 use Rattle.double.specs.laws.Calls.{asks-nothing}
 use Rattle.brundelak_handed.specs.laws.Boundary.{told-three}
 use Rattle.brundelak.proofs.reduction.brundelak_precess_orb_elements.Statement.{statement}

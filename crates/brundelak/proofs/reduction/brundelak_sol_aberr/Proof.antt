@@ -1,4 +1,4 @@
--- `brundelak::reduction::brundelak_sol_aberr` meets its contract. Assumes nothing.
+-- `brundelak::reduction::brundelak_sol_aberr` meets its contract.
 use Rattle.double.specs.laws.Calls.{asks-nothing}
 use Rattle.brundelak_handed.specs.laws.Boundary.{told-radians}
 use Rattle.brundelak.proofs.reduction.brundelak_sol_aberr.Statement.{statement}

@@ -1,4 +1,4 @@
--- `brundelak::refraction::brundelak_refrac_frm_apprnt_alt` meets its contract. Assumes nothing.
+-- `brundelak::refraction::brundelak_refrac_frm_apprnt_alt` meets its contract.
 use Rattle.double.specs.laws.Calls.{asks-nothing}
 use Rattle.brundelak_handed.specs.laws.Boundary.{told-arcminutes}
 use Rattle.brundelak.proofs.refraction.brundelak_refrac_frm_apprnt_alt.Statement.{statement}

@@ -1,4 +1,4 @@
--- `brundelak::stored::brundelak_find` meets its contract. Assumes nothing.
+-- `brundelak::stored::brundelak_find` meets its contract.
 use borrow.Author.Needs.{needs}
 use Rattle.double.specs.laws.Calls.{asks-nothing}
 use Rattle.list_words.specs.laws.Signed.{signed-word}

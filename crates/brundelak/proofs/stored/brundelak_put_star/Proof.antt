@@ -1,4 +1,4 @@
--- `brundelak::stored::brundelak_put_star` meets its contract. Assumes nothing.
+-- `brundelak::stored::brundelak_put_star` meets its contract.
 use borrow.Author.Needs.{needs}
 use mir.Facts.{toZ-ofZ}
 use Rattle.double.specs.laws.Calls.{asks-nothing}

@@ -1,4 +1,4 @@
--- `brundelak::stored::brundelak_tally_raise` meets its contract. Assumes nothing.
+-- `brundelak::stored::brundelak_tally_raise` meets its contract.
 use mathlib.Core.Path.{ap}
 use Rattle.double.specs.laws.Calls.{asks-nothing}
 use Rattle.list_tally.specs.declared.Raised.{Raised}

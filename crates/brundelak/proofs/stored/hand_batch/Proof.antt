@@ -1,4 +1,4 @@
--- `brundelak::stored::hand_batch` meets its contract. Assumes nothing.
+-- `brundelak::stored::hand_batch` meets its contract.
 use Rattle.double.specs.laws.Calls.{asks-nothing}
 use Rattle.brundelak.specs.laws.Stored.{batch-refused, batch-done}
 use borrow.Author.Needs.{needs}

@@ -1,4 +1,4 @@
--- `domain::angle::to_radians` meets its contract: that an f64 fits is known where the function is entered. Assumes nothing.
+-- `domain::angle::to_radians` meets its contract: that an f64 fits is known where the function is entered.
 use mathlib.Core.Path.{sym, subst}
 use lib.Dec.{T}
 use Rattle.double.specs.laws.Calls.{asks-nothing}

@@ -1,4 +1,4 @@
--- `helpers::angle::deg_frm_hms` meets its contract. Assumes nothing.
+-- `helpers::angle::deg_frm_hms` meets its contract.
 use Rattle.double.specs.laws.Calls.{asks-nothing}
 use Rattle.quantity.specs.laws.Answer.{refuses, goes-on}
 use Rattle.helpers.proofs.angle.deg_frm_hms.Statement.{statement}

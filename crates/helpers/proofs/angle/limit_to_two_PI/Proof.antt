@@ -1,4 +1,4 @@
--- `helpers::angle::limit_to_two_PI` meets its contract. Assumes nothing.
+-- `helpers::angle::limit_to_two_PI` meets its contract.
 use Rattle.double.specs.laws.Calls.{asks-nothing}
 use Rattle.quantity.specs.laws.Answer.{refuses, goes-on}
 use Rattle.helpers.proofs.angle.limit_to_two_PI.Statement.{statement}

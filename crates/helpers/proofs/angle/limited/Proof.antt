@@ -1,4 +1,4 @@
--- `helpers::angle::limited` meets its contract. Assumes nothing.
+-- `helpers::angle::limited` meets its contract.
 use Rattle.double.specs.laws.Calls.{asks-nothing}
 use Rattle.helpers.specs.rules.Angle.{limited}
 use Rattle.helpers.proofs.angle.limited.Statement.{statement}

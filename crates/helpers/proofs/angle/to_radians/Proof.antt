@@ -1,4 +1,4 @@
--- `helpers::angle::to_radians` meets its contract. Assumes nothing.
+-- `helpers::angle::to_radians` meets its contract.
 use Rattle.double.specs.laws.Calls.{asks-nothing}
 use Rattle.quantity.specs.laws.Answer.{refuses, goes-on}
 use Rattle.helpers.proofs.angle.to_radians.Statement.{statement}

@@ -1,4 +1,4 @@
--- `helpers::angle::within_360` meets its contract. Assumes nothing.
+-- `helpers::angle::within_360` meets its contract.
 use Rattle.double.specs.laws.Calls.{asks-nothing}
 use Rattle.helpers.proofs.angle.within_360.Statement.{statement}
 use Rattle.helpers.proofs.angle.within_360.Tie as tie

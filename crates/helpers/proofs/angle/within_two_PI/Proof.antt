@@ -1,4 +1,4 @@
--- `helpers::angle::within_two_PI` meets its contract. Assumes nothing.
+-- `helpers::angle::within_two_PI` meets its contract.
 use Rattle.double.specs.laws.Calls.{asks-nothing}
 use Rattle.helpers.proofs.angle.within_two_PI.Statement.{statement}
 use Rattle.helpers.proofs.angle.within_two_PI.Tie as tie

@@ -1,4 +1,4 @@
--- `helpers::time::julian_cent` meets its contract. Assumes nothing.
+-- `helpers::time::julian_cent` meets its contract.
 use Rattle.double.specs.laws.Calls.{asks-nothing}
 use Rattle.quantity.specs.laws.Answer.{refuses, goes-on}
 use Rattle.helpers.proofs.time.julian_cent.Statement.{statement}

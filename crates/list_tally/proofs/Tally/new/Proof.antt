@@ -1,4 +1,4 @@
--- `list_tally::Tally::new` meets its contract. Assumes nothing.
+-- `list_tally::Tally::new` meets its contract.
 use mathlib.Core.Path.{refl}
 use Rattle.list_tally.specs.rules.Tally.{tallyOf}
 use Rattle.list_tally.proofs.Tally.new.Statement.{statement}

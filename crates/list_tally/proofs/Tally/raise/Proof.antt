@@ -1,4 +1,4 @@
--- `list_tally::Tally::raise` meets its contract. Assumes nothing.
+-- `list_tally::Tally::raise` meets its contract.
 use borrow.Author.Needs.{needs}
 use borrow.Author.Tests.{lt-leb, le-leb, lt-ltb, le-ltb}
 use Rattle.list_tally.specs.rules.Tally.{raiseRefusal, raiseRule}

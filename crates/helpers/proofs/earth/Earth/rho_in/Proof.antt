@@ -1,4 +1,4 @@
--- `helpers::earth::Earth::rho_in` meets its contract. Assumes nothing.
+-- `helpers::earth::Earth::rho_in` meets its contract.
 use borrow.Author.Needs.{needs}
 use Rattle.double.specs.laws.Calls.{asks-nothing}
 use Rattle.quantity.specs.laws.Answer.{then-radians-answered, then-radians-refused}

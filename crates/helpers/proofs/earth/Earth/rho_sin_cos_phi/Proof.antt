@@ -1,4 +1,4 @@
--- `helpers::earth::Earth::rho_sin_cos_phi` meets its contract. Assumes nothing.
+-- `helpers::earth::Earth::rho_sin_cos_phi` meets its contract.
 use Rattle.double.specs.laws.Calls.{asks-nothing}
 use Rattle.quantity.specs.laws.Answer.{refuses, goes-on}
 use Rattle.helpers.proofs.earth.Earth.rho_sin_cos_phi.Statement.{statement}
