@@ -13,13 +13,12 @@ pub mod Equatorial
 pub mod Editions
 pub mod Ecliptic
 pub mod Orbit
+pub mod Ranges
 pub mod NutationArguments
 pub mod NutationSum
 pub mod NutationPoint
 pub mod SunAberration
-pub mod Rows1To12
-pub mod Rows13To24
-pub mod Rows25To36
+pub mod AberrationSum
 pub mod StarAberration
 pub mod Arcsine
 pub mod Horizontal

@@ -5,6 +5,7 @@ pub mod Alike
 pub mod Editions
 pub mod Pole
 pub mod Turns
+pub mod Ranges
 pub mod Nutation
 pub mod Aberration
 pub mod Transit

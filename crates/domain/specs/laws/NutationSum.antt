@@ -11,7 +11,7 @@ use Rattle.double.specs.rules.Order.{_≼_, Between}
 use Rattle.double.specs.rules.Table.{over}
 use Rattle.double.specs.notions.Range.{Range, unknown, _to_, In, addRange, inside, Expr, known, con, _⊞_, _⊠_, _⧄_}
 use Rattle.double.specs.laws.Between.{between-itself}
-use Rattle.double.specs.laws.Interval.{sound, bounded}
+use Rattle.double.specs.laws.Interval.{sound}
 use Rattle.quantity.specs.rules.Answer.{answered, refused, Pair, pair}
 use Rattle.quantity.specs.rules.Refusal.{dayRefusal}
 use Rattle.elementary.specs.rules.Sine.{sineOf, cosineOf, farthestAlone}
@@ -30,6 +30,7 @@ use Rattle.domain.specs.notions.Nutation.{Moon, Row, EachRow, MoonNear, 
 use Rattle.domain_accepted.specs.laws.Outcome.{outcome-answered, rule-answers, rule-refuses}
 use Rattle.domain_accepted.specs.laws.Near.{within, near-far, near-sine, near-cosine}
 use Rattle.domain.specs.laws.Days.{century-within}
+use Rattle.domain.specs.laws.Ranges.{in-inside}
 use Rattle.domain.specs.laws.NutationArguments.{moon-near}
 
 -- ---- one row
@@ -64,10 +65,6 @@ module _ (a : Moon) (A : MoonNear a) where
       summed-in xs (withRow x a s) (addRange binary64 r L) (addRange binary64 q O) (and-r here (argumentsNear xs) t)
       (added r (s .long .0) (whole (x .5)) (whole (x .6)) (sineOf (argumentOf x a)) i (near-sine (argumentOf x a) N))
       (added q (s .oblq .0) (whole (x .7)) (whole (x .8)) (cosineOf (argumentOf x a)) j (near-cosine (argumentOf x a) N))
-
-in-inside : (a b : Float) (r : Range) (z : Float) → T (inside a b r) → In r z → Between a b z
-in-inside a b unknown z t i = absurd t
-in-inside a b (c to d) z t i = bounded binary64 a b (known i) t
 
 summed-between : (a : Moon) → MoonNear a → (xs : List Row) (s : Sums) (r : Range) → T (argumentsNear xs)
     → In r (s .long .0) → In r (s .oblq .0)

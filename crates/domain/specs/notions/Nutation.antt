@@ -5,12 +5,13 @@ use lib.IntN.{ℤ}
 use lib.Ieee.{Float, binary64, neg}
 use Rattle.double.specs.rules.Operations.{one}
 use Rattle.double.specs.rules.Table.{over}
-use Rattle.double.specs.notions.Range.{Range, _to_, span, addRange, mulRange, divRange, inside}
+use Rattle.double.specs.notions.Range.{Range, _to_, addRange, mulRange, divRange, inside}
 use Rattle.nutation_args.specs.rules.Numbers.{n10}
 use Rattle.nutation_args.specs.rules.Arguments.{moonOf}
 use Rattle.nutation_table.specs.rules.Rows.{rows}
 use Rattle.nutation_args.specs.rules.Sum.{whole, unit}
 use Rattle.domain_accepted.specs.notions.Within.{Within}
+use Rattle.domain.specs.notions.Ranges.{constant}
 
 -- ---- the sorts of the arguments and of the rows, by a value of each
 
@@ -42,9 +43,6 @@ pub record MoonNear (a : Moon) : Type 0 where
   pub node : Within 7 (a .node .0)
 
 -- ---- a row's argument and its shares
-
-abbrev constant : Float → Range
-constant c = span c c
 
 abbrev turn : Range
 turn = neg (over 7 1) to over 7 1

@@ -19,10 +19,6 @@ use Rattle.domain_accepted.specs.notions.Within.{Within}
 pub within : (n : ℕ) (e : Expr) → T (inside (neg (over n 1)) (over n 1) (range binary64 e)) → Within n (value binary64 e)
 within n e t = bounded binary64 (neg (over n 1)) (over n 1) e t
 
--- and up to 400000.0
-pub up-to-farthest : (e : Expr) → T (inside (neg farthestAlone) farthestAlone (range binary64 e)) → size (value binary64 e) ≼ farthestAlone
-up-to-farthest e t = between→size farthestAlone (value binary64 e) (bounded binary64 (neg farthestAlone) farthestAlone e t)
-
 -- far below the size up to which a fold is true
 pub near-far : (x : Float) → Within 2048 x → size x ≼ farthestAlone
 near-far x i = le-trans (size x) (over 2048 1) farthestAlone (between→size (over 2048 1) x i) (unfold le ofBits round in tt)
