@@ -1,7 +1,8 @@
 /* Each move reads its bytes twice, first to check and then to write, so that a refused one leaves the slice as it was. */
+#include "brundelak.h"
 #include "leb128.h"
 
-enum { WIDTH = 12, MOST_STARS = 5000, MARK = 2 };
+enum { WIDTH = BRUNDELAK_RECORD_BYTES, MOST_STARS = BRUNDELAK_MOST_STARS, MARK = 2 };
 
 struct star {
     uint32_t number, asc;

@@ -27,6 +27,8 @@ struct Sight {
 
 const J2000: f64 = 2451545.0;
 const SIGHTS: usize = 600;
+/// Bytes of a record.
+const RECORD: usize = 12;
 
 /// The chain, composed of the supplied functions.
 fn chain(s: &Sight) -> f64 {
@@ -86,10 +88,10 @@ fn work(name: &str, side: &str) -> fn(&Sight) -> f64 {
 fn stars(path: &str) -> Vec<Sight> {
     let bytes = std::fs::read(path).unwrap();
     let word = |at: usize| (0..4).map(|k| (bytes[at + k] as u32) << (8 * k)).sum::<u32>();
-    (0..bytes.len() / 12)
+    (0..bytes.len() / RECORD)
         .map(|i| Sight {
-            asc: (word(12 * i + 4) as f64 / 3600000.0).to_radians(),
-            dec: (word(12 * i + 8) as i32 as f64 / 3600000.0).to_radians(),
+            asc: (word(RECORD * i + 4) as f64 / 3600000.0).to_radians(),
+            dec: (word(RECORD * i + 8) as i32 as f64 / 3600000.0).to_radians(),
             lat: 0.0,
             day: 2462088.69,
         })

@@ -1,4 +1,4 @@
-/* moves WHAT LIST TIMES: moves a list of 5000 stars to its radio form, or that form to the list, so many times, by the port or by plain
+/* moves WHAT LIST TIMES: moves the longest list to its radio form, or that form to the list, so many times, by the port or by plain
  * C. Whatever the times, the same list is read and both forms are made once, so that the difference of two counts is the moves' own.
  * moves LIST bytes: how many bytes the radio form has.
  * moves LIST agree: the port and plain C give the same status, size and slice for both forms, damaged in many ways. */
@@ -9,7 +9,8 @@
 #include "brundelak.h"
 #include "leb128.h"
 
-enum { LIST = 12 * 5000, RADIO = 3 + 15 * 5000, DAMAGED = 100000, FEW = 20 };
+enum { WIDTH = BRUNDELAK_RECORD_BYTES, LIST = BRUNDELAK_MOST_BYTES, RADIO = BRUNDELAK_MOST_RADIO_BYTES, ROOM = LIST > RADIO ? LIST : RADIO };
+enum { DAMAGED = 100000, FEW = 20 };
 
 typedef uint8_t move(const uint8_t *, size_t, uint8_t *, size_t, size_t *);
 static const struct { const char *name; move *port, *plain; } moves[] = {
@@ -17,7 +18,7 @@ static const struct { const char *name; move *port, *plain; } moves[] = {
     {"radio_to_list", brundelak_radio_to_list, plain_radio_to_list},
 };
 
-static uint8_t list[LIST], radio[RADIO], out[RADIO], other[RADIO];
+static uint8_t list[LIST], radio[RADIO], out[ROOM], other[ROOM];
 
 /* The same each time. */
 static uint32_t part(uint32_t below)
@@ -44,16 +45,16 @@ static int agree(void)
     static uint8_t small[RADIO], bytes[RADIO];
     unsigned seen = 0;
     size_t size;
-    if (plain_list_to_radio(list, 12 * FEW, small, sizeof small, &size) != 0)
+    if (plain_list_to_radio(list, WIDTH * FEW, small, sizeof small, &size) != 0)
         return 0;
     for (int i = 0; i < DAMAGED; i++) {
-        size_t which = part(2), len = which == 0 ? 12 * FEW : size;
+        size_t which = part(2), len = which == 0 ? WIDTH * FEW : size;
         memcpy(bytes, which == 0 ? list : small, len);
         for (uint32_t k = part(3); k > 0; k--)
             bytes[part((uint32_t)len)] = (uint8_t)(part(2) == 0 ? part(256) : part(2) * 128);
         if (part(4) == 0)
-            len = which == 0 ? 12 * part(FEW + 1) + part(2) : part((uint32_t)len + 2);
-        if (!same(which, bytes, len, part(4) == 0 ? part(12 * FEW) : sizeof out, &seen))
+            len = which == 0 ? WIDTH * part(FEW + 1) + part(2) : part((uint32_t)len + 2);
+        if (!same(which, bytes, len, part(4) == 0 ? part(WIDTH * FEW) : sizeof out, &seen))
             return 0;
     }
     /* each of 0, 8, 9, 11, 12 and 13 was met, and nothing else */

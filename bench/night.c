@@ -19,23 +19,23 @@
 #include <libnova/precession.h>
 #endif
 
-enum { ROOM = 5000 };
+enum { WIDTH = BRUNDELAK_RECORD_BYTES, ROOM = BRUNDELAK_MOST_STARS };
 static const double J2000 = 2451545.0, FIRST_NIGHT = 2462088.69, RADIAN = 3.14159265358979323846 / 180.0;
 
-static uint8_t bytes[12 * ROOM], status[ROOM];
+static uint8_t bytes[WIDTH * ROOM], status[ROOM];
 static double given_asc[ROOM], given_dec[ROOM], asc[ROOM], dec[ROOM];
 
 static void batch(size_t stars, double day)
 {
-    uint32_t tally[20];
-    if (brundelak_batch(bytes, 12 * stars, J2000, day, status, stars, asc, stars, dec, stars, tally) != 0 || tally[0] != stars)
+    uint32_t tally[BRUNDELAK_COUNTS];
+    if (brundelak_batch(bytes, WIDTH * stars, J2000, day, status, stars, asc, stars, dec, stars, tally) != 0 || tally[0] != stars)
         exit(1);
 }
 
 static void batch_published(size_t stars, double day)
 {
-    uint32_t tally[20];
-    if (brundelak_batch_published(bytes, 12 * stars, J2000, day, status, stars, asc, stars, dec, stars, tally) != 0 || tally[0] != stars)
+    uint32_t tally[BRUNDELAK_COUNTS];
+    if (brundelak_batch_published(bytes, WIDTH * stars, J2000, day, status, stars, asc, stars, dec, stars, tally) != 0 || tally[0] != stars)
         exit(1);
 }
 
@@ -152,8 +152,8 @@ int main(int argc, char **argv)
     if (stars > ROOM)
         return 1;
     for (size_t i = 0; i < ROOM; i++) {
-        given_asc[i] = word(12 * i + 4) / 3600000.0 * RADIAN;
-        given_dec[i] = (int32_t)word(12 * i + 8) / 3600000.0 * RADIAN;
+        given_asc[i] = word(WIDTH * i + 4) / 3600000.0 * RADIAN;
+        given_dec[i] = (int32_t)word(WIDTH * i + 8) / 3600000.0 * RADIAN;
     }
     for (size_t w = 0; w < sizeof works / sizeof *works; w++) {
         if (strcmp(works[w].name, argv[1]) != 0)

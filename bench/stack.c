@@ -127,8 +127,8 @@ static void draw(const struct function *f)
 
 /* ---- lists ---- */
 
-enum { STARS = 5000, RADIO = 75003 };
-static uint8_t list[12 * STARS + 1], radio[RADIO], text[RADIO], statuses[STARS];
+enum { WIDTH = BRUNDELAK_RECORD_BYTES, STARS = BRUNDELAK_MOST_STARS, LIST = BRUNDELAK_MOST_BYTES, RADIO = BRUNDELAK_MOST_RADIO_BYTES };
+static uint8_t list[LIST + 1], radio[RADIO], text[LIST > RADIO ? LIST : RADIO], statuses[STARS];
 static double ascs[STARS], decs[STARS];
 static uint32_t tally[BRUNDELAK_COUNTS], word[3];
 static int32_t signed_word;
@@ -140,10 +140,10 @@ static size_t list_len, radio_len, after;
 static void fill(size_t stars)
 {
     for (size_t i = 0; i < stars; i++)
-        if (brundelak_put_star(list, sizeof list, 12 * i, (uint32_t)(drawn_bits() >> 32 >> drawn_below(32)), (uint32_t)drawn_below(1296000000),
+        if (brundelak_put_star(list, sizeof list, WIDTH * i, (uint32_t)(drawn_bits() >> 32 >> drawn_below(32)), (uint32_t)drawn_below(1296000000),
                                (int32_t)drawn_below(648000001) - 324000000, &after) != 0)
             exit(1);
-    list_len = 12 * stars;
+    list_len = WIDTH * stars;
     if (brundelak_list_to_radio(list, list_len, radio, sizeof radio, &radio_len) != 0)
         exit(1);
 }
@@ -214,7 +214,7 @@ static void radio_accept(void)
 
 static void radio_put_head(void)
 {
-    for (uint32_t i = 0; i < 6000; i++)
+    for (uint32_t i = 0; i < STARS + 1000; i++)
         AT(radio_put_head)(text, 4, i % 5, i, &after);
 }
 
@@ -228,13 +228,13 @@ static void radio_put_star(void)
 static void radio_to_list(void)
 {
     for (size_t i = 0; i < 4; i++)
-        AT(radio_to_list)(radio, less(radio_len, i / 2), text, i % 2 ? 12 : sizeof text, &after);
+        AT(radio_to_list)(radio, less(radio_len, i / 2), text, i % 2 ? WIDTH : sizeof text, &after);
 }
 
 static void list_to_radio(void)
 {
     for (size_t i = 0; i < 4; i++)
-        AT(list_to_radio)(list, less(list_len, i / 2), text, i % 2 ? 12 : sizeof text, &after);
+        AT(list_to_radio)(list, less(list_len, i / 2), text, i % 2 ? WIDTH : sizeof text, &after);
 }
 
 #define LISTED(name, by) {#name, (any_function *)brundelak_##name, by}
@@ -249,7 +249,7 @@ enum { LISTED_COUNT = sizeof listed / sizeof *listed };
 /* The deepest over lists of several lengths, good and damaged. */
 static size_t over_lists(any_function *f, void (*by)(void))
 {
-    static const size_t lengths[] = {0, 1, 2, 3, 4999, STARS};
+    static const size_t lengths[] = {0, 1, 2, 3, STARS - 1, STARS};
     size_t deepest = 0;
     for (size_t i = 0; i < 2 * (sizeof lengths / sizeof *lengths); i++) {
         fill(lengths[i / 2]);

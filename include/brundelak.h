@@ -67,8 +67,18 @@ extern "C" {
 /* The status of brundelak_star where no star is left. */
 #define BRUNDELAK_END 255
 
-/* How many counts a tally has. */
+/* The stored list: the bytes of a record, the stars of a list at most, and its bytes at most. */
+#define BRUNDELAK_RECORD_BYTES 12
+#define BRUNDELAK_MOST_STARS 5000
+#define BRUNDELAK_MOST_BYTES (BRUNDELAK_RECORD_BYTES * BRUNDELAK_MOST_STARS)
+
+/* The bytes of a radio list at most: the first, two of the star count, and for each star three numbers of five. */
+#define BRUNDELAK_MOST_RADIO_BYTES (3 + 15 * BRUNDELAK_MOST_STARS)
+
+/* The tally: how many counts it has, the count at which one is full, and the highest status that is known. */
 #define BRUNDELAK_COUNTS 20
+#define BRUNDELAK_FULLEST 60000
+#define BRUNDELAK_HIGHEST_STATUS 16
 
 /* What brundelak_float_environment finds wrong. */
 #define BRUNDELAK_ENVIRONMENT_ROUNDING 1

@@ -75,8 +75,8 @@ uint8_t __wrap_brundelak_batch(const uint8_t *bytes, size_t len, double day1, do
 {
     uint8_t answer = __real_brundelak_batch(bytes, len, day1, day2, status, status_len, asc, asc_len, dec, dec_len, tally);
 #if SLIP == 8 /* the place past the stars is cleared */
-    if (answer == 0 && status_len > len / 12)
-        status[len / 12] = 0;
+    if (answer == 0 && status_len > len / BRUNDELAK_RECORD_BYTES)
+        status[len / BRUNDELAK_RECORD_BYTES] = 0;
 #elif SLIP == 9 /* a tally begun before the refusal */
     if (answer == 8)
         tally[0] = 0;
@@ -84,8 +84,8 @@ uint8_t __wrap_brundelak_batch(const uint8_t *bytes, size_t len, double day1, do
     if (answer == 0 && len > 0)
         ((uint8_t *)bytes)[len - 1] &= 0x7F;
 #elif SLIP == 22 /* a NaN past the stars made the one without sign and payload */
-    if (answer == 0 && asc_len > len / 12)
-        tidy(&asc[len / 12], (uint64_t)0x7FF8 << 48, UINT64_MAX);
+    if (answer == 0 && asc_len > len / BRUNDELAK_RECORD_BYTES)
+        tidy(&asc[len / BRUNDELAK_RECORD_BYTES], (uint64_t)0x7FF8 << 48, UINT64_MAX);
 #elif SLIP == 23 /* the signs of NaNs lost at a refusal */
     if (answer != 0)
         for (size_t i = 0; i < dec_len; i++)
@@ -102,7 +102,7 @@ uint8_t __wrap_brundelak_tally_raise(uint8_t status, uint32_t *tally)
         tally[status]++;
 #elif SLIP == 12 /* a count past the last */
     if (answer == 0)
-        tally[20] = 0;
+        tally[BRUNDELAK_COUNTS] = 0;
 #endif
     return answer;
 }

@@ -58,7 +58,8 @@ static uint64_t any_nan(void)
 
 /* ---- guarded memory ---- */
 
-enum { NEAR = 64 };
+/* More stars than a list that is drawn has, and room for it and its radio form: a damaged number has up to six groups. */
+enum { NEAR = 64, WIDTH = BRUNDELAK_RECORD_BYTES, MANY = BRUNDELAK_MOST_STARS + 100, ROOM = (WIDTH + 18) * MANY };
 static const uint8_t canary[8] = {0xA1, 0x5B, 0xC3, 0x2D, 0xE5, 0x97, 0xF7, 0x7F};
 /* Room between two pages that nobody may touch; what is lent lies at its start or at its end. */
 struct room { uint8_t *start, *at, *kept; size_t size, len; };
@@ -208,29 +209,38 @@ static void numbers(const struct function *f)
     }
     if (status == 0)
         memcpy(last[which], args, sizeof args);
-    int its_own = status <= 7 || ((status == 15 || status == 16) && f->f == rise_culm_set);
+    int its_own = status <= 7 || ((status == BRUNDELAK_REFUSAL_NEVER_RISES || status == BRUNDELAK_REFUSAL_NEVER_SETS) && f->f == rise_culm_set);
     judge(status, sound && (status == 0 || (all_kept && its_own)));
+}
+
+/* Words of a record: number, right ascension and declination are the first. */
+enum { WORDS = WIDTH / 4 };
+
+/* A star count: small, or beside the most. */
+static size_t any_count(void)
+{
+    return drawn_below(64) == 0 ? BRUNDELAK_MOST_STARS - 10 + drawn_below(12) : drawn_below(16);
 }
 
 /* A list of some length, records in range or of any bytes; its length. */
 static size_t list(void)
 {
     static const uint32_t asc_at[] = {0, 1295999999, 1296000000, 0xFFFFFFFF}, dec_at[] = {324000000, 324000001, 0x80000000, 0};
-    size_t len = 12 * (drawn_below(64) == 0 ? 4990 + drawn_below(12) : drawn_below(16));
+    size_t len = WIDTH * any_count();
     if (drawn_below(6) == 0)
-        len += drawn_below(12);
+        len += drawn_below(WIDTH);
     uint8_t *to = lend(&bytes, len);
-    for (size_t i = 0; i < len; i += 12) {
-        uint32_t record[3] = {(uint32_t)drawn_below(16), (uint32_t)drawn_below(1296000000), (uint32_t)drawn_below(648000001) - 324000000};
+    for (size_t i = 0; i < len; i += WIDTH) {
+        uint32_t record[WORDS] = {(uint32_t)drawn_below(16), (uint32_t)drawn_below(1296000000), (uint32_t)drawn_below(648000001) - 324000000};
         size_t damage = drawn_below(8);
         if (damage == 0)
             record[1] = asc_at[drawn_below(4)];
         if (damage == 1)
             record[2] = dec_at[drawn_below(4)];
         if (damage == 2)
-            for (size_t k = 0; k < 3; k++)
+            for (size_t k = 0; k < WORDS; k++)
                 record[k] = (uint32_t)drawn_bits();
-        for (size_t k = 0; k < 12 && i + k < len; k++)
+        for (size_t k = 0; k < WIDTH && i + k < len; k++)
             to[i + k] = (uint8_t)(record[k / 4] >> 8 * (k % 4));
     }
     given(&bytes);
@@ -239,25 +249,25 @@ static size_t list(void)
 
 static int bad_list(size_t len)
 {
-    return len % 12 != 0 || len > 60000;
+    return len % WIDTH != 0 || len > BRUNDELAK_MOST_BYTES;
 }
 
 static void star(void)
 {
-    static const size_t far[] = {SIZE_MAX, SIZE_MAX - 3, SIZE_MAX - 11, SIZE_MAX / 12 * 12, (size_t)1 << 63};
+    static const size_t far[] = {SIZE_MAX, SIZE_MAX - 3, SIZE_MAX - WIDTH + 1, SIZE_MAX / WIDTH * WIDTH, (size_t)1 << 63};
     name = "star";
-    size_t len = list(), place = drawn_below(8) == 0 ? far[drawn_below(5)] : drawn_below(3) == 0 ? len - len % 12 : drawn_below(len + 13);
+    size_t len = list(), place = drawn_below(8) == 0 ? far[drawn_below(5)] : drawn_below(3) == 0 ? len - len % WIDTH : drawn_below(len + WIDTH + 1);
     if (drawn_below(2) == 0)
-        place -= place % 12;
+        place -= place % WIDTH;
     uint8_t status = brundelak_star(bytes.at, len, place, lend(&words[0], 4), lend(&words[1], 4), lend(&words[2], 4), lend(&words[3], sizeof(size_t)));
-    uint8_t expected = bad_list(len) || place > len || place % 12 != 0 ? 8 : place == len ? BRUNDELAK_END : 0;
+    uint8_t expected = bad_list(len) || place > len || place % WIDTH != 0 ? 8 : place == len ? BRUNDELAK_END : 0;
     int sound = status == expected && kept(&bytes);
     for (size_t i = 0; i < 4; i++)
         sound &= status == 0 ? kept_beyond(&words[i], words[i].len) : kept(&words[i]);
     if (status == 0) {
         size_t next;
         memcpy(&next, words[3].at, sizeof next);
-        sound &= next == place + 12;
+        sound &= next == place + WIDTH;
         for (size_t i = 0; i < 3; i++)
             sound &= memcmp(words[i].at, bytes.at + place + 4 * i, 4) == 0;
     }
@@ -276,7 +286,8 @@ static void find(void)
     if (status == 0) {
         size_t index;
         memcpy(&index, words[0].at, sizeof index);
-        sound &= index < len / 12 && memcmp(bytes.at + 12 * index + 4, words[1].at, 4) == 0 && memcmp(bytes.at + 12 * index + 8, words[2].at, 4) == 0;
+        const uint8_t *found = bytes.at + WIDTH * index;
+        sound &= index < len / WIDTH && memcmp(found + 4, words[1].at, 4) == 0 && memcmp(found + 8, words[2].at, 4) == 0;
     }
     judge(status, sound);
 }
@@ -295,7 +306,7 @@ typedef uint8_t batch_call(const uint8_t *, size_t, double, double, uint8_t *, s
 
 static void batch_by(batch_call *call)
 {
-    size_t len = list(), stars = len / 12, lens[3] = {length(stars), length(stars), length(stars)};
+    size_t len = list(), stars = len / WIDTH, lens[3] = {length(stars), length(stars), length(stars)};
     args[0] = any_day();
     args[1] = any_day();
     uint8_t *status_of = lend(&statuses, lens[0]);
@@ -333,13 +344,14 @@ static void batch_published(void)
 static void tally_raise(void)
 {
     name = "tally_raise";
-    uint8_t of = (uint8_t)(drawn_below(2) ? drawn_below(20) : drawn_bits());
+    uint8_t of = (uint8_t)(drawn_below(2) ? drawn_below(BRUNDELAK_COUNTS) : drawn_bits());
     uint32_t *counts = lend(&tally, TALLY), before[BRUNDELAK_COUNTS];
     for (size_t i = 0; i < BRUNDELAK_COUNTS; i++)
-        counts[i] = drawn_below(2) ? (uint32_t)drawn_below(60002) : (uint32_t)drawn_bits();
+        counts[i] = drawn_below(2) ? (uint32_t)drawn_below(BRUNDELAK_FULLEST + 2) : (uint32_t)drawn_bits();
     given(&tally);
     memcpy(before, counts, sizeof before);
-    uint8_t status = brundelak_tally_raise(of, counts), want = of > 16 ? 9 : before[of % BRUNDELAK_COUNTS] >= 60000 ? 8 : 0;
+    uint8_t status = brundelak_tally_raise(of, counts);
+    uint8_t want = of > BRUNDELAK_HIGHEST_STATUS ? 9 : before[of % BRUNDELAK_COUNTS] >= BRUNDELAK_FULLEST ? 8 : 0;
     if (want == 0)
         before[of]++;
     judge(status, status == want && memcmp(before, counts, sizeof before) == 0 && (status == 0 ? kept_beyond(&tally, TALLY) : kept(&tally)));
@@ -371,8 +383,8 @@ static uint32_t any_number(void)
 /* A radio list, good or damaged, or any bytes; its length. */
 static size_t radio(void)
 {
-    static uint8_t text[80000];
-    size_t len = 0, stars = drawn_below(64) == 0 ? 4990 + drawn_below(12) : drawn_below(16), damage = drawn_below(12);
+    static uint8_t text[ROOM];
+    size_t len = 0, stars = any_count(), damage = drawn_below(12);
     size_t said = damage == 0 ? stars + 1 : damage == 1 ? any_number() : stars;
     text[len++] = damage == 2 ? (uint8_t)drawn_bits() : 2;
     len += spell(text + len, said, groups((uint32_t)said) + (damage == 3 && drawn_below(4) == 0));
@@ -424,7 +436,7 @@ static void radio_open(void)
     uint8_t status = brundelak_radio_open(bytes.at, len, count, place);
     int sound = known(status, len) && status != 9 && kept(&bytes);
     if (status == 0)
-        sound &= *count <= 5000 && *place == 1 + groups(*count) && *place <= len && kept_beyond(&words[0], 4)
+        sound &= *count <= BRUNDELAK_MOST_STARS && *place == 1 + groups(*count) && *place <= len && kept_beyond(&words[0], 4)
             && kept_beyond(&words[3], sizeof(size_t));
     else
         sound &= kept(&words[0]) && kept(&words[3]);
@@ -464,7 +476,7 @@ static void radio_accept(void)
     uint32_t *count = lend(&words[0], 4);
     uint8_t status = brundelak_radio_accept(bytes.at, len, count);
     int sound = known(status, len) && kept(&bytes);
-    sound &= status == 0 ? *count <= 5000 && len >= 1 + groups(*count) + 3 * (size_t)*count && kept_beyond(&words[0], 4) : kept(&words[0]);
+    sound &= status == 0 ? *count <= BRUNDELAK_MOST_STARS && len >= 1 + groups(*count) + 3 * (size_t)*count && kept_beyond(&words[0], 4) : kept(&words[0]);
     judge(status, sound);
 }
 
@@ -485,12 +497,12 @@ static int fits(size_t size, size_t place, size_t len)
 static void radio_put_head(void)
 {
     name = "radio_put_head";
-    uint32_t count = drawn_below(4) == 0 ? any_number() : (uint32_t)drawn_below(5002);
+    uint32_t count = drawn_below(4) == 0 ? any_number() : (uint32_t)drawn_below(BRUNDELAK_MOST_STARS + 2);
     size_t len = drawn_below(12), place = any_place(len);
     lend(&slice, len);
     uint8_t status = brundelak_radio_put_head(slice.at, len, place, count, lend(&words[3], sizeof(size_t)));
     size_t size = 1 + groups(count);
-    judge(status, status == (count > 5000 || !fits(size, place, len) ? 8 : 0) && wrote(status, place, size));
+    judge(status, status == (count > BRUNDELAK_MOST_STARS || !fits(size, place, len) ? 8 : 0) && wrote(status, place, size));
 }
 
 static void radio_put_star(void)
@@ -511,15 +523,16 @@ static void put_star(void)
     name = "put_star";
     uint32_t number = any_number(), asc = any_number(), back_number = 0, back_asc = 0;
     int32_t dec = (int32_t)(any_number() ^ (uint32_t)-(int32_t)drawn_below(2)), back_dec = 0;
-    size_t end = drawn_below(8) == 0 ? 59988 + 12 * drawn_below(3) : 12 * drawn_below(6), len = end + drawn_below(24), next = 0;
+    size_t end = WIDTH * (drawn_below(8) == 0 ? BRUNDELAK_MOST_STARS - 1 + drawn_below(3) : drawn_below(6));
+    size_t len = end + drawn_below(2 * WIDTH), next = 0;
     size_t place = drawn_below(4) == 0 ? any_place(len) : end;
     lend(&slice, len);
     uint8_t status = brundelak_put_star(slice.at, len, place, number, asc, dec, lend(&words[3], sizeof(size_t)));
-    int begins = place % 12 == 0 && place < 60000;
-    int sound = status == (!in_range(asc, dec) ? 9 : !begins || !fits(12, place, len) ? 8 : 0) && wrote(status, place, 12);
+    int begins = place % WIDTH == 0 && place < BRUNDELAK_MOST_BYTES;
+    int sound = status == (!in_range(asc, dec) ? 9 : !begins || !fits(WIDTH, place, len) ? 8 : 0) && wrote(status, place, WIDTH);
     if (status == 0)
-        sound &= brundelak_star(slice.at, place + 12, place, &back_number, &back_asc, &back_dec, &next) == 0
-            && back_number == number && back_asc == asc && back_dec == dec && next == place + 12;
+        sound &= brundelak_star(slice.at, place + WIDTH, place, &back_number, &back_asc, &back_dec, &next) == 0
+            && back_number == number && back_asc == asc && back_dec == dec && next == place + WIDTH;
     judge(status, sound);
 }
 
@@ -527,7 +540,7 @@ static void put_star(void)
 static size_t any_length(size_t size)
 {
     size_t by = drawn_below(16);
-    return by == 0 ? 0 : by == 1 && size > 0 ? size - 1 : by == 2 ? size + drawn_below(9) : by == 3 ? drawn_below(75100) : size;
+    return by == 0 ? 0 : by == 1 && size > 0 ? size - 1 : by == 2 ? size + drawn_below(9) : by == 3 ? drawn_below(BRUNDELAK_MOST_RADIO_BYTES + 97) : size;
 }
 
 static void radio_to_list(void)
@@ -536,7 +549,7 @@ static void radio_to_list(void)
     size_t len = radio();
     uint32_t *count = lend(&words[0], 4);
     uint8_t accepted = brundelak_radio_accept(bytes.at, len, count);
-    size_t size = accepted == 0 ? 12 * (size_t)*count : 0, room = any_length(accepted == 0 ? size : drawn_below(200));
+    size_t size = accepted == 0 ? WIDTH * (size_t)*count : 0, room = any_length(accepted == 0 ? size : drawn_below(200));
     lend(&slice, room);
     uint8_t status = brundelak_radio_to_list(bytes.at, len, slice.at, room, lend(&words[3], sizeof(size_t)));
     judge(status, status == (accepted != 0 ? accepted : room < size ? 8 : 0) && kept(&bytes) && wrote(status, 0, size));
@@ -546,15 +559,15 @@ static void radio_to_list(void)
 static void list_to_radio(void)
 {
     name = "list_to_radio";
-    size_t len = list(), size = 1 + groups((uint32_t)(len / 12)), written = 0;
+    size_t len = list(), size = 1 + groups((uint32_t)(len / WIDTH)), written = 0;
     if (drawn_below(4) != 0)
-        for (size_t i = 0; i + 12 <= len; i += 12)
+        for (size_t i = 0; i + WIDTH <= len; i += WIDTH)
             memset(bytes.at + i + 7, 0, 5);
     given(&bytes);
     int good = 1;
-    for (size_t i = 0; i + 12 <= len; i += 12) {
+    for (size_t i = 0; i + WIDTH <= len; i += WIDTH) {
         uint32_t of[3];
-        memcpy(of, bytes.at + i, 12);
+        memcpy(of, bytes.at + i, sizeof of);
         good &= in_range(of[1], (int32_t)of[2]);
         size += star_size(of[0], of[1], (int32_t)of[2]);
     }
@@ -623,12 +636,12 @@ int main(int argc, char **argv)
         make(&places[i], sizeof(double));
     for (size_t i = 0; i < 4; i++)
         make(&words[i], sizeof(size_t));
-    make(&bytes, 80000);
-    make(&slice, 80000);
-    make(&back, 60100);
-    make(&statuses, 5100);
-    make(&ascs, 8 * 5100);
-    make(&decs, 8 * 5100);
+    make(&bytes, ROOM);
+    make(&slice, ROOM);
+    make(&back, ROOM);
+    make(&statuses, MANY);
+    make(&ascs, sizeof(double) * MANY);
+    make(&decs, sizeof(double) * MANY);
     make(&tally, TALLY);
     try_the_guard();
     signal(SIGSEGV, fault);

@@ -41,7 +41,7 @@ static size_t numbers(char *word, double *to, size_t room)
 /* ---- lists ---- */
 
 enum { ROOM = 64 };
-static uint8_t list[12 * ROOM];
+static uint8_t list[BRUNDELAK_RECORD_BYTES * ROOM];
 static size_t list_len;
 
 /* Digits in hexadecimal; how many bytes they are. */
@@ -104,7 +104,7 @@ typedef uint8_t batch_call(const uint8_t *, size_t, double, double, uint8_t *, s
 
 static unsigned batch(batch_call *call)
 {
-    size_t stars = list_len / 12;
+    size_t stars = list_len / BRUNDELAK_RECORD_BYTES;
     uint8_t statuses[ROOM], want_statuses[ROOM];
     double asc[ROOM], dec[ROOM], want_asc[ROOM], want_dec[ROOM];
     uint32_t tally[BRUNDELAK_COUNTS], want_tally[BRUNDELAK_COUNTS], raised[BRUNDELAK_COUNTS] = {0};

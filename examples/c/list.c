@@ -39,7 +39,7 @@ static uint8_t print_list(const uint8_t *list, size_t len)
 
 int main(void)
 {
-    uint8_t list[12 * STARS], status[STARS], answer;
+    uint8_t list[BRUNDELAK_RECORD_BYTES * STARS], status[STARS], answer;
     double asc[STARS], dec[STARS];
     uint32_t tally[BRUNDELAK_COUNTS];
     size_t len = write_list(list, sizeof list);
@@ -52,7 +52,7 @@ int main(void)
         printf("refused by %u: %s\n", (unsigned)answer, brundelak_sentence(answer));
         return 1;
     }
-    for (size_t i = 0; i < len / 12; i++)
+    for (size_t i = 0; i < len / BRUNDELAK_RECORD_BYTES; i++)
         if (status[i] == BRUNDELAK_ANSWERED)
             printf("reduced to %.9f, %.9f radians\n", asc[i], dec[i]);
         else

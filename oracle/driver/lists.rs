@@ -54,6 +54,16 @@ const PUBLISHED: Edition =
 
 // ---- section 7
 
+/// Bytes of a record, and stars and bytes of a list at most.
+pub const RECORD: usize = 12;
+pub const MOST_STARS: usize = 5000;
+const MOST_BYTES: usize = RECORD * MOST_STARS;
+
+/// Counts of a tally, a count that is full, and the highest status that is known.
+const COUNTS: usize = 20;
+const FULLEST: u32 = 60000;
+const HIGHEST_STATUS: u8 = 16;
+
 #[derive(Clone, Copy, PartialEq, Debug)]
 pub struct Record {
     pub number: u32,
@@ -82,17 +92,17 @@ impl Record {
 }
 
 pub fn bad_list(bytes: &[u8]) -> bool {
-    bytes.len() % 12 != 0 || bytes.len() > 60000
+    bytes.len() % RECORD != 0 || bytes.len() > MOST_BYTES
 }
 
 /// The star at a place and the place after it: (0, ..), (8, none) or (255, none).
 fn star(bytes: &[u8], place: usize) -> (u8, Option<(Record, usize)>) {
-    if bad_list(bytes) || place > bytes.len() || place % 12 != 0 {
+    if bad_list(bytes) || place > bytes.len() || place % RECORD != 0 {
         (8, None)
     } else if place == bytes.len() {
         (255, None)
     } else {
-        (0, Some((Record::at(bytes, place), place + 12)))
+        (0, Some((Record::at(bytes, place), place + RECORD)))
     }
 }
 
@@ -101,7 +111,7 @@ fn record_text(one: &Record, place: usize) -> Answer<Vec<u8>> {
     if !one.in_range() {
         return Err(9);
     }
-    if place % 12 != 0 || place / 12 >= 5000 {
+    if place % RECORD != 0 || place / RECORD >= MOST_STARS {
         return Err(8);
     }
     Ok(one.bytes())
@@ -111,7 +121,7 @@ fn find(bytes: &[u8], number: u32) -> (u8, Option<(usize, Record)>) {
     if bad_list(bytes) {
         return (8, None);
     }
-    let found = (0..bytes.len() / 12).map(|i| (i, Record::at(bytes, 12 * i))).find(|&(_, r)| r.number == number);
+    let found = (0..bytes.len() / RECORD).map(|i| (i, Record::at(bytes, RECORD * i))).find(|&(_, r)| r.number == number);
     match found {
         None => (10, None),
         Some((_, r)) if !r.in_range() => (9, None),
@@ -135,7 +145,7 @@ fn reduced(edition: &Edition, r: Record, day1: f64, day2: f64) -> (u8, f64, f64)
 fn batch_status(bytes: &[u8], lens: [usize; 3], (day1, day2): (f64, f64)) -> u8 {
     match (1..3).find(|&n| refuses(n, Sort::Day, day1) || refuses(n, Sort::Day, day2)) {
         Some(n) => n,
-        None if bad_list(bytes) || lens.iter().any(|&l| l < bytes.len() / 12) => 8,
+        None if bad_list(bytes) || lens.iter().any(|&l| l < bytes.len() / RECORD) => 8,
         None => 0,
     }
 }
@@ -186,9 +196,9 @@ fn list(r: &mut Random, day1: f64, day2: f64) -> Vec<u8> {
     };
     let mut bytes: Vec<u8> = (0..stars).flat_map(|_| record(r, stars, day1, day2).bytes()).collect();
     match r.below(12) {
-        0 => bytes.extend((0..1 + r.below(11)).map(|_| 0)),
+        0 => bytes.extend((0..1 + r.below(RECORD - 1)).map(|_| 0)),
         1 => {
-            let cut = r.below(12).min(bytes.len());
+            let cut = r.below(RECORD).min(bytes.len());
             let left = bytes.len() - cut;
             bytes.truncate(left);
         }
@@ -202,19 +212,19 @@ fn a_place(r: &mut Random, bytes: &[u8]) -> usize {
     match r.below(8) {
         0 => bytes.len(),
         1 => bytes.len() + r.below(30),
-        2 => [!0, !0 - 3, !0 - 11, 1 << 63][r.below(4)],
+        2 => [!0, !0 - 3, !0 - (RECORD - 1), 1 << 63][r.below(4)],
         3 => r.below(bytes.len() + 2),
-        _ => 12 * r.below(bytes.len() / 12 + 1),
+        _ => RECORD * r.below(bytes.len() / RECORD + 1),
     }
 }
 
 /// A place to write at: most often a record's start.
 fn a_start(r: &mut Random) -> usize {
     match r.below(8) {
-        0 => [!0, !0 - 3, !0 - 11, 1 << 63][r.below(4)],
-        1 => [59976, 59988, 59999, 60000, 60012][r.below(5)],
+        0 => [!0, !0 - 3, !0 - (RECORD - 1), 1 << 63][r.below(4)],
+        1 => [MOST_BYTES - 2 * RECORD, MOST_BYTES - RECORD, MOST_BYTES - 1, MOST_BYTES, MOST_BYTES + RECORD][r.below(5)],
         2 => r.below(40),
-        _ => 12 * r.below(6),
+        _ => RECORD * r.below(6),
     }
 }
 
@@ -222,7 +232,7 @@ fn a_start(r: &mut Random) -> usize {
 fn a_number(r: &mut Random, bytes: &[u8]) -> u32 {
     match r.below(4) {
         0 => r.bits() as u32,
-        _ => r.below(bytes.len() / 6 + 1) as u32,
+        _ => r.below(2 * bytes.len() / RECORD + 1) as u32,
     }
 }
 
@@ -282,15 +292,15 @@ fn compare_batch(
     count: &mut Count,
     statuses: &mut Count,
 ) {
-    let stars = bytes.len() / 12;
+    let stars = bytes.len() / RECORD;
     let expected = batch_status(bytes, lens, (day1, day2));
     let (asc, dec) = (f64::from_bits(0x7FF4A5A5A5A50003), f64::from_bits(0xFFF0000000000001));
-    let mut want = (lent(lens[0], 0xA5u8), lent(lens[1], asc), lent(lens[2], dec), [0xA5A5A5A5u32; 22]);
+    let mut want = (lent(lens[0], 0xA5u8), lent(lens[1], asc), lent(lens[2], dec), [0xA5A5A5A5u32; COUNTS + 2]);
     let mut got = want.clone();
     if expected == 0 {
-        want.3[1..21].iter_mut().for_each(|c| *c = 0);
+        want.3[1..1 + COUNTS].iter_mut().for_each(|c| *c = 0);
         for i in 0..stars {
-            let (status, asc, dec) = reduced(edition, Record::at(bytes, 12 * i), day1, day2);
+            let (status, asc, dec) = reduced(edition, Record::at(bytes, RECORD * i), day1, day2);
             want.0[8 + i] = status;
             want.1[8 + i] = asc;
             want.2[8 + i] = dec;
@@ -325,12 +335,12 @@ fn compare_batch(
 
 /// A status counted in counts of which some are full or nearly so.
 fn compare_raise(r: &mut Random, count: &mut Count) {
-    let status = if r.below(4) == 0 { r.bits() as u8 } else { r.below(20) as u8 };
-    let mut want = [0xA5A5A5A5u32; 22];
-    want[1..21].iter_mut().for_each(|c| *c = [0, 59999, 60000, r.below(60000) as u32][r.below(4)]);
+    let status = if r.below(4) == 0 { r.bits() as u8 } else { r.below(COUNTS) as u8 };
+    let mut want = [0xA5A5A5A5u32; COUNTS + 2];
+    want[1..1 + COUNTS].iter_mut().for_each(|c| *c = [0, FULLEST - 1, FULLEST, r.below(FULLEST as usize) as u32][r.below(4)]);
     let mut got = want;
     let place = 1 + status as usize;
-    let expected = if status > 16 { 9 } else if want[place] >= 60000 { 8 } else { 0 };
+    let expected = if status > HIGHEST_STATUS { 9 } else if want[place] >= FULLEST { 8 } else { 0 };
     if expected == 0 {
         want[place] += 1;
     }
@@ -357,7 +367,7 @@ pub fn compare(n: u64) -> (u64, u64) {
         }
         // A star costs some hundred thousand instructions on either side.
         if i % 4 == 0 {
-            let stars = bytes.len() / 12;
+            let stars = bytes.len() / RECORD;
             let lens = [places(&mut r, stars), places(&mut r, stars), places(&mut r, stars)];
             compare_batch(&CRATE, &bytes, lens, both, &mut batches, &mut statuses);
             compare_batch(&PUBLISHED, &bytes, lens, both, &mut published, &mut published_statuses);
@@ -379,10 +389,10 @@ pub fn compare(n: u64) -> (u64, u64) {
         }
     }
     // The longest list, and one star more.
-    let full: Vec<u8> = (0..5001).flat_map(|_| record(&mut r, 5000, 2415020.5, 2462088.69).bytes()).collect();
-    for &len in [60000, 60012].iter() {
-        compare_batch(&CRATE, &full[..len], [len / 12; 3], (2415020.5, 2462088.69), &mut batches, &mut statuses);
-        compare_batch(&PUBLISHED, &full[..len], [len / 12; 3], (2415020.5, 2462088.69), &mut published, &mut published_statuses);
+    let full: Vec<u8> = (0..MOST_STARS + 1).flat_map(|_| record(&mut r, MOST_STARS, 2415020.5, 2462088.69).bytes()).collect();
+    for &len in [MOST_BYTES, MOST_BYTES + RECORD].iter() {
+        compare_batch(&CRATE, &full[..len], [len / RECORD; 3], (2415020.5, 2462088.69), &mut batches, &mut statuses);
+        compare_batch(&PUBLISHED, &full[..len], [len / RECORD; 3], (2415020.5, 2462088.69), &mut published, &mut published_statuses);
         compare_star(&mut r, &full[..len], &mut stars);
         compare_find(&mut r, &full[..len], &mut finds);
     }
@@ -432,11 +442,11 @@ pub fn sample(n: u64) {
             let answer = found.map_or(String::new(), |(index, one)| format!(" {} {} {}", index, one.asc, one.dec));
             println!("find {} = {}{}", number, status, answer);
         }
-        let status = batch_status(&bytes, [bytes.len() / 12; 3], both);
+        let status = batch_status(&bytes, [bytes.len() / RECORD; 3], both);
         for edition in [CRATE, PUBLISHED].iter() {
             let mut answer = String::new();
-            for i in 0..if status == 0 { bytes.len() / 12 } else { 0 } {
-                let (status, asc, dec) = reduced(edition, Record::at(&bytes, 12 * i), both.0, both.1);
+            for i in 0..if status == 0 { bytes.len() / RECORD } else { 0 } {
+                let (status, asc, dec) = reduced(edition, Record::at(&bytes, RECORD * i), both.0, both.1);
                 answer += &format!(" {}{}", status, if status == 0 { ::hex(&[asc, dec]) } else { String::new() });
             }
             println!("{}{} = {}{}", edition.name, ::hex(&[both.0, both.1]), status, answer);
@@ -446,7 +456,7 @@ pub fn sample(n: u64) {
     let mut r = Random(::SEED);
     for _ in 0..n {
         let one = record(&mut r, 24, 2451545.0, 2462088.69);
-        let place = if r.below(4) == 0 { r.below(40) } else { 12 * r.below(6) };
+        let place = if r.below(4) == 0 { r.below(40) } else { RECORD * r.below(6) };
         let text = record_text(&one, place);
         let len = room(&mut r, place, &text);
         println!("put_star {} {} {} {} {} = {}", len, place, one.number, one.asc, one.dec, put_told(text, len, place));

@@ -1,6 +1,6 @@
 //! Lists over the radio link: document 02's request (i) written a second time, and the port's reader, writer and movers compared with it.
 use inputs::Random;
-use lists::{bad_list, Record};
+use lists::{bad_list, Record, MOST_STARS, RECORD};
 use put::{compare_put, hex, put_told, room, status_of, told, Answer};
 use std::cmp;
 use Count;
@@ -16,6 +16,10 @@ extern "C" {
 }
 
 // ---- request (i)
+
+const MOST: u32 = MOST_STARS as u32;
+/// Bytes of a radio list at most: the first, two of the count, and for each star three numbers of five.
+const MOST_BYTES: usize = 3 + 15 * MOST_STARS;
 
 /// A number in as many groups as its bits need.
 fn groups(n: u32) -> Vec<u8> {
@@ -66,7 +70,7 @@ fn first_byte(bytes: &[u8]) -> Answer<()> {
 fn open(bytes: &[u8]) -> Answer<(u32, usize)> {
     first_byte(bytes)?;
     let (count, place) = number(bytes, 1)?;
-    if count > 5000 {
+    if count > MOST {
         return Err(8);
     }
     Ok((count, place))
@@ -99,7 +103,7 @@ fn accept(bytes: &[u8]) -> Answer<Vec<Record>> {
 }
 
 fn head(count: u32) -> Answer<Vec<u8>> {
-    if count > 5000 {
+    if count > MOST {
         return Err(8);
     }
     Ok([vec![2], groups(count)].concat())
@@ -120,9 +124,9 @@ fn to_radio(bytes: &[u8]) -> Answer<Vec<u8>> {
     if bad_list(bytes) {
         return Err(8);
     }
-    let mut radio = head((bytes.len() / 12) as u32)?;
-    for i in 0..bytes.len() / 12 {
-        radio.extend(star_bytes(&Record::at(bytes, 12 * i))?);
+    let mut radio = head((bytes.len() / RECORD) as u32)?;
+    for i in 0..bytes.len() / RECORD {
+        radio.extend(star_bytes(&Record::at(bytes, RECORD * i))?);
     }
     Ok(radio)
 }
@@ -170,7 +174,7 @@ fn pieces(r: &mut Random) -> Vec<Vec<u8>> {
 /// A radio list, good or a slip or two from it, or any bytes.
 fn radio(r: &mut Random) -> Vec<u8> {
     const FIFTH: [u8; 8] = [0, 1, 0x0F, 0x10, 0x7F, 0x80, 0x8F, 0xFF];
-    const COUNTS: [u32; 5] = [4999, 5000, 5001, 65536, 0xFFFFFFFF];
+    const COUNTS: [u32; 5] = [MOST - 1, MOST, MOST + 1, 65536, 0xFFFFFFFF];
     let mut all = pieces(r);
     let (mut over, mut cut) = (vec![], None);
     for _ in 0..[0, 0, 1, 2][r.below(4)] {
@@ -217,7 +221,7 @@ fn list(r: &mut Random) -> Vec<u8> {
     let stars = r.below(12);
     let mut bytes: Vec<u8> = (0..stars).flat_map(|_| record(r, 40).bytes()).collect();
     if r.below(10) == 0 {
-        bytes.extend((0..1 + r.below(11)).map(|_| 0));
+        bytes.extend((0..1 + r.below(RECORD - 1)).map(|_| 0));
     }
     bytes
 }
@@ -270,7 +274,7 @@ fn compare_accept(bytes: &[u8], count: &mut Count) {
 }
 
 fn compare_put_head(r: &mut Random, count: &mut Count) {
-    let stars = [0, 127, 128, 5000, 5001, r.below(5000) as u32, a_number(r)][r.below(7)];
+    let stars = [0, 127, 128, MOST, MOST + 1, r.below(MOST_STARS) as u32, a_number(r)][r.below(7)];
     let (place, text) = (a_place(r, &[2; 12]), head(stars));
     let len = room(r, place, &text);
     compare_put("radio_put_head", text, len, place, count, |out, next| unsafe { brundelak_radio_put_head(out, len, place, stars, next) });
@@ -316,14 +320,14 @@ fn compare_to_radio(bytes: &[u8], len: usize, count: &mut Count) {
 fn longest() -> Vec<Vec<u8>> {
     let widest = Record { number: 0xFFFFFFFF, asc: 1295999999, dec: -324000000 };
     let stars = |n: u32| [vec![2], groups(n), (0..n).flat_map(|_| star_bytes(&widest).unwrap()).collect()].concat();
-    let full = stars(5000);
+    let (full, most) = (stars(MOST), head(MOST).unwrap());
     vec![
         [&full[..], &[0][..]].concat(),
         full[..full.len() - 1].to_vec(),
         full,
-        stars(5001),
-        vec![2, 0x88, 0x27],
-        vec![2, 0x88, 0x27, 0, 0, 0],
+        stars(MOST + 1),
+        most.clone(),
+        [&most[..], &[0, 0, 0][..]].concat(),
         vec![2, 0xFF, 0xFF, 0xFF, 0xFF, 0x0F],
     ]
 }
@@ -351,8 +355,8 @@ pub fn compare(n: u64) -> (u64, u64) {
         compare_to_radio(&stored, len, &mut ups);
     }
     let star = Record { number: 1, asc: 2, dec: 3 }.bytes();
-    for &n in [4999, 5000, 5001].iter() {
-        compare_to_radio(&star.iter().cloned().cycle().take(12 * n).collect::<Vec<u8>>(), 75003, &mut ups);
+    for &n in [MOST_STARS - 1, MOST_STARS, MOST_STARS + 1].iter() {
+        compare_to_radio(&star.iter().cloned().cycle().take(RECORD * n).collect::<Vec<u8>>(), MOST_BYTES, &mut ups);
     }
     let met = |c: &Count, numbers: &[usize]| numbers.iter().all(|&k| c.by[k] > 0);
     let all = met(&opens, &[0, 8, 11, 12, 13])
@@ -403,7 +407,7 @@ pub fn sample(n: u64) {
         println!("radio_accept = {}", told(accept(&bytes), |stars| stars.len().to_string()));
         let len = room(&mut r, 0, &to_list(&bytes));
         println!("radio_to_list {} = {}", len, put_told(to_list(&bytes), len, 0));
-        let stars = [0, 127, 128, 5000, 5001, a_number(&mut r)][r.below(6)];
+        let stars = [0, 127, 128, MOST, MOST + 1, a_number(&mut r)][r.below(6)];
         let place = r.below(9);
         let len = room(&mut r, place, &head(stars));
         println!("radio_put_head {} {} {} = {}", len, place, stars, put_told(head(stars), len, place));

@@ -2,6 +2,12 @@
 use crate::coords::EqPoint;
 use crate::{ffi, list, Edition, Refusal};
 
+/// How many counts a tally has.
+pub const COUNTS: usize = 20;
+
+/// The count at which one is full.
+pub const FULLEST: u32 = 60000;
+
 /// Every star of a list by the chain from one day to another, each its place or why it has none. Refusals: 1, 2, 8.
 ///
 /// ```
@@ -57,7 +63,7 @@ pub fn batch(
     status: &mut [u8],
     asc: &mut [f64],
     dec: &mut [f64],
-) -> Result<[u32; 20], Refusal> {
+) -> Result<[u32; COUNTS], Refusal> {
     batch_by(Edition::Crate, bytes, day1, day2, status, asc, dec)
 }
 
@@ -70,11 +76,12 @@ pub fn batch_by(
     status: &mut [u8],
     asc: &mut [f64],
     dec: &mut [f64],
-) -> Result<[u32; 20], Refusal> {
+) -> Result<[u32; COUNTS], Refusal> {
     ffi::batch(edition, bytes, day1, day2, status, asc, dec)
 }
 
-/// A tally with the count of one status raised. Refusals: 9 for a status that is not known, then 8 for a count that is full.
-pub fn tally_raise(tally: [u32; 20], status: u8) -> Result<[u32; 20], Refusal> {
+/// A tally with the count of one status raised. Refusals: 9 for a status above [`Refusal::HIGHEST`], then 8 for a count of
+/// [`FULLEST`] or more.
+pub fn tally_raise(tally: [u32; COUNTS], status: u8) -> Result<[u32; COUNTS], Refusal> {
     ffi::tally_raise(tally, status)
 }

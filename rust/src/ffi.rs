@@ -1,4 +1,5 @@
 //! The C boundary. All that is unsafe stands here: each call lends floats of its own frame, valid and distinct.
+use crate::batch::COUNTS;
 use crate::{Edition, Refusal};
 
 macro_rules! boundary {
@@ -173,8 +174,8 @@ pub fn batch(
     status: &mut [u8],
     asc: &mut [f64],
     dec: &mut [f64],
-) -> Result<[u32; 20], Refusal> {
-    let mut tally = [0; 20];
+) -> Result<[u32; COUNTS], Refusal> {
+    let mut tally = [0; COUNTS];
     let call = match edition {
         Edition::Crate => stored::brundelak_batch,
         Edition::Published => stored::brundelak_batch_published,
@@ -199,7 +200,7 @@ pub fn batch(
 }
 
 /// The tally with the count of a status raised.
-pub fn tally_raise(mut tally: [u32; 20], status: u8) -> Result<[u32; 20], Refusal> {
+pub fn tally_raise(mut tally: [u32; COUNTS], status: u8) -> Result<[u32; COUNTS], Refusal> {
     let answer = unsafe { stored::brundelak_tally_raise(status, tally.as_mut_ptr()) };
     Refusal::from_status(answer)?;
     Ok(tally)

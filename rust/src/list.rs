@@ -1,10 +1,11 @@
-//! The stored list: records of 12 bytes, little-endian; number, right ascension and declination in milliarcseconds.
+//! The stored list: at most [`MOST_STARS`] records of [`RECORD_BYTES`] bytes, little-endian; number, right ascension and declination in
+//! milliarcseconds.
 //!
 //! ```
 //! # fn main() -> Result<(), brundelak::Refusal> {
 //! use brundelak::list::{self, Star};
 //! let stars = [Star { number: 7, asc: 0, dec: 0 }, Star { number: 9, asc: 3600000, dec: -3600000 }];
-//! let (mut out, mut end) = ([0; 36], 0);
+//! let (mut out, mut end) = ([0; 3 * list::RECORD_BYTES], 0);
 //! for &star in &stars {
 //!     end = list::put_star(&mut out, end, star)?;
 //! }
@@ -26,8 +27,14 @@ pub struct Star {
     pub dec: i32,
 }
 
-/// Bytes of a record.
-const WIDTH: usize = 12;
+/// The bytes of a record.
+pub const RECORD_BYTES: usize = 12;
+
+/// The stars of a list, at most.
+pub const MOST_STARS: usize = 5000;
+
+/// The bytes of a list, at most.
+pub const MOST_BYTES: usize = RECORD_BYTES * MOST_STARS;
 
 /// The stars of a list, in range or not, in their order. Refusals: 8.
 pub fn stars(bytes: &[u8]) -> Result<Stars<'_>, Refusal> {
@@ -52,7 +59,7 @@ impl Iterator for Stars<'_> {
     }
 
     fn size_hint(&self) -> (usize, Option<usize>) {
-        let left = (self.bytes.len() - self.place) / WIDTH;
+        let left = (self.bytes.len() - self.place) / RECORD_BYTES;
         (left, Some(left))
     }
 }
@@ -68,7 +75,7 @@ pub fn star(bytes: &[u8], place: usize) -> Result<Option<(Star, usize)>, Refusal
 
 /// Writes a star's record from a place of a slice on, and answers the place after it: stars written one after the other from place 0 on
 /// are a list, which ends at the last place answered. Refusals, which leave the slice unchanged: 9, then 8 for a place at which no record
-/// of a list begins (not a multiple of 12, or past the 5000th) and for no room.
+/// of a list begins (not a multiple of [`RECORD_BYTES`], or [`MOST_BYTES`] and more) and for no room.
 pub fn put_star(out: &mut [u8], place: usize, star: Star) -> Result<usize, Refusal> {
     ffi::put_star(out, place, star.number, star.asc, star.dec)
 }

@@ -2,8 +2,11 @@
 //! number in groups of seven bits, low group first, in the shortest length.
 //!
 //! Of the refusals the first met is given. A refused call leaves the lent slice unchanged, an answered one all that it does not write.
-use crate::list::Star;
+use crate::list::{Star, MOST_STARS};
 use crate::{ffi, Refusal};
+
+/// The bytes of a radio list, at most: the first, two of the star count, and for each star three numbers of five.
+pub const MOST_BYTES: usize = 3 + 15 * MOST_STARS;
 
 /// How many stars a list says it has, and the place of the first. Refusals: 13 (empty), 11, 12 or 13 (the count), 8.
 pub fn open(bytes: &[u8]) -> Result<(u32, usize), Refusal> {

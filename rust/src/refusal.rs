@@ -45,6 +45,9 @@ pub enum Refusal {
 }
 
 impl Refusal {
+    /// The highest number that has a name.
+    pub const HIGHEST: u8 = 16;
+
     /// The refusal that a number stands for, as a status of a batch has it; none for 0, which is no refusal.
     ///
     /// ```

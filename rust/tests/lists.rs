@@ -1,5 +1,5 @@
 //! The stored list through the crate: read by an iterator, written star by star, and reduced to results.
-use brundelak::list::{self, Star};
+use brundelak::list::{self, Star, MOST_BYTES, MOST_STARS, RECORD_BYTES};
 use brundelak::{angle, batch, chain, Edition, Refusal};
 
 /// Star 9's right ascension is a whole turn, so that its record is out of range.
@@ -8,7 +8,7 @@ const STARS: [Star; 3] = [
     Star { number: 9, asc: 1296000000, dec: 0 },
     Star { number: 7, asc: 3600000, dec: -3600000 },
 ];
-const LIST: [u8; 36] = [
+const LIST: [u8; 3 * RECORD_BYTES] = [
     7, 0, 0, 0, 0, 0, 0, 0, 0, 0, 0, 0, //
     9, 0, 0, 0, 0x00, 0x64, 0x3F, 0x4D, 0, 0, 0, 0, //
     7, 0, 0, 0, 0x80, 0xEE, 0x36, 0x00, 0x80, 0x11, 0xC9, 0xFF,
@@ -23,43 +23,46 @@ fn every_star_is_shown_in_order() {
     }
     assert_eq!((stars.len(), stars.next(), stars.next()), (0, None, None));
     assert_eq!(list::stars(&[]).unwrap().count(), 0);
-    assert_eq!(list::stars(&[0; 60000]).unwrap().count(), 5000);
+    assert_eq!(list::stars(&[0; MOST_BYTES]).unwrap().count(), MOST_STARS);
 }
 
 #[test]
 fn bytes_that_are_no_list_have_no_stars() {
-    for len in [1, 11, 13, 35, 60012] {
+    for len in [1, RECORD_BYTES - 1, RECORD_BYTES + 1, LIST.len() - 1, MOST_BYTES + RECORD_BYTES] {
         assert_eq!(list::stars(&vec![0; len]).err(), Some(Refusal::List), "{} bytes", len);
     }
 }
 
 #[test]
 fn stars_that_are_written_are_read_back() {
-    let (mut out, mut end) = ([0xA5; 30], 0);
+    const ONE: usize = RECORD_BYTES;
+    const TWO: usize = 2 * RECORD_BYTES;
+    let (mut out, mut end) = ([0xA5; TWO + 6], 0);
     for &star in &[STARS[0], STARS[2]] {
         end = list::put_star(&mut out, end, star).unwrap();
     }
-    assert_eq!((end, &out[24..]), (24, &[0xA5; 6][..]));
-    assert_eq!(out[..24], [&LIST[..12], &LIST[24..]].concat()[..]);
+    assert_eq!((end, &out[TWO..]), (TWO, &[0xA5; 6][..]));
+    assert_eq!(out[..TWO], [&LIST[..ONE], &LIST[TWO..]].concat()[..]);
     assert!(list::stars(&out[..end]).unwrap().eq([STARS[0], STARS[2]]));
     // One is written over, and no other byte.
-    assert_eq!(list::put_star(&mut out, 0, STARS[2]), Ok(12));
-    assert_eq!((&out[..12], &out[12..24], &out[24..]), (&LIST[24..], &LIST[24..], &[0xA5; 6][..]));
+    assert_eq!(list::put_star(&mut out, 0, STARS[2]), Ok(ONE));
+    assert_eq!((&out[..ONE], &out[ONE..TWO], &out[TWO..]), (&LIST[TWO..], &LIST[TWO..], &[0xA5; 6][..]));
 }
 
 #[test]
 fn a_star_that_is_not_written_leaves_every_byte() {
-    let mut out = vec![0xA5; 60024];
+    const ROOM: usize = MOST_BYTES + 2 * RECORD_BYTES;
+    let mut out = vec![0xA5; ROOM];
     let refused = [
-        (60024, 0, STARS[1], Refusal::Record),
-        (60024, 1, STARS[1], Refusal::Record),
-        (60024, 0, Star { dec: 324000001, ..STARS[0] }, Refusal::Record),
-        (60024, 0, Star { dec: i32::MIN, ..STARS[0] }, Refusal::Record),
-        (60024, 1, STARS[0], Refusal::List),
-        (60024, 60000, STARS[0], Refusal::List),
-        (60024, usize::MAX - 3, STARS[0], Refusal::List),
-        (11, 0, STARS[0], Refusal::List),
-        (35, 24, STARS[0], Refusal::List),
+        (ROOM, 0, STARS[1], Refusal::Record),
+        (ROOM, 1, STARS[1], Refusal::Record),
+        (ROOM, 0, Star { dec: 324000001, ..STARS[0] }, Refusal::Record),
+        (ROOM, 0, Star { dec: i32::MIN, ..STARS[0] }, Refusal::Record),
+        (ROOM, 1, STARS[0], Refusal::List),
+        (ROOM, MOST_BYTES, STARS[0], Refusal::List),
+        (ROOM, usize::MAX - 3, STARS[0], Refusal::List),
+        (RECORD_BYTES - 1, 0, STARS[0], Refusal::List),
+        (3 * RECORD_BYTES - 1, 2 * RECORD_BYTES, STARS[0], Refusal::List),
         (0, 0, STARS[0], Refusal::List),
     ];
     for (len, place, star, refusal) in refused {
@@ -67,7 +70,7 @@ fn a_star_that_is_not_written_leaves_every_byte() {
     }
     assert!(out.iter().all(|&b| b == 0xA5));
     // The last place of the longest list.
-    assert_eq!(list::put_star(&mut out, 59988, STARS[0]), Ok(60000));
+    assert_eq!(list::put_star(&mut out, MOST_BYTES - RECORD_BYTES, STARS[0]), Ok(MOST_BYTES));
 }
 
 #[test]
@@ -90,7 +93,7 @@ fn a_refused_batch_has_no_results() {
     assert_eq!(batch::reduced(&LIST[1..], f64::NAN, 0.0), Err(Refusal::NotFinite));
     assert_eq!(batch::reduced(&LIST[1..], 2451545.0, 0.0), Err(Refusal::Day));
     assert_eq!(batch::reduced(&LIST[1..], 2451545.0, 2451545.0), Err(Refusal::List));
-    assert_eq!(batch::reduced(&[0; 60012], 2451545.0, 2451545.0), Err(Refusal::List));
+    assert_eq!(batch::reduced(&[0; MOST_BYTES + RECORD_BYTES], 2451545.0, 2451545.0), Err(Refusal::List));
 }
 
 /// Bits of NaNs, signalling and quiet, of either sign.

@@ -179,7 +179,7 @@ fn refusals_speak() {
 }
 
 /// Document 01's list of three stars, the second out of range.
-const LIST: [u8; 36] = [
+const LIST: [u8; 3 * list::RECORD_BYTES] = [
     7, 0, 0, 0, 0, 0, 0, 0, 0, 0, 0, 0, //
     9, 0, 0, 0, 0x00, 0x64, 0x3F, 0x4D, 0, 0, 0, 0, //
     7, 0, 0, 0, 0x80, 0xEE, 0x36, 0x00, 0x80, 0x11, 0xC9, 0xFF,
@@ -216,9 +216,10 @@ fn a_batch_is_the_chain_at_each_star() {
 
 #[test]
 fn a_tally_counts_known_statuses() {
-    let once = batch::tally_raise([0; 20], 9).unwrap();
+    let once = batch::tally_raise([0; batch::COUNTS], 9).unwrap();
     assert_eq!((once[9], once.iter().sum::<u32>()), (1, 1));
-    assert_eq!(batch::tally_raise(once, 16).map(|t| (t[9], t[16])), Ok((1, 1)));
-    assert_eq!(batch::tally_raise(once, 17), Err(Refusal::Record));
-    assert_eq!(batch::tally_raise([60000; 20], 0), Err(Refusal::List));
+    let highest = Refusal::HIGHEST;
+    assert_eq!(batch::tally_raise(once, highest).map(|t| (t[9], t[highest as usize])), Ok((1, 1)));
+    assert_eq!(batch::tally_raise(once, highest + 1), Err(Refusal::Record));
+    assert_eq!(batch::tally_raise([batch::FULLEST; batch::COUNTS], 0), Err(Refusal::List));
 }

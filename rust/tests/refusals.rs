@@ -11,14 +11,14 @@ fn every_number_comes_back() {
 
 #[test]
 fn the_numbers_of_the_table_have_names_and_sentences_of_their_own() {
-    let mut sentences: Vec<&str> = (1..=16).map(|n| Refusal::from_number(n).unwrap().sentence()).collect();
-    let unnamed = Refusal::Other(17).sentence();
-    assert!((1..=16).all(|n| Refusal::from_number(n) != Some(Refusal::Other(n))));
-    assert!((17..=255).all(|n| Refusal::from_number(n) == Some(Refusal::Other(n))));
+    let mut sentences: Vec<&str> = (1..=Refusal::HIGHEST).map(|n| Refusal::from_number(n).unwrap().sentence()).collect();
+    let unnamed = Refusal::Other(Refusal::HIGHEST + 1).sentence();
+    assert!((1..=Refusal::HIGHEST).all(|n| Refusal::from_number(n) != Some(Refusal::Other(n))));
+    assert!((Refusal::HIGHEST + 1..=255).all(|n| Refusal::from_number(n) == Some(Refusal::Other(n))));
     assert!(!sentences.contains(&unnamed));
     sentences.sort();
     sentences.dedup();
-    assert_eq!(sentences.len(), 16);
+    assert_eq!(sentences.len(), usize::from(Refusal::HIGHEST));
 }
 
 #[test]
