@@ -27,9 +27,9 @@ fn sol_aberr_of(dist: f64) -> Rad
 pub fn sol_aberr(dist: f64) -> Radians
     ensures { λ r. ⌜ shownRadians r ≡ solAberrRule dist ⌝ }
 {
-    let no = quantity::distance_refusal(dist);
-    if no != 0 {
-        return Radians::Refused(no);
+    let refusal = quantity::distance_refusal(dist);
+    if refusal != 0 {
+        return Radians::Refused(refusal);
     }
     Radians::Are(sol_aberr_of(dist))
 }
@@ -73,9 +73,9 @@ fn stell_aberr_in(p: EqPoint, day: f64) -> Shift
 pub fn stell_aberr_in_eq_coords(stell_eq_point: EqPoint, day: f64) -> Two
     ensures { λ r. ⌜ shownTwo r ≡ stellAberrInEqCoordsRule «stell_eq_point» day ⌝ }
 {
-    let no = stell_aberr_refusal(stell_eq_point, day);
-    if no != 0 {
-        return Two::Refused(no);
+    let refusal = stell_aberr_refusal(stell_eq_point, day);
+    if refusal != 0 {
+        return Two::Refused(refusal);
     }
     let s = stell_aberr_in(stell_eq_point, day);
     Two::Are(s.asc.0, s.dec.0)

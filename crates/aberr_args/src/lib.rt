@@ -4,8 +4,8 @@ ghost use mathlib.Core.Path.{_≡_};
 ghost use Rattle.aberr_args.specs.rules.Arguments.{argumentsOf};
 ghost use Rattle.aberr_args.specs.rules.Row.{angleOf, multipliersOf, xTerms, yTerms, zTerms, times, plus, argumentOf, grouped, term, withTerm};
 ghost use Rattle.aberr_args.specs.rules.Row.{moved, spread, shareOf, added};
-ghost use Rattle.elementary.specs.rules.Sine.{turnOf};
-use elementary::Turn;
+ghost use Rattle.elementary.specs.rules.Sine.{sinCosOf};
+use elementary::SinCos;
 use quantity::Rad;
 
 // ---- the arguments
@@ -87,18 +87,18 @@ fn angle_of(g: Arguments, n: u8) -> Rad
     }
 }
 
-// How often the angles of a row enter its argument; kept, the first times their difference.
+// How often the angles of a row enter its argument; bracketed, the first times their difference.
 pub struct Multipliers {
-    pub kept: bool,
+    pub bracketed: bool,
     pub first: f64,
     pub second: f64,
     pub third: f64,
 }
 
-// What a row adds to one sum: the coefficients of sine and cosine, moving with their parts in T; kept, one coefficient times a sum or a
+// What a row adds to one sum: the coefficients of sine and cosine, moving with their parts in T; bracketed, one coefficient times a sum or a
 // difference of the two.
 pub struct Terms {
-    pub kept: bool,
+    pub bracketed: bool,
     pub moving: bool,
     pub sine: f64,
     pub sine_t: f64,
@@ -111,7 +111,7 @@ fn multipliers_of(x: Row) -> Multipliers
     ensures { λ r. ⌜ r ≡ multipliersOf x ⌝ }
 {
     Multipliers {
-        kept: x.6 % 2 == 1,
+        bracketed: x.6 % 2 == 1,
         first: x.0 as f64,
         second: x.2 as f64,
         third: x.4 as f64,
@@ -123,7 +123,7 @@ fn x_terms(x: Row, q: Row) -> Terms
     ensures { λ r. ⌜ r ≡ xTerms x q ⌝ }
 {
     Terms {
-        kept: x.6 / 2 % 2 == 1,
+        bracketed: x.6 / 2 % 2 == 1,
         moving: x.7 != 0,
         sine: x.8 as f64,
         sine_t: q.8 as f64,
@@ -137,7 +137,7 @@ fn y_terms(x: Row, q: Row) -> Terms
     ensures { λ r. ⌜ r ≡ yTerms x q ⌝ }
 {
     Terms {
-        kept: false,
+        bracketed: false,
         moving: x.7 != 0,
         sine: x.10 as f64,
         sine_t: q.10 as f64,
@@ -151,7 +151,7 @@ fn z_terms(x: Row, q: Row) -> Terms
     ensures { λ r. ⌜ r ≡ zTerms x q ⌝ }
 {
     Terms {
-        kept: x.6 / 4 % 2 == 1,
+        bracketed: x.6 / 4 % 2 == 1,
         moving: x.7 != 0,
         sine: x.12 as f64,
         sine_t: q.12 as f64,
@@ -192,7 +192,7 @@ fn argument(x: Row, g: Arguments) -> Rad
     let third = x.5;
     let a = angle_of(g, x.1).0;
     let m = multipliers_of(x);
-    if m.kept {
+    if m.bracketed {
         return Rad(m.first * (a - angle_of(g, second).0));
     }
     let one = times(m.first, a);
@@ -274,7 +274,7 @@ fn spread(e: Terms, t: f64, sine: f64, cosine: f64, sum: f64) -> f64
 fn share(e: Terms, t: f64, sine: f64, cosine: f64, sum: f64) -> f64
     ensures { λ r. ⌜ r ≡ shareOf e t sine cosine sum ⌝ }
 {
-    if e.kept {
+    if e.bracketed {
         sum + grouped(e, sine, cosine)
     } else {
         spread(e, t, sine, cosine, sum)
@@ -282,10 +282,10 @@ fn share(e: Terms, t: f64, sine: f64, cosine: f64, sum: f64) -> f64
 }
 
 // The sine and the cosine of a row's argument.
-pub fn turn_in(x: Row, g: Arguments) -> Turn
-    ensures { λ r. ⌜ r ≡ turnOf (argumentOf x g) ⌝ }
+pub fn sin_cos_in(x: Row, g: Arguments) -> SinCos
+    ensures { λ r. ⌜ r ≡ sinCosOf (argumentOf x g) ⌝ }
 {
-    elementary::turn_of(argument(x, g))
+    elementary::sin_cos_of(argument(x, g))
 }
 
 // The sums with a row's terms, from the sine and cosine of its argument.

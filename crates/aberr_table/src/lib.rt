@@ -188,7 +188,7 @@ fn sum_over(table: [Row; 39], g: Arguments) -> Velocity
     while i < 36 {
         let x = table[i];
         let n = x.7 as usize;
-        let a = aberr_args::turn_in(x, g);
+        let a = aberr_args::sin_cos_in(x, g);
         let sine = a.sine;
         let cosine = a.cosine;
         v = aberr_args::with_terms(x, table[n], t, sine, cosine, v);

@@ -13,34 +13,34 @@ fn number(n: u8) {
 }
 
 // A signed number after a space.
-fn signed(z: i32) {
-    if list_words::negative(z) {
+fn print_signed(z: i32) {
+    if signed::negative(z) {
         io::write_all(1, b" -");
     } else {
         io::write_all(1, b" ");
     }
-    io::print_decimal(1, list_words::size(z) as u64);
+    io::print_decimal(1, signed::size(z) as u64);
 }
 
 // A row's argument and mark.
 fn argument(x: Row) {
-    signed(of_8_bits(x.0));
+    print_signed(of_8_bits(x.0));
     number(x.1);
-    signed(of_8_bits(x.2));
+    print_signed(of_8_bits(x.2));
     number(x.3);
-    signed(of_8_bits(x.4));
+    print_signed(of_8_bits(x.4));
     number(x.5);
     number(x.6);
 }
 
 // Its coefficients.
 fn coefficients(x: Row) {
-    signed(x.8);
-    signed(x.9);
-    signed(x.10);
-    signed(x.11);
-    signed(x.12);
-    signed(x.13);
+    print_signed(x.8);
+    print_signed(x.9);
+    print_signed(x.10);
+    print_signed(x.11);
+    print_signed(x.12);
+    print_signed(x.13);
 }
 
 // A row's line: q holds the parts in T of its coefficients, where it has any.

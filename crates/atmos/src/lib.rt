@@ -68,9 +68,9 @@ fn alt_refusal(h: Deg) -> u8
 pub fn refrac_frm_apprnt_alt(apprnt_alt: Deg) -> Arcminutes
     ensures { λ r. ⌜ shownArcminutes r ≡ refracFrmApprntAltRule «apprnt_alt» ⌝ }
 {
-    let no = alt_refusal(apprnt_alt);
-    if no != 0 {
-        return Arcminutes::Refused(no);
+    let refusal = alt_refusal(apprnt_alt);
+    if refusal != 0 {
+        return Arcminutes::Refused(refusal);
     }
     Arcminutes::Are(refrac_frm_apprnt_alt_of(apprnt_alt))
 }
@@ -79,9 +79,9 @@ pub fn refrac_frm_apprnt_alt(apprnt_alt: Deg) -> Arcminutes
 pub fn refrac_frm_true_alt(true_alt: Deg) -> Arcminutes
     ensures { λ r. ⌜ shownArcminutes r ≡ refracFrmTrueAltRule «true_alt» ⌝ }
 {
-    let no = alt_refusal(true_alt);
-    if no != 0 {
-        return Arcminutes::Refused(no);
+    let refusal = alt_refusal(true_alt);
+    if refusal != 0 {
+        return Arcminutes::Refused(refusal);
     }
     Arcminutes::Are(refrac_frm_true_alt_of(true_alt))
 }
@@ -106,9 +106,9 @@ fn plan_alt_of(h: Deg) -> Deg
 pub fn sight_alt(apprnt_alt: Deg) -> Degrees
     ensures { λ r. ⌜ shownDegrees r ≡ sightAltRule «apprnt_alt» ⌝ }
 {
-    let no = alt_refusal(apprnt_alt);
-    if no != 0 {
-        return Degrees::Refused(no);
+    let refusal = alt_refusal(apprnt_alt);
+    if refusal != 0 {
+        return Degrees::Refused(refusal);
     }
     Degrees::Are(sight_alt_of(apprnt_alt))
 }
@@ -117,9 +117,9 @@ pub fn sight_alt(apprnt_alt: Deg) -> Degrees
 pub fn plan_alt(true_alt: Deg) -> Degrees
     ensures { λ r. ⌜ shownDegrees r ≡ planAltRule «true_alt» ⌝ }
 {
-    let no = alt_refusal(true_alt);
-    if no != 0 {
-        return Degrees::Refused(no);
+    let refusal = alt_refusal(true_alt);
+    if refusal != 0 {
+        return Degrees::Refused(refusal);
     }
     Degrees::Are(plan_alt_of(true_alt))
 }

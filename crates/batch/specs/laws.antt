@@ -4,5 +4,5 @@ pub mod InRange
 pub mod Star
 pub mod ReadBack
 pub mod Batch
-pub mod Kept
+pub mod StarStored
 pub mod Wrong

@@ -10,10 +10,10 @@ ghost use Rattle.double.specs.rules.Pattern.{patternOf};
 ghost use Rattle.quantity.specs.rules.Answer.{answered, pair, unless};
 ghost use Rattle.list.specs.rules.Record.{inRange};
 ghost use Rattle.list.specs.rules.Stars.{mostStars};
-ghost use Rattle.batch.specs.rules.Star.{ascOf, decOf, reduceTwo};
+ghost use Rattle.batch.specs.rules.Star.{ascOf, decOf, twoStarsUnder};
 ghost use Rattle.batch.specs.rules.Batch.{batchRefusal};
 ghost use Rattle.batch.specs.rules.Batch.{Batch as Batch·Batch};
-ghost use Rattle.batch.specs.notions.Kept.{Kept};
+ghost use Rattle.batch.specs.notions.StarStored.{StarStored};
 use chain::Night;
 use edition::Edition;
 use helpers::angle;
@@ -45,18 +45,18 @@ fn dec_of(star: Star) -> Rad
 }
 
 // A refusal number of a star's place, or 9 where the star's record is out of range.
-fn ranged(star: Star, no: u8) -> u8
-    ensures { λ r. ⌜ r ≡ cond (inRange star) no 9 ⌝ }
+fn ranged(star: Star, refusal: u8) -> u8
+    ensures { λ r. ⌜ r ≡ cond (inRange star) refusal 9 ⌝ }
 {
-    if list::in_range(star) { no } else { 9 }
+    if list::in_range(star) { refusal } else { 9 }
 }
 
 // Two stars' places under a night, side by side. Refusals of each: 9 for a record out of range; then 14, 7 and 4, since the angles of
 // one in range are near enough.
-fn reduce_two(first: Star, second: Star, night: Night) -> Places
-    ensures { λ r. ⌜ r ≡ reduceTwo first second night ⌝ }
+fn two_stars_under(first: Star, second: Star, night: Night) -> Places
+    ensures { λ r. ⌜ r ≡ twoStarsUnder first second night ⌝ }
 {
-    let p = chain::reduced_two(
+    let p = chain::two_places_under(
         asc_of(first),
         dec_of(first),
         asc_of(second),
@@ -79,9 +79,9 @@ fn reduce_two(first: Star, second: Star, night: Night) -> Places
 fn batch_refusal(bytes: &[u8], day1: f64, day2: f64, status: usize, asc: usize, dec: usize) -> u8
     ensures { λ r. ⌜ r ≡ batchRefusal (now (bytes .entry)) day1 day2 status asc dec ⌝ }
 {
-    let no = precess_angles::days_refusal(day1, day2);
-    if no != 0 {
-        return no;
+    let refusal = precess_angles::days_refusal(day1, day2);
+    if refusal != 0 {
+        return refusal;
     }
     if !list::is_list(bytes) {
         return 8;
@@ -100,19 +100,19 @@ fn batch_refusal(bytes: &[u8], day1: f64, day2: f64, status: usize, asc: usize, 
 }
 
 // What is stored of an angle, its bits: those of 0.0 where its place is refused.
-fn kept(no: u8, x: f64) -> u64
-    ensures { λ r. ⌜ r ≡ cond (eqb no 0) (patternOf x) (patternOf zero) ⌝ }
+fn stored_bits(refusal: u8, x: f64) -> u64
+    ensures { λ r. ⌜ r ≡ cond (eqb refusal 0) (patternOf x) (patternOf zero) ⌝ }
 {
-    if no == 0 { double::pattern(x) } else { 0 }
+    if refusal == 0 { double::pattern(x) } else { 0 }
 }
 
 // One star's status and angles at its place in what is lent, and the tally raised by the status.
-fn keep(
+fn store_star(
     status: &mut [u8],
     asc: &mut [u64],
     dec: &mut [u64],
     i: usize,
-    no: u8,
+    refusal: u8,
     a: f64,
     d: f64,
     tally: Tally,
@@ -121,13 +121,13 @@ fn keep(
     requires { ⌜ i < length (now status) ⌝ }
     requires { ⌜ i < length (now asc) ⌝ }
     requires { ⌜ i < length (now dec) ⌝ }
-    ensures { λ r. ⌜ Kept i (unless no (answered (pair a d))) tally (now (status .entry)) (now (asc .entry)) (now (dec .entry)) r (now (status .exit))
+    ensures { λ r. ⌜ StarStored i (unless refusal (answered (pair a d))) tally (now (status .entry)) (now (asc .entry)) (now (dec .entry)) r (now (status .exit))
         (now (asc .exit)) (now (dec .exit)) ⌝ }
 {
-    status[i] = no;
-    asc[i] = kept(no, a);
-    dec[i] = kept(no, d);
-    let raised = tally.raise(no);
+    status[i] = refusal;
+    asc[i] = stored_bits(refusal, a);
+    dec[i] = stored_bits(refusal, d);
+    let raised = tally.raise(refusal);
     raised.tally
 }
 
@@ -146,18 +146,18 @@ pub fn batch(
     ensures { λ r. ⌜ Batch·Batch edition (now (bytes .entry)) day1 day2 (now (status .entry)) (now (asc .entry)) (now (dec .entry)) r
         (now (status .exit)) (now (asc .exit)) (now (dec .exit)) ⌝ }
 {
-    let no = batch_refusal(bytes, day1, day2, status.len(), asc.len(), dec.len());
+    let refusal = batch_refusal(bytes, day1, day2, status.len(), asc.len(), dec.len());
     let mut tally = Tally::new();
-    if no != 0 {
-        return Batched { refusal: no, tally };
+    if refusal != 0 {
+        return Batched { refusal, tally };
     }
     let night = chain::night_of(edition, day1, day2);
     let n = list::count(bytes);
     let mut i = 0;
     while i + 1 < n {
         let j = i + 1;
-        let p = reduce_two(list::nth(bytes, i), list::nth(bytes, j), night);
-        tally = keep(
+        let p = two_stars_under(list::nth(bytes, i), list::nth(bytes, j), night);
+        tally = store_star(
             status,
             asc,
             dec,
@@ -167,7 +167,7 @@ pub fn batch(
             p.first_dec,
             tally,
         );
-        tally = keep(
+        tally = store_star(
             status,
             asc,
             dec,
@@ -181,8 +181,8 @@ pub fn batch(
     }
     if i < n {
         let star = list::nth(bytes, i);
-        let p = reduce_two(star, star, night);
-        tally = keep(
+        let p = two_stars_under(star, star, night);
+        tally = store_star(
             status,
             asc,
             dec,

@@ -1,14 +1,14 @@
 // The functions of numbers that differ between the editions, in the published one. The names without the word are the crate's edition.
 ghost use Rattle.quantity.specs.rules.Angle.{rad};
-ghost use Rattle.brundelak_handed.specs.rules.Boundary.{Told, ToldTwo, ToldThree, numberOfRadians};
+ghost use Rattle.brundelak_handed.specs.rules.Boundary.{Handed, HandedTwo, HandedThree, numberOfRadians};
 ghost use Rattle.edition.specs.declared.Edition.the-variants.{Published};
 ghost use Rattle.coords.specs.rules.Horizon.{decFrmHzRule};
 ghost use Rattle.precess.specs.rules.Equatorial.{precessEqCoordsRule, precessEqCoordsFK5Rule};
 ghost use Rattle.parallax_ecl.specs.rules.Ecliptic.{topopcentEclCoordsRule};
 ghost use Rattle.chain.specs.rules.Chain.{chainRule};
-use brundelak_handed::give_radians;
-use brundelak_handed::give_three;
-use brundelak_handed::give_two;
+use brundelak_handed::hand_radians;
+use brundelak_handed::hand_three;
+use brundelak_handed::hand_two;
 use edition::Edition;
 use quantity::EclPoint;
 use quantity::GeographPoint;
@@ -22,9 +22,9 @@ pub extern "C" fn brundelak_dec_frm_hz_published(
     observer_lat: f64,
     out: &mut u64,
 ) -> u8
-    ensures { λ n. ⌜ Told (numberOfRadians (decFrmHzRule Published (rad az) (rad alt) (rad «observer_lat»))) n (now (out .entry)) (now (out .exit)) ⌝ }
+    ensures { λ n. ⌜ Handed (numberOfRadians (decFrmHzRule Published (rad az) (rad alt) (rad «observer_lat»))) n (now (out .entry)) (now (out .exit)) ⌝ }
 {
-    give_radians(
+    hand_radians(
         coords::dec_frm_hz(Edition::Published, Rad(az), Rad(alt), Rad(observer_lat)),
         out,
     )
@@ -40,10 +40,10 @@ pub extern "C" fn brundelak_precess_eq_coords_published(
     asc: &mut u64,
     dec: &mut u64,
 ) -> u8
-    ensures { λ n. ⌜ ToldTwo (precessEqCoordsRule Published (rad «old_asc») (rad «old_dec») day1 day2) n (now (asc .entry)) (now (dec .entry))
+    ensures { λ n. ⌜ HandedTwo (precessEqCoordsRule Published (rad «old_asc») (rad «old_dec») day1 day2) n (now (asc .entry)) (now (dec .entry))
         (now (asc .exit)) (now (dec .exit)) ⌝ }
 {
-    give_two(
+    hand_two(
         precess::precess_eq_coords(Edition::Published, Rad(old_asc), Rad(old_dec), day1, day2),
         asc,
         dec,
@@ -60,10 +60,10 @@ pub extern "C" fn brundelak_precess_eq_coords_fk5_published(
     asc: &mut u64,
     dec: &mut u64,
 ) -> u8
-    ensures { λ n. ⌜ ToldTwo (precessEqCoordsFK5Rule Published (rad «old_asc») (rad «old_dec») day1 day2) n (now (asc .entry)) (now (dec .entry))
+    ensures { λ n. ⌜ HandedTwo (precessEqCoordsFK5Rule Published (rad «old_asc») (rad «old_dec») day1 day2) n (now (asc .entry)) (now (dec .entry))
         (now (asc .exit)) (now (dec .exit)) ⌝ }
 {
-    give_two(
+    hand_two(
         precess::precess_eq_coords_FK5(Edition::Published, Rad(old_asc), Rad(old_dec), day1, day2),
         asc,
         dec,
@@ -86,12 +86,12 @@ pub extern "C" fn brundelak_topopcent_ecl_coords_published(
     topocent_lat: &mut u64,
     topocent_semidiameter: &mut u64,
 ) -> u8
-    ensures { λ n. ⌜ ToldThree (topopcentEclCoordsRule Published (record { long = «ecl_long»; lat = «ecl_lat» }) (rad parallax)
+    ensures { λ n. ⌜ HandedThree (topopcentEclCoordsRule Published (record { long = «ecl_long»; lat = «ecl_lat» }) (rad parallax)
         (record { long = long; lat = lat }) height (rad sidereal) (rad oblq) (rad semidiameter)) n (now («topocent_long» .entry)) (now
         («topocent_lat» .entry)) (now («topocent_semidiameter» .entry)) (now («topocent_long» .exit)) (now («topocent_lat» .exit)) (now
         («topocent_semidiameter» .exit)) ⌝ }
 {
-    give_three(
+    hand_three(
         parallax_ecl::topopcent_ecl_coords(
             Edition::Published,
             EclPoint {
@@ -124,10 +124,10 @@ pub extern "C" fn brundelak_chain_published(
     asc: &mut u64,
     dec: &mut u64,
 ) -> u8
-    ensures { λ n. ⌜ ToldTwo (chainRule Published (rad «old_asc») (rad «old_dec») day1 day2) n (now (asc .entry)) (now (dec .entry)) (now (asc .exit))
+    ensures { λ n. ⌜ HandedTwo (chainRule Published (rad «old_asc») (rad «old_dec») day1 day2) n (now (asc .entry)) (now (dec .entry)) (now (asc .exit))
         (now (dec .exit)) ⌝ }
 {
-    give_two(
+    hand_two(
         chain::chain(Edition::Published, Rad(old_asc), Rad(old_dec), day1, day2),
         asc,
         dec,

@@ -2,44 +2,44 @@
 ghost use Rattle.list_radio.specs.rules.Reader.{openRule, starAtRule, acceptRule};
 ghost use Rattle.list_radio.specs.rules.Put.{headText, starText};
 ghost use Rattle.list_radio.specs.rules.Moves.{toList, toRadio};
-ghost use Rattle.brundelak.specs.rules.Put.{ToldNumber, ToldPut};
-ghost use Rattle.brundelak.specs.rules.Radio.{ToldOpened, ToldSighted};
+ghost use Rattle.brundelak.specs.rules.Put.{HandedNumber, HandedPut};
+ghost use Rattle.brundelak.specs.rules.Radio.{HandedOpened, HandedReceived};
 use lent::Written;
 use list::Star;
 use list_radio::Accepted;
 use list_radio::Opened;
-use list_radio::Sighted;
+use list_radio::Received;
 
-// How many stars, and the place of the first. Refusals: 13 (empty); 11; 12 or 13 (the count); 8.
+// How many stars, and the offset of the first. Refusals: 13 (empty); 11; 12 or 13 (the count); 8.
 #[no_mangle]
-pub extern "C" fn brundelak_radio_open(bytes: &[u8], count: &mut u32, place: &mut usize) -> u8
-    ensures { λ n. ⌜ ToldOpened (openRule (now (bytes .entry))) n (now (count .entry)) (now (place .entry)) (now (count .exit)) (now (place .exit)) ⌝ }
+pub extern "C" fn brundelak_radio_open(bytes: &[u8], count: &mut u32, offset: &mut usize) -> u8
+    ensures { λ n. ⌜ HandedOpened (openRule (now (bytes .entry))) n (now (count .entry)) (now (offset .entry)) (now (count .exit)) (now (offset .exit)) ⌝ }
 {
     match list_radio::open(bytes) {
         Opened::Stars(stars, first) => {
             *count = stars;
-            *place = first;
+            *offset = first;
             0
         }
         Opened::Refused(n) => n,
     }
 }
 
-// The star at a place, and the place after it. Refusals: 13 (empty); 11; 12 or 13 number by number; 9.
+// The star at an offset, and the offset after it. Refusals: 13 (empty); 11; 12 or 13 number by number; 9.
 #[no_mangle]
 pub extern "C" fn brundelak_radio_star(
     bytes: &[u8],
-    place: usize,
+    offset: usize,
     number: &mut u32,
     asc: &mut u32,
     dec: &mut i32,
     next: &mut usize,
 ) -> u8
-    ensures { λ n. ⌜ ToldSighted (starAtRule (now (bytes .entry)) place) n (now (number .entry)) (now (asc .entry)) (now (dec .entry))
+    ensures { λ n. ⌜ HandedReceived (starAtRule (now (bytes .entry)) offset) n (now (number .entry)) (now (asc .entry)) (now (dec .entry))
         (now (next .entry)) (now (number .exit)) (now (asc .exit)) (now (dec .exit)) (now (next .exit)) ⌝ }
 {
-    match list_radio::star_at(bytes, place) {
-        Sighted::Star(star, after) => {
+    match list_radio::star_at(bytes, offset) {
+        Received::Star(star, after) => {
             let d = star.dec;
             *number = star.number;
             *asc = star.asc;
@@ -47,14 +47,14 @@ pub extern "C" fn brundelak_radio_star(
             *next = after;
             0
         }
-        Sighted::Refused(n) => n,
+        Received::Refused(n) => n,
     }
 }
 
 // How many stars a whole list has. Refusals: the first met, as of the head, of each star, then 13 for bytes over.
 #[no_mangle]
 pub extern "C" fn brundelak_radio_accept(bytes: &[u8], count: &mut u32) -> u8
-    ensures { λ n. ⌜ ToldNumber (acceptRule (now (bytes .entry))) n (now (count .entry)) (now (count .exit)) ⌝ }
+    ensures { λ n. ⌜ HandedNumber (acceptRule (now (bytes .entry))) n (now (count .entry)) (now (count .exit)) ⌝ }
 {
     match list_radio::accept(bytes) {
         Accepted::Stars(stars) => {
@@ -65,17 +65,17 @@ pub extern "C" fn brundelak_radio_accept(bytes: &[u8], count: &mut u32) -> u8
     }
 }
 
-// The head of a list from a place of the slice on, and the place after it. Refusals: 8 (the count); 8 (no room).
+// The head of a list from an offset of the slice on, and the offset after it. Refusals: 8 (the count); 8 (no room).
 #[no_mangle]
 pub extern "C" fn brundelak_radio_put_head(
     out: &mut [u8],
-    place: usize,
+    offset: usize,
     count: u32,
     next: &mut usize,
 ) -> u8
-    ensures { λ n. ⌜ ToldPut (headText count) (now (out .entry)) place n (now (next .entry)) (now (out .exit)) (now (next .exit)) ⌝ }
+    ensures { λ n. ⌜ HandedPut (headText count) (now (out .entry)) offset n (now (next .entry)) (now (out .exit)) (now (next .exit)) ⌝ }
 {
-    match list_radio::put_head(out, place, count) {
+    match list_radio::put_head(out, offset, count) {
         Written::To(after) => {
             *next = after;
             0
@@ -84,21 +84,21 @@ pub extern "C" fn brundelak_radio_put_head(
     }
 }
 
-// A star from a place of the slice on, and the place after it. Refusals: 9; 8 (no room).
+// A star from an offset of the slice on, and the offset after it. Refusals: 9; 8 (no room).
 #[no_mangle]
 pub extern "C" fn brundelak_radio_put_star(
     out: &mut [u8],
-    place: usize,
+    offset: usize,
     number: u32,
     asc: u32,
     dec: i32,
     next: &mut usize,
 ) -> u8
-    ensures { λ n. ⌜ ToldPut (starText (record { number = number; asc = asc; dec = dec })) (now (out .entry)) place n (now (next .entry))
+    ensures { λ n. ⌜ HandedPut (starText (record { number = number; asc = asc; dec = dec })) (now (out .entry)) offset n (now (next .entry))
         (now (out .exit)) (now (next .exit)) ⌝ }
 {
     let star = Star { number, asc, dec };
-    match list_radio::put_star(out, place, star) {
+    match list_radio::put_star(out, offset, star) {
         Written::To(after) => {
             *next = after;
             0
@@ -110,7 +110,7 @@ pub extern "C" fn brundelak_radio_put_star(
 // A radio list as a stored list, and how many bytes were written. Refusals: as of the whole list; 8 (a short slice).
 #[no_mangle]
 pub extern "C" fn brundelak_radio_to_list(bytes: &[u8], out: &mut [u8], written: &mut usize) -> u8
-    ensures { λ n. ⌜ ToldPut (toList (now (bytes .entry))) (now (out .entry)) 0 n (now (written .entry)) (now (out .exit)) (now (written .exit)) ⌝ }
+    ensures { λ n. ⌜ HandedPut (toList (now (bytes .entry))) (now (out .entry)) 0 n (now (written .entry)) (now (out .exit)) (now (written .exit)) ⌝ }
 {
     match list_radio::radio_to_list(bytes, out) {
         Written::To(size) => {
@@ -124,7 +124,7 @@ pub extern "C" fn brundelak_radio_to_list(bytes: &[u8], out: &mut [u8], written:
 // A stored list as a radio list, and how many bytes were written. Refusals: 8 (no list); 9; 8 (a short slice).
 #[no_mangle]
 pub extern "C" fn brundelak_list_to_radio(bytes: &[u8], out: &mut [u8], written: &mut usize) -> u8
-    ensures { λ n. ⌜ ToldPut (toRadio (now (bytes .entry))) (now (out .entry)) 0 n (now (written .entry)) (now (out .exit)) (now (written .exit)) ⌝ }
+    ensures { λ n. ⌜ HandedPut (toRadio (now (bytes .entry))) (now (out .entry)) 0 n (now (written .entry)) (now (out .exit)) (now (written .exit)) ⌝ }
 {
     match list_radio::list_to_radio(bytes, out) {
         Written::To(size) => {

@@ -1,6 +1,6 @@
 // What leads from a catalogue place to a place on a day: precession, nutation, aberration and the chain.
 ghost use Rattle.quantity.specs.rules.Angle.{rad};
-ghost use Rattle.brundelak_handed.specs.rules.Boundary.{Told, ToldTwo, ToldThree, numberOfRadians};
+ghost use Rattle.brundelak_handed.specs.rules.Boundary.{Handed, HandedTwo, HandedThree, numberOfRadians};
 ghost use Rattle.edition.specs.declared.Edition.the-variants.{Crate};
 ghost use Rattle.precess.specs.rules.Annual.{annualPrecessRule};
 ghost use Rattle.precess.specs.rules.Equatorial.{precessEqCoordsRule, precessEqCoordsFK5Rule};
@@ -11,9 +11,9 @@ ghost use Rattle.nutation.specs.rules.Point.{nutationInEqCoordsRule};
 ghost use Rattle.aberr.specs.rules.Sun.{solAberrRule};
 ghost use Rattle.aberr.specs.rules.Star.{stellAberrInEqCoordsRule};
 ghost use Rattle.chain.specs.rules.Chain.{chainRule};
-use brundelak_handed::give_radians;
-use brundelak_handed::give_three;
-use brundelak_handed::give_two;
+use brundelak_handed::hand_radians;
+use brundelak_handed::hand_three;
+use brundelak_handed::hand_two;
 use edition::Edition;
 use quantity::EqPoint;
 use quantity::Rad;
@@ -27,10 +27,10 @@ pub extern "C" fn brundelak_annual_precess(
     precess_in_asc: &mut u64,
     precess_in_dec: &mut u64,
 ) -> u8
-    ensures { λ n. ⌜ ToldTwo (annualPrecessRule (rad asc) (rad dec) day) n (now («precess_in_asc» .entry)) (now («precess_in_dec» .entry))
+    ensures { λ n. ⌜ HandedTwo (annualPrecessRule (rad asc) (rad dec) day) n (now («precess_in_asc» .entry)) (now («precess_in_dec» .entry))
         (now («precess_in_asc» .exit)) (now («precess_in_dec» .exit)) ⌝ }
 {
-    give_two(
+    hand_two(
         precess::annual_precess(Rad(asc), Rad(dec), day),
         precess_in_asc,
         precess_in_dec,
@@ -47,10 +47,10 @@ pub extern "C" fn brundelak_precess_eq_coords(
     asc: &mut u64,
     dec: &mut u64,
 ) -> u8
-    ensures { λ n. ⌜ ToldTwo (precessEqCoordsRule Crate (rad «old_asc») (rad «old_dec») day1 day2) n (now (asc .entry)) (now (dec .entry))
+    ensures { λ n. ⌜ HandedTwo (precessEqCoordsRule Crate (rad «old_asc») (rad «old_dec») day1 day2) n (now (asc .entry)) (now (dec .entry))
         (now (asc .exit)) (now (dec .exit)) ⌝ }
 {
-    give_two(
+    hand_two(
         precess::precess_eq_coords(Edition::Crate, Rad(old_asc), Rad(old_dec), day1, day2),
         asc,
         dec,
@@ -67,10 +67,10 @@ pub extern "C" fn brundelak_precess_eq_coords_fk5(
     asc: &mut u64,
     dec: &mut u64,
 ) -> u8
-    ensures { λ n. ⌜ ToldTwo (precessEqCoordsFK5Rule Crate (rad «old_asc») (rad «old_dec») day1 day2) n (now (asc .entry)) (now (dec .entry))
+    ensures { λ n. ⌜ HandedTwo (precessEqCoordsFK5Rule Crate (rad «old_asc») (rad «old_dec») day1 day2) n (now (asc .entry)) (now (dec .entry))
         (now (asc .exit)) (now (dec .exit)) ⌝ }
 {
-    give_two(
+    hand_two(
         precess::precess_eq_coords_FK5(Edition::Crate, Rad(old_asc), Rad(old_dec), day1, day2),
         asc,
         dec,
@@ -87,10 +87,10 @@ pub extern "C" fn brundelak_precess_ecl_coords(
     ecl_long: &mut u64,
     ecl_lat: &mut u64,
 ) -> u8
-    ensures { λ n. ⌜ ToldTwo (precessEclCoordsRule (rad «old_long») (rad «old_lat») day1 day2) n (now («ecl_long» .entry)) (now («ecl_lat» .entry))
+    ensures { λ n. ⌜ HandedTwo (precessEclCoordsRule (rad «old_long») (rad «old_lat») day1 day2) n (now («ecl_long» .entry)) (now («ecl_lat» .entry))
         (now («ecl_long» .exit)) (now («ecl_lat» .exit)) ⌝ }
 {
-    give_two(
+    hand_two(
         precess_ecl::precess_ecl_coords(Rad(old_long), Rad(old_lat), day1, day2),
         ecl_long,
         ecl_lat,
@@ -109,11 +109,11 @@ pub extern "C" fn brundelak_precess_orb_elements(
     arg_perih: &mut u64,
     long_ascend_node: &mut u64,
 ) -> u8
-    ensures { λ n. ⌜ ToldThree (precessOrbElementsRule (rad «old_inc») (rad «old_arg_perih») (rad «old_long_ascend_node») day1 day2) n
+    ensures { λ n. ⌜ HandedThree (precessOrbElementsRule (rad «old_inc») (rad «old_arg_perih») (rad «old_long_ascend_node») day1 day2) n
         (now (inc .entry)) (now («arg_perih» .entry)) (now («long_ascend_node» .entry)) (now (inc .exit)) (now («arg_perih» .exit))
         (now («long_ascend_node» .exit)) ⌝ }
 {
-    give_three(
+    hand_three(
         precess_ecl::precess_orb_elements(
             Rad(old_inc),
             Rad(old_arg_perih),
@@ -130,10 +130,10 @@ pub extern "C" fn brundelak_precess_orb_elements(
 // Nutation in longitude and obliquity. Refusals: 1; 2.
 #[no_mangle]
 pub extern "C" fn brundelak_nutation(day: f64, nut_in_long: &mut u64, nut_in_oblq: &mut u64) -> u8
-    ensures { λ n. ⌜ ToldTwo (nutationRule day) n (now («nut_in_long» .entry)) (now («nut_in_oblq» .entry)) (now («nut_in_long» .exit))
+    ensures { λ n. ⌜ HandedTwo (nutationRule day) n (now («nut_in_long» .entry)) (now («nut_in_oblq» .entry)) (now («nut_in_long» .exit))
         (now («nut_in_oblq» .exit)) ⌝ }
 {
-    give_two(nutation::nutation(day), nut_in_long, nut_in_oblq)
+    hand_two(nutation::nutation(day), nut_in_long, nut_in_oblq)
 }
 
 // Nutation in right ascension and declination. Refusals: 1; 3; 4.
@@ -147,10 +147,10 @@ pub extern "C" fn brundelak_nutation_in_eq_coords(
     nut_in_asc: &mut u64,
     nut_in_dec: &mut u64,
 ) -> u8
-    ensures { λ n. ⌜ ToldTwo (nutationInEqCoordsRule (record { asc = asc; dec = dec }) (rad «nut_in_long») (rad «nut_in_oblq») (rad «tru_oblq»)) n
+    ensures { λ n. ⌜ HandedTwo (nutationInEqCoordsRule (record { asc = asc; dec = dec }) (rad «nut_in_long») (rad «nut_in_oblq») (rad «tru_oblq»)) n
         (now («nut_in_asc» .entry)) (now («nut_in_dec» .entry)) (now («nut_in_asc» .exit)) (now («nut_in_dec» .exit)) ⌝ }
 {
-    give_two(
+    hand_two(
         nutation::nutation_in_eq_coords(
             EqPoint { asc: asc, dec: dec },
             Rad(nut_in_long),
@@ -165,9 +165,9 @@ pub extern "C" fn brundelak_nutation_in_eq_coords(
 // Solar aberration at a distance. Refusals: 1; 5.
 #[no_mangle]
 pub extern "C" fn brundelak_sol_aberr(dist: f64, out: &mut u64) -> u8
-    ensures { λ n. ⌜ Told (numberOfRadians (solAberrRule dist)) n (now (out .entry)) (now (out .exit)) ⌝ }
+    ensures { λ n. ⌜ Handed (numberOfRadians (solAberrRule dist)) n (now (out .entry)) (now (out .exit)) ⌝ }
 {
-    give_radians(aberr::sol_aberr(dist), out)
+    hand_radians(aberr::sol_aberr(dist), out)
 }
 
 // Stellar aberration in right ascension and declination. Refusals: 1; 2; 3; 4.
@@ -179,10 +179,10 @@ pub extern "C" fn brundelak_stell_aberr_in_eq_coords(
     aberr_in_asc: &mut u64,
     aberr_in_dec: &mut u64,
 ) -> u8
-    ensures { λ n. ⌜ ToldTwo (stellAberrInEqCoordsRule (record { asc = asc; dec = dec }) day) n (now («aberr_in_asc» .entry))
+    ensures { λ n. ⌜ HandedTwo (stellAberrInEqCoordsRule (record { asc = asc; dec = dec }) day) n (now («aberr_in_asc» .entry))
         (now («aberr_in_dec» .entry)) (now («aberr_in_asc» .exit)) (now («aberr_in_dec» .exit)) ⌝ }
 {
-    give_two(
+    hand_two(
         aberr::stell_aberr_in_eq_coords(EqPoint { asc: asc, dec: dec }, day),
         aberr_in_asc,
         aberr_in_dec,
@@ -199,10 +199,10 @@ pub extern "C" fn brundelak_chain(
     asc: &mut u64,
     dec: &mut u64,
 ) -> u8
-    ensures { λ n. ⌜ ToldTwo (chainRule Crate (rad «old_asc») (rad «old_dec») day1 day2) n (now (asc .entry)) (now (dec .entry)) (now (asc .exit))
+    ensures { λ n. ⌜ HandedTwo (chainRule Crate (rad «old_asc») (rad «old_dec») day1 day2) n (now (asc .entry)) (now (dec .entry)) (now (asc .exit))
         (now (dec .exit)) ⌝ }
 {
-    give_two(
+    hand_two(
         chain::chain(Edition::Crate, Rad(old_asc), Rad(old_dec), day1, day2),
         asc,
         dec,

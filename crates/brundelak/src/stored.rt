@@ -3,13 +3,13 @@ ghost use Rattle.edition.specs.declared.Edition.the-variants.{Crate, Published}
 ghost use Rattle.list.specs.rules.Find.{findRule};
 ghost use Rattle.list.specs.rules.Reader.{readRule};
 ghost use Rattle.list.specs.rules.Writer.{recordText};
-ghost use Rattle.brundelak.specs.rules.Put.{ToldPut};
-ghost use Rattle.brundelak.specs.rules.Stored.{ToldFound, ToldStar, ToldBatch, ToldRaise};
+ghost use Rattle.brundelak.specs.rules.Put.{HandedPut};
+ghost use Rattle.brundelak.specs.rules.Stored.{HandedFound, HandedStar, HandedBatch, HandedRaise};
 use edition::Edition;
 use lent::Written;
 use list::Found;
-use list::Shown;
 use list::Star;
+use list::Stored;
 use list_tally::Tally;
 
 // The first star with a number: its index and the record's other fields. Refusals: 8; 10; 9.
@@ -21,7 +21,7 @@ pub extern "C" fn brundelak_find(
     asc: &mut u32,
     dec: &mut i32,
 ) -> u8
-    ensures { λ n. ⌜ ToldFound (findRule (now (bytes .entry)) number) n (now (index .entry)) (now (asc .entry)) (now (dec .entry)) (now (index .exit))
+    ensures { λ n. ⌜ HandedFound (findRule (now (bytes .entry)) number) n (now (index .entry)) (now (asc .entry)) (now (dec .entry)) (now (index .exit))
         (now (asc .exit)) (now (dec .exit)) ⌝ }
 {
     match list::find(bytes, number) {
@@ -35,21 +35,21 @@ pub extern "C" fn brundelak_find(
     }
 }
 
-// The star at a place of a list, in range or not, and the place after it: the reader's next. 255 where none is left. Refusals: 8.
+// The star at an offset of a list, in range or not, and the offset after it: the reader's next. 255 where none is left. Refusals: 8.
 #[no_mangle]
 pub extern "C" fn brundelak_star(
     bytes: &[u8],
-    place: usize,
+    offset: usize,
     number: &mut u32,
     asc: &mut u32,
     dec: &mut i32,
     next: &mut usize,
 ) -> u8
-    ensures { λ n. ⌜ ToldStar (readRule (now (bytes .entry)) place) n (now (number .entry)) (now (asc .entry)) (now (dec .entry)) (now (next .entry))
+    ensures { λ n. ⌜ HandedStar (readRule (now (bytes .entry)) offset) n (now (number .entry)) (now (asc .entry)) (now (dec .entry)) (now (next .entry))
         (now (number .exit)) (now (asc .exit)) (now (dec .exit)) (now (next .exit)) ⌝ }
 {
-    match list::star_at(bytes, place) {
-        Shown::Next(star, after) => {
+    match list::star_at(bytes, offset) {
+        Stored::Next(star, after) => {
             let d = star.dec;
             *number = star.number;
             *asc = star.asc;
@@ -57,26 +57,26 @@ pub extern "C" fn brundelak_star(
             *next = after;
             0
         }
-        Shown::End => 255,
-        Shown::Refused(n) => n,
+        Stored::End => 255,
+        Stored::Refused(n) => n,
     }
 }
 
-// A star's record from a place of the slice on, and the place after it. Refusals: 9; 8 (no record of a list begins there; no room).
+// A star's record from an offset of the slice on, and the offset after it. Refusals: 9; 8 (no record of a list begins there; no room).
 #[no_mangle]
 pub extern "C" fn brundelak_put_star(
     out: &mut [u8],
-    place: usize,
+    offset: usize,
     number: u32,
     asc: u32,
     dec: i32,
     next: &mut usize,
 ) -> u8
-    ensures { λ n. ⌜ ToldPut (recordText place (record { number = number; asc = asc; dec = dec })) (now (out .entry)) place n (now (next .entry))
+    ensures { λ n. ⌜ HandedPut (recordText offset (record { number = number; asc = asc; dec = dec })) (now (out .entry)) offset n (now (next .entry))
         (now (out .exit)) (now (next .exit)) ⌝ }
 {
     let star = Star { number, asc, dec };
-    match list::put_star(out, place, star) {
+    match list::put_star(out, offset, star) {
         Written::To(after) => {
             *next = after;
             0
@@ -96,7 +96,7 @@ fn hand_batch(
     dec: &mut [u64],
     counts: &mut [u32; 20],
 ) -> u8
-    ensures { λ n. ⌜ ToldBatch edition (now (bytes .entry)) day1 day2 (now (status .entry)) (now (asc .entry)) (now (dec .entry))
+    ensures { λ n. ⌜ HandedBatch edition (now (bytes .entry)) day1 day2 (now (status .entry)) (now (asc .entry)) (now (dec .entry))
         (now (counts .entry)) n (now (status .exit)) (now (asc .exit)) (now (dec .exit)) (now (counts .exit)) ⌝ }
 {
     let b = batch::batch(edition, bytes, day1, day2, status, asc, dec);
@@ -121,7 +121,7 @@ pub extern "C" fn brundelak_batch(
     dec: &mut [u64],
     counts: &mut [u32; 20],
 ) -> u8
-    ensures { λ n. ⌜ ToldBatch Crate (now (bytes .entry)) day1 day2 (now (status .entry)) (now (asc .entry)) (now (dec .entry)) (now (counts .entry))
+    ensures { λ n. ⌜ HandedBatch Crate (now (bytes .entry)) day1 day2 (now (status .entry)) (now (asc .entry)) (now (dec .entry)) (now (counts .entry))
         n (now (status .exit)) (now (asc .exit)) (now (dec .exit)) (now (counts .exit)) ⌝ }
 {
     hand_batch(Edition::Crate, bytes, day1, day2, status, asc, dec, counts)
@@ -138,7 +138,7 @@ pub extern "C" fn brundelak_batch_published(
     dec: &mut [u64],
     counts: &mut [u32; 20],
 ) -> u8
-    ensures { λ n. ⌜ ToldBatch Published (now (bytes .entry)) day1 day2 (now (status .entry)) (now (asc .entry)) (now (dec .entry))
+    ensures { λ n. ⌜ HandedBatch Published (now (bytes .entry)) day1 day2 (now (status .entry)) (now (asc .entry)) (now (dec .entry))
         (now (counts .entry)) n (now (status .exit)) (now (asc .exit)) (now (dec .exit)) (now (counts .exit)) ⌝ }
 {
     hand_batch(
@@ -157,7 +157,7 @@ pub extern "C" fn brundelak_batch_published(
 // a count that is full.
 #[no_mangle]
 pub extern "C" fn brundelak_tally_raise(status: u8, counts: &mut [u32; 20]) -> u8
-    ensures { λ n. ⌜ ToldRaise status (now (counts .entry)) n (now (counts .exit)) ⌝ }
+    ensures { λ n. ⌜ HandedRaise status (now (counts .entry)) n (now (counts .exit)) ⌝ }
 {
     let tally = Tally { counts: *counts };
     let raised = tally.raise(status);

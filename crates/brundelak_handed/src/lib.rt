@@ -5,7 +5,7 @@ ghost use Rattle.quantity.specs.rules.Answer.{shown, shownTwo, shownThree, show
 ghost use Rattle.root.specs.rules.Bits.{shownBits};
 ghost use Rattle.coords_ecl.specs.rules.Point.{shownEcliptic};
 ghost use Rattle.atmos.specs.rules.Arcminutes.{shownArcminutes};
-ghost use Rattle.brundelak_handed.specs.rules.Boundary.{Told, ToldBits, ToldTwo, ToldThree, numberOfDegrees, numberOfRadians};
+ghost use Rattle.brundelak_handed.specs.rules.Boundary.{Handed, HandedBits, HandedTwo, HandedThree, numberOfDegrees, numberOfRadians};
 ghost use Rattle.brundelak_handed.specs.rules.Boundary.{numberOfArcminutes, numbersOfPoint, numbersOfEcliptic};
 use atmos::Arcminutes;
 use coords_ecl::Ecliptic;
@@ -18,8 +18,8 @@ use quantity::Two;
 use root::Bits;
 
 // An answer of one number.
-pub fn give(a: One, out: &mut u64) -> u8
-    ensures { λ n. ⌜ Told (shown a) n (now (out .entry)) (now (out .exit)) ⌝ }
+pub fn hand(a: One, out: &mut u64) -> u8
+    ensures { λ n. ⌜ Handed (shown a) n (now (out .entry)) (now (out .exit)) ⌝ }
 {
     match a {
         One::Is(x) => {
@@ -31,8 +31,8 @@ pub fn give(a: One, out: &mut u64) -> u8
 }
 
 // An answer of two numbers.
-pub fn give_two(a: Two, first: &mut u64, second: &mut u64) -> u8
-    ensures { λ n. ⌜ ToldTwo (shownTwo a) n (now (first .entry)) (now (second .entry)) (now (first .exit)) (now (second .exit)) ⌝ }
+pub fn hand_two(a: Two, first: &mut u64, second: &mut u64) -> u8
+    ensures { λ n. ⌜ HandedTwo (shownTwo a) n (now (first .entry)) (now (second .entry)) (now (first .exit)) (now (second .exit)) ⌝ }
 {
     match a {
         Two::Are(x, y) => {
@@ -45,8 +45,8 @@ pub fn give_two(a: Two, first: &mut u64, second: &mut u64) -> u8
 }
 
 // An answer of three numbers.
-pub fn give_three(a: Three, first: &mut u64, second: &mut u64, third: &mut u64) -> u8
-    ensures { λ n. ⌜ ToldThree (shownThree a) n (now (first .entry)) (now (second .entry)) (now (third .entry)) (now (first .exit))
+pub fn hand_three(a: Three, first: &mut u64, second: &mut u64, third: &mut u64) -> u8
+    ensures { λ n. ⌜ HandedThree (shownThree a) n (now (first .entry)) (now (second .entry)) (now (third .entry)) (now (first .exit))
         (now (second .exit)) (now (third .exit)) ⌝ }
 {
     match a {
@@ -61,8 +61,8 @@ pub fn give_three(a: Three, first: &mut u64, second: &mut u64, third: &mut u64) 
 }
 
 // An answer of one number that is its bits already.
-pub fn give_bits(a: Bits, out: &mut u64) -> u8
-    ensures { λ n. ⌜ ToldBits (shownBits a) n (now (out .entry)) (now (out .exit)) ⌝ }
+pub fn hand_bits(a: Bits, out: &mut u64) -> u8
+    ensures { λ n. ⌜ HandedBits (shownBits a) n (now (out .entry)) (now (out .exit)) ⌝ }
 {
     match a {
         Bits::Are(b) => {
@@ -124,36 +124,36 @@ fn ecliptic_numbers(a: Ecliptic) -> Two
 }
 
 // An answer in degrees, as its number.
-pub fn give_degrees(a: Degrees, out: &mut u64) -> u8
-    ensures { λ n. ⌜ Told (numberOfDegrees (shownDegrees a)) n (now (out .entry)) (now (out .exit)) ⌝ }
+pub fn hand_degrees(a: Degrees, out: &mut u64) -> u8
+    ensures { λ n. ⌜ Handed (numberOfDegrees (shownDegrees a)) n (now (out .entry)) (now (out .exit)) ⌝ }
 {
-    give(degrees_number(a), out)
+    hand(degrees_number(a), out)
 }
 
 // An answer in radians, as its number.
-pub fn give_radians(a: Radians, out: &mut u64) -> u8
-    ensures { λ n. ⌜ Told (numberOfRadians (shownRadians a)) n (now (out .entry)) (now (out .exit)) ⌝ }
+pub fn hand_radians(a: Radians, out: &mut u64) -> u8
+    ensures { λ n. ⌜ Handed (numberOfRadians (shownRadians a)) n (now (out .entry)) (now (out .exit)) ⌝ }
 {
-    give(radians_number(a), out)
+    hand(radians_number(a), out)
 }
 
 // An answer in minutes of arc, as its number.
-pub fn give_arcminutes(a: Arcminutes, out: &mut u64) -> u8
-    ensures { λ n. ⌜ Told (numberOfArcminutes (shownArcminutes a)) n (now (out .entry)) (now (out .exit)) ⌝ }
+pub fn hand_arcminutes(a: Arcminutes, out: &mut u64) -> u8
+    ensures { λ n. ⌜ Handed (numberOfArcminutes (shownArcminutes a)) n (now (out .entry)) (now (out .exit)) ⌝ }
 {
-    give(arcminutes_number(a), out)
+    hand(arcminutes_number(a), out)
 }
 
 // A point, as its two numbers.
-pub fn give_point(a: Point, first: &mut u64, second: &mut u64) -> u8
-    ensures { λ n. ⌜ ToldTwo (numbersOfPoint (shownPoint a)) n (now (first .entry)) (now (second .entry)) (now (first .exit)) (now (second .exit)) ⌝ }
+pub fn hand_point(a: Point, first: &mut u64, second: &mut u64) -> u8
+    ensures { λ n. ⌜ HandedTwo (numbersOfPoint (shownPoint a)) n (now (first .entry)) (now (second .entry)) (now (first .exit)) (now (second .exit)) ⌝ }
 {
-    give_two(point_numbers(a), first, second)
+    hand_two(point_numbers(a), first, second)
 }
 
 // An ecliptic point, as its two numbers.
-pub fn give_ecliptic(a: Ecliptic, first: &mut u64, second: &mut u64) -> u8
-    ensures { λ n. ⌜ ToldTwo (numbersOfEcliptic (shownEcliptic a)) n (now (first .entry)) (now (second .entry)) (now (first .exit)) (now (second .exit)) ⌝ }
+pub fn hand_ecliptic(a: Ecliptic, first: &mut u64, second: &mut u64) -> u8
+    ensures { λ n. ⌜ HandedTwo (numbersOfEcliptic (shownEcliptic a)) n (now (first .entry)) (now (second .entry)) (now (first .exit)) (now (second .exit)) ⌝ }
 {
-    give_two(ecliptic_numbers(a), first, second)
+    hand_two(ecliptic_numbers(a), first, second)
 }

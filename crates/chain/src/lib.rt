@@ -6,15 +6,15 @@ ghost use Rattle.quantity.specs.rules.Answer.{shownTwo};
 ghost use Rattle.precess_angles.specs.rules.Days.{placeRefusal};
 ghost use Rattle.chain.specs.rules.Obliquity.{meanObliquity, meanObliquityOf, trueObliquity};
 ghost use Rattle.chain.specs.rules.Chain.{pointRefusal, anglesRefusal, chainRule};
-ghost use Rattle.chain.specs.rules.Night.{nightFrom, nightOf, moved, movedUnder, reducedAt, reducedIn};
-ghost use Rattle.chain.specs.rules.Two.{nextRefusal, reducedTwo};
+ghost use Rattle.chain.specs.rules.Night.{nightFrom, nightOf, moved, movedUnder, pointUnder, placeUnder};
+ghost use Rattle.chain.specs.rules.Two.{nextRefusal, twoPlacesUnder};
 use aberr_args::Velocity;
 use edition::Edition;
 use elementary::Direction;
 use helpers::angle;
 use helpers::time;
 use nutation_args::Nutations;
-use precess_angles::EqTurns;
+use precess_angles::EqPrecession;
 use quantity::Deg;
 use quantity::EqPoint;
 use quantity::Places;
@@ -50,10 +50,10 @@ pub fn true_obliquity(mean: Rad, nut_in_oblq: Rad) -> Rad
 
 // ---- the night
 
-// All that two days fix: precession's turns, nutation, the sine and cosine of the true obliquity, the Earth's velocity, and the refusal of
+// All that two days fix: precession, nutation, the sine and cosine of the true obliquity, the Earth's velocity, and the refusal of
 // the three angles that nutation goes by, 0 where there is none.
 pub struct Night {
-    pub turns: EqTurns,
+    pub precession: EqPrecession,
     pub nutation: Nutations,
     pub sin_oblq: f64,
     pub cos_oblq: f64,
@@ -77,12 +77,12 @@ fn angles_refusal(n: Nutations, oblq: Rad) -> u8
 }
 
 // A night from its parts.
-fn night_from(turns: EqTurns, n: Nutations, oblq: Rad, v: Velocity) -> Night
-    ensures { λ r. ⌜ r ≡ nightFrom turns n oblq v ⌝ }
+fn night_from(precession: EqPrecession, n: Nutations, oblq: Rad, v: Velocity) -> Night
+    ensures { λ r. ⌜ r ≡ nightFrom precession n oblq v ⌝ }
 {
-    let e = elementary::turn_of(oblq);
+    let e = elementary::sin_cos_of(oblq);
     Night {
-        turns: turns,
+        precession: precession,
         nutation: n,
         sin_oblq: e.sine,
         cos_oblq: e.cosine,
@@ -91,14 +91,14 @@ fn night_from(turns: EqTurns, n: Nutations, oblq: Rad, v: Velocity) -> Night
     }
 }
 
-// The night of two days. The editions differ in precession's turns alone.
+// The night of two days. The editions differ in precession alone.
 pub fn night_of(edition: Edition, day1: f64, day2: f64) -> Night
     ensures { λ r. ⌜ r ≡ nightOf edition day1 day2 ⌝ }
 {
     let n = nutation_table::nutation_on(day2);
     let in_oblq = n.oblq;
     night_from(
-        precess_angles::eq_turns(edition, day1, day2),
+        precess_angles::eq_precession(edition, day1, day2),
         n,
         true_obliquity(mean_obliquity_on(day2), in_oblq),
         aberr_table::velocity_on(day2),
@@ -146,24 +146,24 @@ fn moved_under(p: EqPoint, d: Direction, night: Night) -> EqPoint
 }
 
 // A precessed point under a night. Refusals: 4.
-fn reduced_at(p: EqPoint, night: Night) -> Two
-    ensures { λ r. ⌜ shownTwo r ≡ reducedAt p night ⌝ }
+fn point_under(p: EqPoint, night: Night) -> Two
+    ensures { λ r. ⌜ shownTwo r ≡ pointUnder p night ⌝ }
 {
-    let no = quantity::lower(point_refusal(p), night.refusal);
-    if no != 0 {
-        return Two::Refused(no);
+    let refusal = quantity::lower(point_refusal(p), night.refusal);
+    if refusal != 0 {
+        return Two::Refused(refusal);
     }
     let m = moved_under(p, elementary::toward(p), night);
     Two::Are(m.asc, m.dec)
 }
 
 // A star's place under a night, of a place that is not refused. Refusals: 14; 7; 4.
-pub fn reduced_in(asc: Rad, dec: Rad, night: Night) -> Two
-    ensures { λ r. ⌜ shownTwo r ≡ reducedIn asc dec night ⌝ }
+pub fn place_under(asc: Rad, dec: Rad, night: Night) -> Two
+    ensures { λ r. ⌜ shownTwo r ≡ placeUnder asc dec night ⌝ }
 {
-    let turns = night.turns;
-    match precess::turned_in(asc, dec, turns) {
-        Two::Are(a, d) => reduced_at(EqPoint { asc: a, dec: d }, night),
+    let precession = night.precession;
+    match precess::precessed_in(asc, dec, precession) {
+        Two::Are(a, d) => point_under(EqPoint { asc: a, dec: d }, night),
         Two::Refused(n) => Two::Refused(n),
     }
 }
@@ -171,28 +171,28 @@ pub fn reduced_in(asc: Rad, dec: Rad, night: Night) -> Two
 // ---- two stars side by side under a night: both are worked out to the end, whatever is refused
 
 // The refusal of a star whose place was refused by a number, or else whose precessed point or whose night may be.
-fn next_refusal(no: u8, p: EqPoint, night_refusal: u8) -> u8
-    ensures { λ r. ⌜ r ≡ nextRefusal no p «night_refusal» ⌝ }
+fn next_refusal(refusal: u8, p: EqPoint, night_refusal: u8) -> u8
+    ensures { λ r. ⌜ r ≡ nextRefusal refusal p «night_refusal» ⌝ }
 {
-    if no != 0 {
-        return no;
+    if refusal != 0 {
+        return refusal;
     }
     quantity::lower(point_refusal(p), night_refusal)
 }
 
 // Two stars' places under a night, side by side, of places that are not refused. Refusals of each: 14; 7; 4.
-pub fn reduced_two(
+pub fn two_places_under(
     first_asc: Rad,
     first_dec: Rad,
     second_asc: Rad,
     second_dec: Rad,
     night: Night,
 ) -> Places
-    ensures { λ r. ⌜ r ≡ reducedTwo «first_asc» «first_dec» «second_asc» «second_dec» night ⌝ }
+    ensures { λ r. ⌜ r ≡ twoPlacesUnder «first_asc» «first_dec» «second_asc» «second_dec» night ⌝ }
 {
-    let turns = night.turns;
+    let precession = night.precession;
     let night_refusal = night.refusal;
-    let t = precess::turned_two(first_asc, first_dec, second_asc, second_dec, turns);
+    let t = precess::precessed_two(first_asc, first_dec, second_asc, second_dec, precession);
     let p = EqPoint {
         asc: t.first_asc,
         dec: t.first_dec,
@@ -201,8 +201,8 @@ pub fn reduced_two(
         asc: t.second_asc,
         dec: t.second_dec,
     };
-    let first_no = next_refusal(t.first_refusal, p, night_refusal);
-    let second_no = next_refusal(t.second_refusal, q, night_refusal);
+    let first_refusal = next_refusal(t.first_refusal, p, night_refusal);
+    let second_refusal = next_refusal(t.second_refusal, q, night_refusal);
     let both = elementary::towards(p, q);
     let d = both.first;
     let e = both.second;
@@ -213,8 +213,8 @@ pub fn reduced_two(
         second_asc: n.asc,
         first_dec: m.dec,
         second_dec: n.dec,
-        first_refusal: first_no,
-        second_refusal: second_no,
+        first_refusal: first_refusal,
+        second_refusal: second_refusal,
     }
 }
 
@@ -224,9 +224,9 @@ pub fn reduced_two(
 pub fn chain(edition: Edition, asc: Rad, dec: Rad, day1: f64, day2: f64) -> Two
     ensures { λ r. ⌜ shownTwo r ≡ chainRule edition asc dec day1 day2 ⌝ }
 {
-    let no = precess_angles::place_refusal(asc, dec, day1, day2);
-    if no != 0 {
-        return Two::Refused(no);
+    let refusal = precess_angles::place_refusal(asc, dec, day1, day2);
+    if refusal != 0 {
+        return Two::Refused(refusal);
     }
-    reduced_in(asc, dec, night_of(edition, day1, day2))
+    place_under(asc, dec, night_of(edition, day1, day2))
 }

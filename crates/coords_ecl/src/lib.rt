@@ -68,9 +68,9 @@ fn point_of(a: Two) -> Ecliptic
 fn ecl_frm_eq_in(asc: Rad, dec: Rad, oblq: Rad) -> Ecliptic
     ensures { λ r. ⌜ shownEcliptic r ≡ eclFrmEqIn asc dec oblq ⌝ }
 {
-    let a = elementary::turn_of(asc);
-    let e = elementary::turn_of(oblq);
-    let d = elementary::turn_of(dec);
+    let a = elementary::sin_cos_of(asc);
+    let e = elementary::sin_cos_of(oblq);
+    let d = elementary::sin_cos_of(dec);
     point_of(quantity::both(
         elementary_arc::arctangent_in(a.sine * e.cosine + d.sine / d.cosine * e.sine, a.cosine),
         elementary_arc::arcsine_in(d.sine * e.cosine - d.cosine * e.sine * a.sine),
@@ -81,9 +81,9 @@ fn ecl_frm_eq_in(asc: Rad, dec: Rad, oblq: Rad) -> Ecliptic
 pub fn ecl_frm_eq(asc: Rad, dec: Rad, oblq_eclip: Rad) -> Ecliptic
     ensures { λ r. ⌜ shownEcliptic r ≡ eclFrmEqRule asc dec «oblq_eclip» ⌝ }
 {
-    let no = steep_frame_refusal(asc, dec, oblq_eclip);
-    if no != 0 {
-        return Ecliptic::Refused(no);
+    let refusal = steep_frame_refusal(asc, dec, oblq_eclip);
+    if refusal != 0 {
+        return Ecliptic::Refused(refusal);
     }
     ecl_frm_eq_in(asc, dec, oblq_eclip)
 }
@@ -92,8 +92,8 @@ pub fn ecl_frm_eq(asc: Rad, dec: Rad, oblq_eclip: Rad) -> Ecliptic
 fn asc_frm_ecl_in(long: Rad, lat: Rad, oblq: Rad) -> Radians
     ensures { λ r. ⌜ shownRadians r ≡ ascFrmEclIn long lat oblq ⌝ }
 {
-    let l = elementary::turn_of(long);
-    let e = elementary::turn_of(oblq);
+    let l = elementary::sin_cos_of(long);
+    let e = elementary::sin_cos_of(oblq);
     let b = elementary::fold(lat);
     elementary_arc::arctangent_in(l.sine * e.cosine - b.tangent() * e.sine, l.cosine)
 }
@@ -102,9 +102,9 @@ fn asc_frm_ecl_in(long: Rad, lat: Rad, oblq: Rad) -> Radians
 pub fn asc_frm_ecl(ecl_long: Rad, ecl_lat: Rad, oblq_eclip: Rad) -> Radians
     ensures { λ r. ⌜ shownRadians r ≡ ascFrmEclRule «ecl_long» «ecl_lat» «oblq_eclip» ⌝ }
 {
-    let no = steep_frame_refusal(ecl_long, ecl_lat, oblq_eclip);
-    if no != 0 {
-        return Radians::Refused(no);
+    let refusal = steep_frame_refusal(ecl_long, ecl_lat, oblq_eclip);
+    if refusal != 0 {
+        return Radians::Refused(refusal);
     }
     asc_frm_ecl_in(ecl_long, ecl_lat, oblq_eclip)
 }
@@ -113,9 +113,9 @@ pub fn asc_frm_ecl(ecl_long: Rad, ecl_lat: Rad, oblq_eclip: Rad) -> Radians
 fn dec_frm_ecl_in(long: Rad, lat: Rad, oblq: Rad) -> Radians
     ensures { λ r. ⌜ shownRadians r ≡ decFrmEclIn long lat oblq ⌝ }
 {
-    let l = elementary::turn_of(long);
-    let e = elementary::turn_of(oblq);
-    let b = elementary::turn_of(lat);
+    let l = elementary::sin_cos_of(long);
+    let e = elementary::sin_cos_of(oblq);
+    let b = elementary::sin_cos_of(lat);
     elementary_arc::arcsine_in(b.sine * e.cosine + b.cosine * e.sine * l.sine)
 }
 
@@ -123,9 +123,9 @@ fn dec_frm_ecl_in(long: Rad, lat: Rad, oblq: Rad) -> Radians
 pub fn dec_frm_ecl(ecl_long: Rad, ecl_lat: Rad, oblq_eclip: Rad) -> Radians
     ensures { λ r. ⌜ shownRadians r ≡ decFrmEclRule «ecl_long» «ecl_lat» «oblq_eclip» ⌝ }
 {
-    let no = frame_refusal(ecl_long, ecl_lat, oblq_eclip);
-    if no != 0 {
-        return Radians::Refused(no);
+    let refusal = frame_refusal(ecl_long, ecl_lat, oblq_eclip);
+    if refusal != 0 {
+        return Radians::Refused(refusal);
     }
     dec_frm_ecl_in(ecl_long, ecl_lat, oblq_eclip)
 }

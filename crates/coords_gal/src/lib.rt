@@ -68,9 +68,9 @@ fn gal_long_in(asc: Rad, dec: Rad) -> Radians
 pub fn gal_long_frm_eq(asc: Rad, dec: Rad) -> Radians
     ensures { λ r. ⌜ shownRadians r ≡ galLongFrmEqRule asc dec ⌝ }
 {
-    let no = steep_gal_refusal(asc, dec);
-    if no != 0 {
-        return Radians::Refused(no);
+    let refusal = steep_gal_refusal(asc, dec);
+    if refusal != 0 {
+        return Radians::Refused(refusal);
     }
     gal_long_in(asc, dec)
 }
@@ -89,9 +89,9 @@ fn gal_lat_in(asc: Rad, dec: Rad) -> Radians
 pub fn gal_lat_frm_eq(asc: Rad, dec: Rad) -> Radians
     ensures { λ r. ⌜ shownRadians r ≡ galLatFrmEqRule asc dec ⌝ }
 {
-    let no = gal_refusal(asc, dec);
-    if no != 0 {
-        return Radians::Refused(no);
+    let refusal = gal_refusal(asc, dec);
+    if refusal != 0 {
+        return Radians::Refused(refusal);
     }
     gal_lat_in(asc, dec)
 }
@@ -117,9 +117,9 @@ fn asc_frm_gal_in(long: Rad, lat: Rad) -> Radians
 pub fn asc_frm_gal(gal_long: Rad, gal_lat: Rad) -> Radians
     ensures { λ r. ⌜ shownRadians r ≡ ascFrmGalRule «gal_long» «gal_lat» ⌝ }
 {
-    let no = steep_gal_refusal(gal_long, gal_lat);
-    if no != 0 {
-        return Radians::Refused(no);
+    let refusal = steep_gal_refusal(gal_long, gal_lat);
+    if refusal != 0 {
+        return Radians::Refused(refusal);
     }
     asc_frm_gal_in(gal_long, gal_lat)
 }

@@ -4,7 +4,7 @@ pub mod Answers
 pub mod Alike
 pub mod Editions
 pub mod Pole
-pub mod Turns
+pub mod Precession
 pub mod Ranges
 pub mod Nutation
 pub mod Aberration

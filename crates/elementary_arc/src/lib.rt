@@ -4,8 +4,8 @@ ghost use mathlib.Core.Path.{_≡_};
 ghost use Rattle.quantity.specs.rules.Answer.{shownRadians};
 ghost use Rattle.root.specs.rules.Root.{rootOf};
 ghost use Rattle.elementary_arc.specs.rules.Series.{arctangentSeries};
-ghost use Rattle.elementary_arc.specs.rules.Arctangent.{atn, base, turned, arctangentOf, bothZero, arctangentIn, arctangentRefusal, arctangentRule};
-ghost use Rattle.elementary_arc.specs.rules.Level.{lesserOver, reduced, baseFrom, signed, arctangentsOf};
+ghost use Rattle.elementary_arc.specs.rules.Arctangent.{atn, base, supplementIf, arctangentOf, bothZero, arctangentIn, arctangentRefusal, arctangentRule};
+ghost use Rattle.elementary_arc.specs.rules.Level.{lesserOver, reduced, baseFrom, arcBySigns, arctangentsOf};
 ghost use Rattle.elementary_arc.specs.rules.Arcsine.{square, arcsineIn, arcsineRule};
 use quantity::HALF;
 use quantity::PI;
@@ -105,19 +105,19 @@ fn base(y: f64, x: f64) -> f64
 }
 
 // Base as it becomes where x bears a minus sign.
-fn turned(minus: bool, b: f64) -> f64
-    ensures { λ r. ⌜ r ≡ turned minus b ⌝ }
+fn supplement_if(minus: bool, b: f64) -> f64
+    ensures { λ r. ⌜ r ≡ supplementIf minus b ⌝ }
 {
     if minus { PI - b } else { b }
 }
 
 // Base's size and y's sign.
-fn signed(y: f64, x: f64, b: f64) -> f64
-    ensures { λ r. ⌜ r ≡ signed y x b ⌝ }
+fn arc_by_signs(y: f64, x: f64, b: f64) -> f64
+    ensures { λ r. ⌜ r ≡ arcBySigns y x b ⌝ }
 {
     double::negated_if(
         double::bears_minus(y),
-        double::size(turned(double::bears_minus(x), b)),
+        double::size(supplement_if(double::bears_minus(x), b)),
     )
 }
 
@@ -125,7 +125,7 @@ fn signed(y: f64, x: f64, b: f64) -> f64
 fn arctangent_of(y: f64, x: f64) -> Rad
     ensures { λ r. ⌜ r ≡ arctangentOf y x ⌝ }
 {
-    Rad(signed(y, x, base(double::size(y), double::size(x))))
+    Rad(arc_by_signs(y, x, base(double::size(y), double::size(x))))
 }
 
 // Whether y and x are zero, of either sign.
@@ -188,8 +188,8 @@ pub fn arctangents_of(y: f64, x: f64, z: f64, w: f64) -> Arctangents
     let a = arctangent_series(reduced(v));
     let a2 = arctangent_series(reduced(v2));
     Arctangents {
-        first: Rad(signed(y, x, base_from(up, across, v, a))),
-        second: Rad(signed(z, w, base_from(up2, across2, v2, a2))),
+        first: Rad(arc_by_signs(y, x, base_from(up, across, v, a))),
+        second: Rad(arc_by_signs(z, w, base_from(up2, across2, v2, a2))),
     }
 }
 
@@ -206,9 +206,9 @@ fn arctangent_refusal(y: f64, x: f64) -> u8
 pub fn arctangent(y: f64, x: f64) -> Radians
     ensures { λ r. ⌜ shownRadians r ≡ arctangentRule y x ⌝ }
 {
-    let no = arctangent_refusal(y, x);
-    if no != 0 {
-        return Radians::Refused(no);
+    let refusal = arctangent_refusal(y, x);
+    if refusal != 0 {
+        return Radians::Refused(refusal);
     }
     arctangent_in(y, x)
 }
@@ -240,9 +240,9 @@ pub fn arcsine_in(s: f64) -> Radians
 pub fn arcsine(s: f64) -> Radians
     ensures { λ r. ⌜ shownRadians r ≡ arcsineRule s ⌝ }
 {
-    let no = quantity::number_refusal(s);
-    if no != 0 {
-        return Radians::Refused(no);
+    let refusal = quantity::number_refusal(s);
+    if refusal != 0 {
+        return Radians::Refused(refusal);
     }
     arcsine_in(s)
 }

@@ -51,9 +51,9 @@ pub fn within_two_PI(x: Rad) -> Rad
 pub fn deg_frm_dms(seconds: f64) -> Degrees
     ensures { λ r. ⌜ shownDegrees r ≡ degFrmDmsRule seconds ⌝ }
 {
-    let no = quantity::number_refusal(seconds);
-    if no != 0 {
-        return Degrees::Refused(no);
+    let refusal = quantity::number_refusal(seconds);
+    if refusal != 0 {
+        return Degrees::Refused(refusal);
     }
     Degrees::Are(Deg(seconds / 3600.0))
 }
@@ -62,9 +62,9 @@ pub fn deg_frm_dms(seconds: f64) -> Degrees
 pub fn deg_frm_hms(seconds: f64) -> Degrees
     ensures { λ r. ⌜ shownDegrees r ≡ degFrmHmsRule seconds ⌝ }
 {
-    let no = quantity::number_refusal(seconds);
-    if no != 0 {
-        return Degrees::Refused(no);
+    let refusal = quantity::number_refusal(seconds);
+    if refusal != 0 {
+        return Degrees::Refused(refusal);
     }
     Degrees::Are(Deg(15.0 * (seconds / 3600.0)))
 }
@@ -73,9 +73,9 @@ pub fn deg_frm_hms(seconds: f64) -> Degrees
 pub fn to_radians(x: Deg) -> Radians
     ensures { λ r. ⌜ shownRadians r ≡ toRadiansRule x ⌝ }
 {
-    let no = quantity::number_refusal(x.0);
-    if no != 0 {
-        return Radians::Refused(no);
+    let refusal = quantity::number_refusal(x.0);
+    if refusal != 0 {
+        return Radians::Refused(refusal);
     }
     Radians::Are(radians(x))
 }
@@ -84,9 +84,9 @@ pub fn to_radians(x: Deg) -> Radians
 pub fn limit_to_360(x: Deg) -> Degrees
     ensures { λ r. ⌜ shownDegrees r ≡ limitTo360Rule x ⌝ }
 {
-    let no = quantity::number_refusal(x.0);
-    if no != 0 {
-        return Degrees::Refused(no);
+    let refusal = quantity::number_refusal(x.0);
+    if refusal != 0 {
+        return Degrees::Refused(refusal);
     }
     Degrees::Are(within_360(x))
 }
@@ -95,9 +95,9 @@ pub fn limit_to_360(x: Deg) -> Degrees
 pub fn limit_to_two_PI(x: Rad) -> Radians
     ensures { λ r. ⌜ shownRadians r ≡ limitToTwoPIRule x ⌝ }
 {
-    let no = quantity::number_refusal(x.0);
-    if no != 0 {
-        return Radians::Refused(no);
+    let refusal = quantity::number_refusal(x.0);
+    if refusal != 0 {
+        return Radians::Refused(refusal);
     }
     Radians::Are(within_two_PI(x))
 }

@@ -52,9 +52,9 @@ impl Earth {
     pub fn rho_sin_cos_phi(lat: Rad, height: f64) -> Two
         ensures { λ r. ⌜ shownTwo r ≡ rhoSinCosPhiRule lat height ⌝ }
     {
-        let no = Earth::rho_refusal(lat, height);
-        if no != 0 {
-            return Two::Refused(no);
+        let refusal = Earth::rho_refusal(lat, height);
+        if refusal != 0 {
+            return Two::Refused(refusal);
         }
         Earth::rho_in(lat, height)
     }

@@ -15,9 +15,9 @@ pub fn century(day: f64) -> f64
 pub fn julian_cent(day: f64) -> One
     ensures { λ r. ⌜ shown r ≡ julianCentRule day ⌝ }
 {
-    let no = quantity::day_refusal(day);
-    if no != 0 {
-        return One::Refused(no);
+    let refusal = quantity::day_refusal(day);
+    if refusal != 0 {
+        return One::Refused(refusal);
     }
     One::Is(century(day))
 }

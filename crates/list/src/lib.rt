@@ -1,13 +1,13 @@
 // The stored list (section 7): record, reader, writer and find. Promised: every byte string is read, star i being its record whatever it
 // holds, and a star in range is written so that it reads back. Above the record all speaks of a list of stars.
 ghost use mathlib.Core.Path.{_≡_};
-ghost use Prim.Native.Nat.{_+_, _≤_, _<_};
+ghost use Prim.Native.Nat.{_+_, _≤_};
 ghost use lib.ListN.{length};
 ghost use Rattle.lent.specs.rules.Writing.{Wrote};
 ghost use Rattle.lent.specs.rules.Put.{Put};
 ghost use Rattle.list.specs.rules.Record.{width, wordAt, starAt, inRange, wordBytes, starBytes};
 ghost use Rattle.list.specs.rules.Stars.{isList, countOf, stars, nth};
-ghost use Rattle.list.specs.rules.Reader.{shownSight, readRule};
+ghost use Rattle.list.specs.rules.Reader.{shownStored, readRule};
 ghost use Rattle.list.specs.rules.Writer.{isStart, recordText};
 ghost use Rattle.list.specs.rules.Find.{shownFound, indexOf, findRule};
 use lent::Written;
@@ -19,8 +19,8 @@ pub struct Star {
     pub dec: i32,
 }
 
-// What the reader shows: a star and the place after it, that none is left, or a refusal.
-pub enum Shown {
+// What the reader shows: a star and the offset after it, that none is left, or a refusal.
+pub enum Stored {
     Next(Star, usize),
     End,
     Refused(u8),
@@ -43,25 +43,18 @@ const MOST_BYTES: usize = WIDTH * MOST_STARS;
 // Bytes to read where a list is expected: one more than the longest has, so that a longer one is seen.
 pub const READ: usize = MOST_BYTES + 1;
 
-// A byte as a word.
-fn wide(x: u8) -> u32
-    ensures { λ r. ⌜ (r ≡ x) × (r < 256) ⌝ }
-{
-    x as u32
-}
-
-// The word that stands from the place on.
+// The word that stands from the offset on.
 fn word_at(bytes: &[u8], at: usize) -> u32
     requires { ⌜ at + 4 ≤ length (now bytes) ⌝ }
     ensures { λ r. ⌜ r ≡ wordAt (now (bytes .entry)) at ⌝ }
 {
-    wide(bytes[at])
-        + 256 * wide(bytes[at + 1])
-        + 65536 * wide(bytes[at + 2])
-        + 16777216 * wide(bytes[at + 3])
+    signed::wide(bytes[at])
+        + 256 * signed::wide(bytes[at + 1])
+        + 65536 * signed::wide(bytes[at + 2])
+        + 16777216 * signed::wide(bytes[at + 3])
 }
 
-// The star whose record stands from the place on.
+// The star whose record stands from the offset on.
 fn record_at(bytes: &[u8], at: usize) -> Star
     requires { ⌜ at + width ≤ length (now bytes) ⌝ }
     ensures { λ r. ⌜ r ≡ starAt (now (bytes .entry)) at ⌝ }
@@ -69,7 +62,7 @@ fn record_at(bytes: &[u8], at: usize) -> Star
     Star {
         number: word_at(bytes, at),
         asc: word_at(bytes, at + 4),
-        dec: list_words::signed_of(word_at(bytes, at + 8)),
+        dec: signed::signed_of(word_at(bytes, at + 8)),
     }
 }
 
@@ -78,12 +71,12 @@ pub fn in_range(star: Star) -> bool
     ensures { λ r. ⌜ r ≡ inRange star ⌝ }
 {
     if star.asc < 1296000000 {
-        return list_words::size(star.dec) <= 324000000;
+        return signed::size(star.dec) <= 324000000;
     }
     false
 }
 
-// A word's bytes from the place on, and the place after them.
+// A word's bytes from the offset on, and the offset after them.
 fn put_word(out: &mut [u8], at: usize, word: u32) -> usize
     ensures { λ r. ⌜ Wrote (now (out .entry)) at (wordBytes word) (now (out .exit)) r ⌝ }
 {
@@ -93,13 +86,13 @@ fn put_word(out: &mut [u8], at: usize, word: u32) -> usize
     lent::put_byte(out, c, (word / 16777216) as u8)
 }
 
-// A record's bytes from the place on, whatever the place and in range or not, and the place after them.
+// A record's bytes from the offset on, whatever the offset and in range or not, and the offset after them.
 pub fn write_star(out: &mut [u8], at: usize, star: Star) -> usize
     ensures { λ r. ⌜ Wrote (now (out .entry)) at (starBytes star) (now (out .exit)) r ⌝ }
 {
     let a = put_word(out, at, star.number);
     let b = put_word(out, a, star.asc);
-    put_word(out, b, list_words::word_of(star.dec))
+    put_word(out, b, signed::word_of(star.dec))
 }
 
 // Whether the bytes are whole records, and no more of them than a list may have.
@@ -133,51 +126,51 @@ pub fn nth(bytes: &[u8], i: usize) -> Star
     }
 }
 
-// What stands at a place of a list: a star, in range or not, or at the end none.
-// Refusals: 8 for bytes that are no list, and for a place past the end or not at a record's start.
-pub fn star_at(bytes: &[u8], place: usize) -> Shown
-    ensures { λ r. ⌜ shownSight r ≡ readRule (now (bytes .entry)) place ⌝ }
+// What stands at an offset of a list: a star, in range or not, or at the end none.
+// Refusals: 8 for bytes that are no list, and for an offset past the end or not at a record's start.
+pub fn star_at(bytes: &[u8], offset: usize) -> Stored
+    ensures { λ r. ⌜ shownStored r ≡ readRule (now (bytes .entry)) offset ⌝ }
 {
     if !is_list(bytes) {
-        return Shown::Refused(8);
+        return Stored::Refused(8);
     }
-    if place > bytes.len() {
-        return Shown::Refused(8);
+    if offset > bytes.len() {
+        return Stored::Refused(8);
     }
-    if place % WIDTH != 0 {
-        return Shown::Refused(8);
+    if offset % WIDTH != 0 {
+        return Stored::Refused(8);
     }
-    if place == bytes.len() {
-        return Shown::End;
+    if offset == bytes.len() {
+        return Stored::End;
     }
-    Shown::Next(record_at(bytes, place), place + WIDTH)
+    Stored::Next(record_at(bytes, offset), offset + WIDTH)
 }
 
 // Whether a record of a list may begin there.
-fn is_start(place: usize) -> bool
-    ensures { λ r. ⌜ r ≡ isStart place ⌝ }
+fn is_start(offset: usize) -> bool
+    ensures { λ r. ⌜ r ≡ isStart offset ⌝ }
 {
-    if place < MOST_BYTES {
-        return place % WIDTH == 0;
+    if offset < MOST_BYTES {
+        return offset % WIDTH == 0;
     }
     false
 }
 
-// A star's record, from the place on.
-// Refusals: 9 for a star out of range, then 8 for a place at which no record of a list begins, and for no room.
-pub fn put_star(out: &mut [u8], place: usize, star: Star) -> Written
-    ensures { λ r. ⌜ Put (recordText place star) (now (out .entry)) place (now (out .exit)) r ⌝ }
+// A star's record, from the offset on.
+// Refusals: 9 for a star out of range, then 8 for an offset at which no record of a list begins, and for no room.
+pub fn put_star(out: &mut [u8], offset: usize, star: Star) -> Written
+    ensures { λ r. ⌜ Put (recordText offset star) (now (out .entry)) offset (now (out .exit)) r ⌝ }
 {
     if !in_range(star) {
         return Written::Refused(9);
     }
-    if !is_start(place) {
+    if !is_start(offset) {
         return Written::Refused(8);
     }
-    if !lent::has_room(out.len(), place, WIDTH) {
+    if !lent::has_room(out.len(), offset, WIDTH) {
         return Written::Refused(8);
     }
-    Written::To(write_star(out, place, star))
+    Written::To(write_star(out, offset, star))
 }
 
 // The index of the first star with the number, or how many stars there are where none has it.

@@ -9,7 +9,7 @@ use mir.Syntax.{w32}
 use mir.Val.{SFits, toZ, ofZ}
 use mir.Facts.{toZ-ofZ, toZ-pos}
 use borrow.Author.Tests.{ltb-true, eq-eqb, ne-eqb}
-use Rattle.list_words.specs.rules.Signed.{negative, reach}
+use Rattle.signed.specs.rules.Signed.{negative, reach}
 use Rattle.list_groups.specs.rules.Fold.{folded, unfolded}
 
 pub below : (z : ℤ) → negative z ≡ true → 2 * reach z + 1 ≡ folded z

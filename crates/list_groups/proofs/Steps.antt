@@ -78,7 +78,7 @@ module _ (s : List ℕ) (at more least low w p : ℕ) (m : Midway s at more leas
     pub padded : Ends → b < least → refused 12 ≡ readAt readNumber s at
     padded q z = refuses readNumber s at 12 (here ∙ ap (with (over low w)) q ∙ rw (lt-ltb b least z))
 
-    pub stops : Ends → least ≤ b → answered (record { value = low + w * b; place = p + 1 }) ≡ readAt readNumber s at
+    pub stops : Ends → least ≤ b → answered (record { value = low + w * b; offset = p + 1 }) ≡ readAt readNumber s at
     stops q z = shows readNumber s at (low + w * b) (p + 1) (omega arith) (here ∙ ap (with (over low w)) q ∙ rw (le-ltb b least z))
 
     pub too-high : more ≡ 0 → 16 ≤ b → refused 12 ≡ readAt readNumber s at

@@ -11,19 +11,19 @@ use Rattle.lent.specs.laws.Writing.{after, same, nothing}
 use Rattle.list_groups.specs.rules.Groups.{groupsWithin, groups}
 use Rattle.list_groups.specs.laws.Inverse.{limit}
 
-pub record Putting (old : List ℕ) (at n : ℕ) (out : List ℕ) (place rest : ℕ) : Type 0 where
+pub record Putting (old : List ℕ) (at n : ℕ) (out : List ℕ) (offset rest : ℕ) : Type 0 where
   pub more : ℕ
   pub done : List ℕ
   pub whole : groups n ≡ done ++ groupsWithin more rest
   pub small : rest < limit more
-  pub wrote : Wrote old at done out place
+  pub wrote : Wrote old at done out offset
 
-pub begin : (old : List ℕ) (at n place : ℕ) → n < 4294967296 → place ≡ min at (length old) → Putting old at n old place n
+pub begin : (old : List ℕ) (at n offset : ℕ) → n < 4294967296 → offset ≡ min at (length old) → Putting old at n old offset n
 unfolding groups
-begin old at n place h e = record { more = 4; done = []; whole = refl; small = omega arith; wrote = nothing old at place e }
+begin old at n offset h e = record { more = 4; done = []; whole = refl; small = omega arith; wrote = nothing old at offset e }
 
-module _ (old : List ℕ) (at n : ℕ) (out : List ℕ) (place rest : ℕ) (m : Putting old at n out place rest) (new : List ℕ) (next : ℕ) where
-  pub step : 128 ≤ rest → Wrote out place ((128 + rest % 128) ∷ []) new next → Putting old at n new next (rest / 128)
+module _ (old : List ℕ) (at n : ℕ) (out : List ℕ) (offset rest : ℕ) (m : Putting old at n out offset rest) (new : List ℕ) (next : ℕ) where
+  pub step : 128 ≤ rest → Wrote out offset ((128 + rest % 128) ∷ []) new next → Putting old at n new next (rest / 128)
   step h w = go (m .more) (m .whole) (m .small)
     where
       go : (more : ℕ) → groups n ≡ m .done ++ groupsWithin more rest → rest < limit more → Putting old at n new next (rest / 128)
@@ -37,7 +37,7 @@ module _ (old : List ℕ) (at n : ℕ) (out : List ℕ) (place rest : ℕ) (m : 
             wrote = after (m .wrote) w;
           }
 
-  pub finish : rest < 128 → Wrote out place (rest ∷ []) new next → Wrote old at (groups n) new next
+  pub finish : rest < 128 → Wrote out offset (rest ∷ []) new next → Wrote old at (groups n) new next
   finish h w = same (sym (m .whole ∙ ap (λ (l : List ℕ). m .done ++ l) (go (m .more)))) (after (m .wrote) w)
     where
       go : (more : ℕ) → groupsWithin more rest ≡ rest ∷ []

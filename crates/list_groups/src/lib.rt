@@ -1,7 +1,6 @@
 // Numbers of up to 32 bits in groups of seven bits, and the fold of signed numbers (request (i)). Promised: a number is read where it
 // stands in its shortest spelling and refused by 12 or 13 elsewhere, at the byte that shows it; what is written reads back.
 ghost use mathlib.Core.Path.{_≡_};
-ghost use Prim.Native.Nat.{_<_};
 ghost use lib.ListN.{length};
 ghost use Rattle.lent.specs.rules.Writing.{Wrote};
 ghost use Rattle.list_groups.specs.rules.Groups.{groups};
@@ -9,20 +8,13 @@ ghost use Rattle.list_groups.specs.rules.Reading.{readNumber, readAt};
 ghost use Rattle.list_groups.specs.rules.Fold.{folded, unfolded};
 ghost use Rattle.list_groups.specs.rules.Read.{shownRead};
 
-// A number and the place after it, or a refusal.
+// A number and the offset after it, or a refusal.
 pub enum Read {
     Number(u32, usize),
     Refused(u8),
 }
 
-// A byte as a word.
-fn wide(x: u8) -> u32
-    ensures { λ r. ⌜ (r ≡ x) × (r < 256) ⌝ }
-{
-    x as u32
-}
-
-// The number that stands from the place on.
+// The number that stands from the offset on.
 // Refusals: 12 for a number that is not in its shortest length or above 32 bits, 13 where the bytes end first.
 pub fn number_at(bytes: &[u8], at: usize) -> Read
     ensures { λ r. ⌜ shownRead r ≡ readAt readNumber (now (bytes .entry)) at ⌝ }
@@ -36,7 +28,7 @@ pub fn number_at(bytes: &[u8], at: usize) -> Read
         if p >= bytes.len() {
             return Read::Refused(13);
         }
-        let b = wide(bytes[p]);
+        let b = signed::wide(bytes[p]);
         if b < 128 {
             if b < least {
                 return Read::Refused(12);
@@ -52,7 +44,7 @@ pub fn number_at(bytes: &[u8], at: usize) -> Read
     if p >= bytes.len() {
         return Read::Refused(13);
     }
-    let b = wide(bytes[p]);
+    let b = signed::wide(bytes[p]);
     if b < 16 {
         if b < least {
             return Read::Refused(12);
@@ -81,27 +73,27 @@ pub fn count(n: u32) -> usize
     5
 }
 
-// A number's groups from the place on, and the place after them.
+// A number's groups from the offset on, and the offset after them.
 pub fn put_number(out: &mut [u8], at: usize, n: u32) -> usize
     ensures { λ r. ⌜ Wrote (now (out .entry)) at (groups n) (now (out .exit)) r ⌝ }
 {
-    let mut place = lent::within(at, out.len());
+    let mut offset = lent::within(at, out.len());
     let mut rest = n;
     while 128 <= rest {
-        place = lent::put_byte(out, place, (128 + rest % 128) as u8);
+        offset = lent::put_byte(out, offset, (128 + rest % 128) as u8);
         rest /= 128;
     }
-    lent::put_byte(out, place, rest as u8)
+    lent::put_byte(out, offset, rest as u8)
 }
 
 // A signed number as an unsigned one.
 pub fn fold(z: i32) -> u32
     ensures { λ r. ⌜ r ≡ folded z ⌝ }
 {
-    if list_words::negative(z) {
-        2 * list_words::reach(z) + 1
+    if signed::negative(z) {
+        2 * signed::reach(z) + 1
     } else {
-        2 * list_words::reach(z)
+        2 * signed::reach(z)
     }
 }
 

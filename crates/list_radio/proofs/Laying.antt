@@ -14,15 +14,15 @@ use Rattle.list_radio.specs.rules.Star.{readStar}
 use Rattle.list_radio.specs.rules.Moves.{starsUpto}
 use Rattle.list_radio.specs.laws.Moves.{upto-none, upto-refused, upto-more}
 
--- the records of so many stars from a place on
+-- the records of so many stars from an offset on
 abbrev records : List ℕ → ℕ → ℕ → List ℕ
 records s n at = listBytes (starsUpto n (drop at s))
 
-pub record Laying (old s : List ℕ) (n at : ℕ) (out : List ℕ) (p place i : ℕ) : Type 0 where
+pub record Laying (old s : List ℕ) (n at : ℕ) (out : List ℕ) (p offset i : ℕ) : Type 0 where
   pub so-far : i ≤ n
   pub done : List ℕ
   pub all : records s n at ≡ done ++ records s (n - i) p
-  pub wrote : Wrote old 0 done out place
+  pub wrote : Wrote old 0 done out offset
 
 pub begin : (old s : List ℕ) (n at : ℕ) → Laying old s n at old at 0 0
 begin old s n at =
@@ -33,19 +33,19 @@ begin old s n at =
       wrote = nothing old 0 0 (omega arith);
     }
 
-module _ (old s : List ℕ) (n at : ℕ) (out : List ℕ) (p place i : ℕ) (m : Laying old s n at out p place i) where
+module _ (old s : List ℕ) (n at : ℕ) (out : List ℕ) (p offset i : ℕ) (m : Laying old s n at out p offset i) where
   -- none is left
-  finished : records s (n - i) p ≡ [] → Wrote old 0 (records s n at) out place
+  finished : records s (n - i) p ≡ [] → Wrote old 0 (records s n at) out offset
   finished e = same (sym (m .all ∙ ap (λ (l : List ℕ). m .done ++ l) e ∙ append-nil (m .done))) (m .wrote)
 
-  pub stops : (k : ℕ) → readStar (drop p s) ≡ refused k → Wrote old 0 (records s n at) out place
+  pub stops : (k : ℕ) → readStar (drop p s) ≡ refused k → Wrote old 0 (records s n at) out offset
   stops k e = finished (ap listBytes (upto-refused (n - i) (drop p s) k e))
 
-  pub ends : n ≤ i → Wrote old 0 (records s n at) out place
+  pub ends : n ≤ i → Wrote old 0 (records s n at) out offset
   ends h = finished (ap listBytes (upto-none (n - i) (drop p s) (omega arith)))
 
   pub on : (r : Star) (next : ℕ) (new : List ℕ) (after-it : ℕ) → i < n → readStar (drop p s) ≡ answered (record { value = r; rest = drop next s })
-      → Wrote out place (starBytes r) new after-it → Laying old s n at new next after-it (i + 1)
+      → Wrote out offset (starBytes r) new after-it → Laying old s n at new next after-it (i + 1)
   on r next new after-it h e w =
       record {
         so-far = omega arith;

@@ -43,7 +43,7 @@ module _ (s : List ℕ) (at : ℕ) where
   count-refused k e = refuses readCount s at k (rw e)
 
   module _ (n next : ℕ) (f : Found readNumber s at n next) where
-    pub few-enough : n ≤ mostStars → answered (record { value = n; place = next }) ≡ readAt readCount s at
+    pub few-enough : n ≤ mostStars → answered (record { value = n; offset = next }) ≡ readAt readCount s at
     unfolding readCount
     few-enough h = shows readCount s at n next (f .inside) (rw (f .read-so, le-leb n mostStars h))
 
@@ -61,8 +61,8 @@ module _ (s : List ℕ) (at n a d : ℕ) (z : ℤ) (next : ℕ) (e : z ≡ unfol
       p
       ∙ ap (λ (y : ℤ). cond (inRange (record { number = n; asc = a; dec = y })) (answered (record { value = record { number = n; asc = a; dec = y }; rest = drop next s })) (refused 9)) (sym e)
 
-  pub star-shown : inRange star ≡ true → next ≤ length s → answered (record { value = star; place = next }) ≡ readAt readStar s at
-  star-shown t h =
+  pub star-received : inRange star ≡ true → next ≤ length s → answered (record { value = star; offset = next }) ≡ readAt readStar s at
+  star-received t h =
       shows readStar s at star next h (same ∙ ap (λ (b : Bool). cond b (answered (record { value = star; rest = drop next s })) (refused 9)) t)
 
   pub star-refused : inRange star ≡ false → refused 9 ≡ readAt readStar s at

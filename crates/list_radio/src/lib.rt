@@ -11,21 +11,21 @@ ghost use Rattle.list_groups.specs.rules.Reading.{readAt};
 ghost use Rattle.list_groups.specs.rules.Several.{spellAll};
 ghost use Rattle.list_radio.specs.rules.Star.{starGroups, readStar};
 ghost use Rattle.list_radio.specs.rules.Radio.{headBytes, markRefusal, readCount, starsOf};
-ghost use Rattle.list_radio.specs.rules.Reader.{shownOpened, openRule, shownSighted, starAtRule, shownAccepted, acceptRule};
+ghost use Rattle.list_radio.specs.rules.Reader.{shownOpened, openRule, shownReceived, starAtRule, shownAccepted, acceptRule};
 ghost use Rattle.list_radio.specs.rules.Put.{headText, starText};
 ghost use Rattle.list_radio.specs.rules.Moves.{toList, toRadio, starsUpto, sizeOf};
 use lent::Written;
 use list::Star;
 use list_groups::Read;
 
-// How many stars and the place of the first, or a refusal.
+// How many stars and the offset of the first, or a refusal.
 pub enum Opened {
     Stars(u32, usize),
     Refused(u8),
 }
 
-// A star and the place after it, or a refusal.
-pub enum Sighted {
+// A star and the offset after it, or a refusal.
+pub enum Received {
     Star(Star, usize),
     Refused(u8),
 }
@@ -73,7 +73,7 @@ fn count_at(bytes: &[u8], at: usize) -> Opened
     }
 }
 
-// How many stars, and the place of the first.
+// How many stars, and the offset of the first.
 // Refusals: 13 for an empty list, 11 for another first byte, 12 or 13 of the count, 8 for a count above what a list may have.
 pub fn open(bytes: &[u8]) -> Opened
     ensures { λ r. ⌜ shownOpened r ≡ openRule (now (bytes .entry)) ⌝ }
@@ -85,23 +85,23 @@ pub fn open(bytes: &[u8]) -> Opened
     count_at(bytes, 1)
 }
 
-// The star that stands from a place on, whatever the first byte.
-fn star_from(bytes: &[u8], at: usize) -> Sighted
-    ensures { λ r. ⌜ shownSighted r ≡ readAt readStar (now (bytes .entry)) at ⌝ }
+// The star that stands from an offset on, whatever the first byte.
+fn star_from(bytes: &[u8], at: usize) -> Received
+    ensures { λ r. ⌜ shownReceived r ≡ readAt readStar (now (bytes .entry)) at ⌝ }
 {
     match list_groups::number_at(bytes, at) {
-        Read::Refused(k) => Sighted::Refused(k),
+        Read::Refused(k) => Received::Refused(k),
         Read::Number(number, a) => match list_groups::number_at(bytes, a) {
-            Read::Refused(k) => Sighted::Refused(k),
+            Read::Refused(k) => Received::Refused(k),
             Read::Number(asc, b) => match list_groups::number_at(bytes, b) {
-                Read::Refused(k) => Sighted::Refused(k),
+                Read::Refused(k) => Received::Refused(k),
                 Read::Number(folded, next) => {
                     let dec = list_groups::unfold(folded);
                     let star = Star { number, asc, dec };
                     if list::in_range(star) {
-                        Sighted::Star(star, next)
+                        Received::Star(star, next)
                     } else {
-                        Sighted::Refused(9)
+                        Received::Refused(9)
                     }
                 }
             },
@@ -109,19 +109,19 @@ fn star_from(bytes: &[u8], at: usize) -> Sighted
     }
 }
 
-// The star at a place, and the place after it.
+// The star at an offset, and the offset after it.
 // Refusals: 13 for an empty list, 11 for another first byte, then 12 or 13 number by number, then 9 for a star out of range.
-pub fn star_at(bytes: &[u8], place: usize) -> Sighted
-    ensures { λ r. ⌜ shownSighted r ≡ starAtRule (now (bytes .entry)) place ⌝ }
+pub fn star_at(bytes: &[u8], offset: usize) -> Received
+    ensures { λ r. ⌜ shownReceived r ≡ starAtRule (now (bytes .entry)) offset ⌝ }
 {
     let refusal = mark_refusal(bytes);
     if refusal != 0 {
-        return Sighted::Refused(refusal);
+        return Received::Refused(refusal);
     }
-    star_from(bytes, place)
+    star_from(bytes, offset)
 }
 
-// Whether so many stars stand from a place on, and nothing after them.
+// Whether so many stars stand from an offset on, and nothing after them.
 fn check_stars(bytes: &[u8], n: u32, first: usize) -> Accepted
     ensures { λ r. ⌜ shownAccepted r ≡ with length (starsOf n (drop first (now (bytes .entry)))) ⌝ }
 {
@@ -129,10 +129,10 @@ fn check_stars(bytes: &[u8], n: u32, first: usize) -> Accepted
     let mut i: u32 = 0;
     while i < n {
         match star_from(bytes, p) {
-            Sighted::Refused(k) => {
+            Received::Refused(k) => {
                 return Accepted::Refused(k);
             }
-            Sighted::Star(_, next) => {
+            Received::Star(_, next) => {
                 p = next;
             }
         }
@@ -167,7 +167,7 @@ fn star_size(star: Star) -> usize
         + list_groups::count(list_groups::fold(dec))
 }
 
-// A star's bytes from the place on, in range or not, and the place after them.
+// A star's bytes from the offset on, in range or not, and the offset after them.
 fn write_star(out: &mut [u8], at: usize, star: Star) -> usize
     ensures { λ r. ⌜ Wrote (now (out .entry)) at (starGroups star) (now (out .exit)) r ⌝ }
 {
@@ -176,7 +176,7 @@ fn write_star(out: &mut [u8], at: usize, star: Star) -> usize
     list_groups::put_number(out, b, list_groups::fold(star.dec))
 }
 
-// The first byte and the count from the place on, and the place after them.
+// The first byte and the count from the offset on, and the offset after them.
 fn write_head(out: &mut [u8], at: usize, n: u32) -> usize
     ensures { λ r. ⌜ Wrote (now (out .entry)) at (headBytes n) (now (out .exit)) r ⌝ }
 {
@@ -184,54 +184,54 @@ fn write_head(out: &mut [u8], at: usize, n: u32) -> usize
     list_groups::put_number(out, a, n)
 }
 
-// The head of a list with so many stars, from the place on.
+// The head of a list with so many stars, from the offset on.
 // Refusals: 8 for a count above what a list may have, then 8 for no room.
-pub fn put_head(out: &mut [u8], place: usize, count: u32) -> Written
-    ensures { λ r. ⌜ Put (headText count) (now (out .entry)) place (now (out .exit)) r ⌝ }
+pub fn put_head(out: &mut [u8], offset: usize, count: u32) -> Written
+    ensures { λ r. ⌜ Put (headText count) (now (out .entry)) offset (now (out .exit)) r ⌝ }
 {
     if count > MOST_STARS {
         return Written::Refused(8);
     }
-    if !lent::has_room(out.len(), place, 1 + list_groups::count(count)) {
+    if !lent::has_room(out.len(), offset, 1 + list_groups::count(count)) {
         return Written::Refused(8);
     }
-    Written::To(write_head(out, place, count))
+    Written::To(write_head(out, offset, count))
 }
 
-// A star, from the place on.
+// A star, from the offset on.
 // Refusals: 9 for a star out of range, then 8 for no room.
-pub fn put_star(out: &mut [u8], place: usize, star: Star) -> Written
-    ensures { λ r. ⌜ Put (starText star) (now (out .entry)) place (now (out .exit)) r ⌝ }
+pub fn put_star(out: &mut [u8], offset: usize, star: Star) -> Written
+    ensures { λ r. ⌜ Put (starText star) (now (out .entry)) offset (now (out .exit)) r ⌝ }
 {
     if !list::in_range(star) {
         return Written::Refused(9);
     }
-    if !lent::has_room(out.len(), place, star_size(star)) {
+    if !lent::has_room(out.len(), offset, star_size(star)) {
         return Written::Refused(8);
     }
-    Written::To(write_star(out, place, star))
+    Written::To(write_star(out, offset, star))
 }
 
-// The records of the stars that stand from a place on, from the slice's start on: so many, and up to the first that is refused.
+// The records of the stars that stand from an offset on, from the slice's start on: so many, and up to the first that is refused.
 fn lay_stars(out: &mut [u8], bytes: &[u8], n: u32, first: usize) -> usize
     ensures { λ r. ⌜ Wrote (now (out .entry)) 0 (listBytes (starsUpto n (drop first (now (bytes .entry))))) (now (out .exit)) r ⌝ }
 {
     let mut p = first;
-    let mut place = 0;
+    let mut offset = 0;
     let mut i: u32 = 0;
     while i < n {
         match star_from(bytes, p) {
-            Sighted::Refused(_) => {
-                return place;
+            Received::Refused(_) => {
+                return offset;
             }
-            Sighted::Star(star, next) => {
-                place = list::write_star(out, place, star);
+            Received::Star(star, next) => {
+                offset = list::write_star(out, offset, star);
                 p = next;
             }
         }
         i += 1;
     }
-    place
+    offset
 }
 
 // A radio list as a stored list, from the slice's start on: how many bytes were written.
@@ -272,18 +272,18 @@ fn stars_size(bytes: &[u8]) -> Written
     Written::To(size)
 }
 
-// The stars of a list from the place on, and the place after them.
+// The stars of a list from the offset on, and the offset after them.
 fn write_stars(out: &mut [u8], at: usize, bytes: &[u8]) -> usize
     ensures { λ r. ⌜ Wrote (now (out .entry)) at (spellAll starGroups (stars (now (bytes .entry)))) (now (out .exit)) r ⌝ }
 {
     let n = list::count(bytes);
-    let mut place = lent::within(at, out.len());
+    let mut offset = lent::within(at, out.len());
     let mut i: usize = 0;
     while i < n {
-        place = write_star(out, place, list::nth(bytes, i));
+        offset = write_star(out, offset, list::nth(bytes, i));
         i += 1;
     }
-    place
+    offset
 }
 
 // A stored list as a radio list, from the slice's start on: how many bytes were written.
@@ -301,8 +301,8 @@ pub fn list_to_radio(bytes: &[u8], out: &mut [u8]) -> Written
             if out.len() < 1 + list_groups::count(n) + size {
                 return Written::Refused(8);
             }
-            let place = write_head(out, 0, n);
-            Written::To(write_stars(out, place, bytes))
+            let offset = write_head(out, 0, n);
+            Written::To(write_stars(out, offset, bytes))
         }
     }
 }

@@ -1,11 +1,11 @@
-// Cases of the stored list, its sheet and the tally, a line each: lengths round a record and the longest list, places up to
+// Cases of the stored list, its sheet and the tally, a line each: lengths round a record and the longest list, offsets up to
 // the largest usize, records in and out of range, numbers that stand twice or nowhere, and a full count of a tally.
 // What a line holds stands above the function that prints it.
 use list::Found;
-use list::Shown;
 use list::Star;
+use list::Stored;
 use list_tally::Tally;
-use text_sheet::Written;
+use text_sheet::Sheet;
 
 fn next(n: u64) {
     io::write_all(1, b" ");
@@ -13,12 +13,12 @@ fn next(n: u64) {
 }
 
 fn next_signed(z: i32) {
-    if list_words::negative(z) {
+    if signed::negative(z) {
         io::write_all(1, b" -");
     } else {
         io::write_all(1, b" ");
     }
-    io::print_decimal(1, list_words::size(z) as u64);
+    io::print_decimal(1, signed::size(z) as u64);
 }
 
 fn refusal(n: u8) {
@@ -41,18 +41,18 @@ fn length_case(buffer: &[u8], n: usize) {
     }
 }
 
-// A place, the star there and the next place; the place alone at the end.
-fn place_case(bytes: &[u8], place: usize) {
-    io::print_decimal(1, place as u64);
-    match list_reader::shown_at(bytes, place) {
-        Shown::Next(star, after) => {
+// An offset, the star there and the next offset; the offset alone at the end.
+fn offset_case(bytes: &[u8], offset: usize) {
+    io::print_decimal(1, offset as u64);
+    match list_reader::stored_at(bytes, offset) {
+        Stored::Next(star, after) => {
             next(star.number as u64);
             next(star.asc as u64);
             next_signed(star.dec);
             next(after as u64);
         }
-        Shown::End => {}
-        Shown::Refused(n) => refusal(n),
+        Stored::End => {}
+        Stored::Refused(n) => refusal(n),
     }
     end();
 }
@@ -74,10 +74,10 @@ fn find_case(bytes: &[u8], sought: u32) {
 // The sheet itself.
 fn sheet_case(bytes: &[u8], out: &mut [u8]) {
     match text_sheet::render(bytes, out) {
-        Written::Bytes(k) => {
+        Sheet::Bytes(k) => {
             io::write_all(1, &out[..k]);
         }
-        Written::Refused(n) => refusal(n),
+        Sheet::Refused(n) => refusal(n),
     }
 }
 
@@ -85,8 +85,8 @@ fn sheet_case(bytes: &[u8], out: &mut [u8]) {
 fn size_case(bytes: &[u8], out: &mut [u8]) {
     io::print_decimal(1, out.len() as u64);
     match text_sheet::render(bytes, out) {
-        Written::Bytes(k) => next(k as u64),
-        Written::Refused(n) => refusal(n),
+        Sheet::Bytes(k) => next(k as u64),
+        Sheet::Refused(n) => refusal(n),
     }
     end();
 }
@@ -105,17 +105,17 @@ fn lengths(buffer: &[u8]) {
     length_case(buffer, 60012);
 }
 
-fn places(bytes: &[u8]) {
-    place_case(bytes, 0);
-    place_case(bytes, 1);
-    place_case(bytes, 11);
-    place_case(bytes, 12);
-    place_case(bytes, 84);
-    place_case(bytes, 96);
-    place_case(bytes, 97);
-    place_case(bytes, 108);
-    place_case(bytes, 18446744073709551612);
-    place_case(bytes, 18446744073709551615);
+fn countsInAll(bytes: &[u8]) {
+    offset_case(bytes, 0);
+    offset_case(bytes, 1);
+    offset_case(bytes, 11);
+    offset_case(bytes, 12);
+    offset_case(bytes, 84);
+    offset_case(bytes, 96);
+    offset_case(bytes, 97);
+    offset_case(bytes, 108);
+    offset_case(bytes, 18446744073709551612);
+    offset_case(bytes, 18446744073709551615);
 }
 
 fn finds(bytes: &[u8]) {
@@ -197,8 +197,8 @@ fn room_case(bytes: &[u8], out: &mut [u8], n: usize) {
 // The arrays are lent once: what each call needs to know of their lengths would be proved again.
 fn cases(bytes: &[u8], buffer: &[u8], out: &mut [u8]) {
     lengths(buffer);
-    places(bytes);
-    place_case(b"not a list!", 0);
+    countsInAll(bytes);
+    offset_case(b"not a list!", 0);
     finds(bytes);
     find_case(b"not a list!", 1);
     find_case(b"", 0);

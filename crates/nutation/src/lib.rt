@@ -17,9 +17,9 @@ use quantity::Two;
 pub fn nutation(day: f64) -> Two
     ensures { λ r. ⌜ shownTwo r ≡ nutationRule day ⌝ }
 {
-    let no = quantity::day_refusal(day);
-    if no != 0 {
-        return Two::Refused(no);
+    let refusal = quantity::day_refusal(day);
+    if refusal != 0 {
+        return Two::Refused(refusal);
     }
     let n = nutation_table::nutation_on(day);
     Two::Are(n.long.0, n.oblq.0)
@@ -85,9 +85,9 @@ pub fn nutation_in_eq_coords(
 ) -> Two
     ensures { λ r. ⌜ shownTwo r ≡ nutationInEqCoordsRule «eq_point» «nut_in_long» «nut_in_oblq» «tru_oblq» ⌝ }
 {
-    let no = nutation_in_refusal(eq_point, nut_in_long, nut_in_oblq, tru_oblq);
-    if no != 0 {
-        return Two::Refused(no);
+    let refusal = nutation_in_refusal(eq_point, nut_in_long, nut_in_oblq, tru_oblq);
+    if refusal != 0 {
+        return Two::Refused(refusal);
     }
     let s = nutation_in(eq_point, nut_in_long, nut_in_oblq, tru_oblq);
     Two::Are(s.asc.0, s.dec.0)

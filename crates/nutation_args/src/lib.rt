@@ -150,7 +150,7 @@ fn oblq_share(x: Row, t: f64, cosine: f64) -> Deg
 pub fn with_row(x: Row, a: Moon, s: Sums) -> Sums
     ensures { λ r. ⌜ r ≡ withRow x a s ⌝ }
 {
-    let w = elementary::turn_of(argument(x, a));
+    let w = elementary::sin_cos_of(argument(x, a));
     let long = long_share(x, a.t, w.sine);
     let oblq = oblq_share(x, a.t, w.cosine);
     Sums {

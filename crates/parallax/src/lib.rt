@@ -37,9 +37,9 @@ fn eq_hz_parallax_in(dist: f64) -> Radians
 pub fn eq_hz_parallax(dist_to_earth: f64) -> Radians
     ensures { λ r. ⌜ shownRadians r ≡ eqHzParallaxRule «dist_to_earth» ⌝ }
 {
-    let no = quantity::distance_refusal(dist_to_earth);
-    if no != 0 {
-        return Radians::Refused(no);
+    let refusal = quantity::distance_refusal(dist_to_earth);
+    if refusal != 0 {
+        return Radians::Refused(refusal);
     }
     eq_hz_parallax_in(dist_to_earth)
 }
@@ -65,8 +65,8 @@ pub fn centre_of(rho_sin: f64, rho_cos: f64, parallax: Rad) -> Centre
 }
 
 // Refusals of the parallax, the observer's place and height, and a sidereal time: 1; 3; 4; 5.
-pub fn observer_refusal(parallax: Rad, place: GeographPoint, height: f64, sidereal: Rad) -> u8
-    ensures { λ r. ⌜ r ≡ observerRefusal parallax place height sidereal ⌝ }
+pub fn observer_refusal(parallax: Rad, site: GeographPoint, height: f64, sidereal: Rad) -> u8
+    ensures { λ r. ⌜ r ≡ observerRefusal parallax site height sidereal ⌝ }
 {
     quantity::lower(
         quantity::lower(
@@ -75,8 +75,8 @@ pub fn observer_refusal(parallax: Rad, place: GeographPoint, height: f64, sidere
         ),
         quantity::lower(
             quantity::lower(
-                quantity::angle_refusal(Rad(place.long)),
-                quantity::steep_refusal(Rad(place.lat)),
+                quantity::angle_refusal(Rad(site.long)),
+                quantity::steep_refusal(Rad(site.lat)),
             ),
             quantity::height_refusal(height),
         ),
@@ -134,13 +134,13 @@ fn topocent_at(c: Centre, h: Folded, d: Folded, asc: Rad) -> Point
 }
 
 // The topocentric point of arguments that are not refused.
-fn topocent_in(p: EqPoint, parallax: Rad, place: GeographPoint, height: f64, sidereal: Rad) -> Point
-    ensures { λ r. ⌜ shownPoint r ≡ topocentIn p parallax place height sidereal ⌝ }
+fn topocent_in(p: EqPoint, parallax: Rad, site: GeographPoint, height: f64, sidereal: Rad) -> Point
+    ensures { λ r. ⌜ shownPoint r ≡ topocentIn p parallax site height sidereal ⌝ }
 {
-    match Earth::rho_in(Rad(place.lat), height) {
+    match Earth::rho_in(Rad(site.lat), height) {
         Two::Are(s, c) => topocent_at(
             centre_of(s, c, parallax),
-            elementary::fold(coords::hour_angle(sidereal, Rad(place.long), Rad(p.asc))),
+            elementary::fold(coords::hour_angle(sidereal, Rad(site.long), Rad(p.asc))),
             elementary::fold(Rad(p.dec)),
             Rad(p.asc),
         ),
@@ -152,18 +152,18 @@ fn topocent_in(p: EqPoint, parallax: Rad, place: GeographPoint, height: f64, sid
 fn topocent_refusal(
     p: EqPoint,
     parallax: Rad,
-    place: GeographPoint,
+    site: GeographPoint,
     height: f64,
     sidereal: Rad,
 ) -> u8
-    ensures { λ r. ⌜ r ≡ topocentRefusal p parallax place height sidereal ⌝ }
+    ensures { λ r. ⌜ r ≡ topocentRefusal p parallax site height sidereal ⌝ }
 {
     quantity::lower(
         quantity::lower(
             quantity::angle_refusal(Rad(p.asc)),
             quantity::latitude_refusal(Rad(p.dec)),
         ),
-        observer_refusal(parallax, place, height, sidereal),
+        observer_refusal(parallax, site, height, sidereal),
     )
 }
 
@@ -178,15 +178,15 @@ pub fn topocent_eq_coords(
 ) -> Point
     ensures { λ r. ⌜ shownPoint r ≡ topocentEqCoordsRule «eq_point» «eq_hz_parllx» «geograph_point» «observer_ht» «greenw_sidr» ⌝ }
 {
-    let no = topocent_refusal(
+    let refusal = topocent_refusal(
         eq_point,
         eq_hz_parllx,
         geograph_point,
         observer_ht,
         greenw_sidr,
     );
-    if no != 0 {
-        return Point::Refused(no);
+    if refusal != 0 {
+        return Point::Refused(refusal);
     }
     topocent_in(
         eq_point,

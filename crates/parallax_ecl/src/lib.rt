@@ -128,15 +128,15 @@ fn ecliptic_in(
     edition: Edition,
     p: EclPoint,
     parallax: Rad,
-    place: GeographPoint,
+    site: GeographPoint,
     height: f64,
     sidereal: Rad,
     oblq: Rad,
     semidiameter: Rad,
 ) -> Three
-    ensures { λ r. ⌜ shownThree r ≡ eclipticIn edition p parallax place height sidereal oblq semidiameter ⌝ }
+    ensures { λ r. ⌜ shownThree r ≡ eclipticIn edition p parallax site height sidereal oblq semidiameter ⌝ }
 {
-    match Earth::rho_in(Rad(place.lat), height) {
+    match Earth::rho_in(Rad(site.lat), height) {
         Two::Are(s, c) => ecliptic_at(
             edition,
             parallax::centre_of(s, c, parallax),
@@ -154,13 +154,13 @@ fn ecliptic_in(
 fn topopcent_refusal(
     p: EclPoint,
     parallax: Rad,
-    place: GeographPoint,
+    site: GeographPoint,
     height: f64,
     sidereal: Rad,
     oblq: Rad,
     semidiameter: Rad,
 ) -> u8
-    ensures { λ r. ⌜ r ≡ topopcentRefusal p parallax place height sidereal oblq semidiameter ⌝ }
+    ensures { λ r. ⌜ r ≡ topopcentRefusal p parallax site height sidereal oblq semidiameter ⌝ }
 {
     quantity::lower(
         quantity::lower(
@@ -173,7 +173,7 @@ fn topopcent_refusal(
                 quantity::angle_refusal(semidiameter),
             ),
         ),
-        parallax::observer_refusal(parallax, place, height, sidereal),
+        parallax::observer_refusal(parallax, site, height, sidereal),
     )
 }
 
@@ -194,7 +194,7 @@ pub fn topopcent_ecl_coords(
     ensures { λ r. ⌜ shownThree r ≡ topopcentEclCoordsRule edition «ecl_point» «eq_hz_parllx» «geograph_point» «observer_ht» «loc_sidr» «eclip_oblq»
         «geocent_semdia» ⌝ }
 {
-    let no = topopcent_refusal(
+    let refusal = topopcent_refusal(
         ecl_point,
         eq_hz_parllx,
         geograph_point,
@@ -203,8 +203,8 @@ pub fn topopcent_ecl_coords(
         eclip_oblq,
         geocent_semdia,
     );
-    if no != 0 {
-        return Three::Refused(no);
+    if refusal != 0 {
+        return Three::Refused(refusal);
     }
     ecliptic_in(
         edition,

@@ -2,26 +2,26 @@
 // the sidereal time at Greenwich there, the observer's longitude, west positive, and latitude, and the standard altitude.
 use edition::Edition;
 use text_answers::Style;
-use text_day::Day;
-use text_degrees::Written;
+use text_decimal::Decimal;
+use text_degrees::ReadDegrees;
 use transit::Observer;
 
 // The day that argument i says. A missing one, and one of more than 64 bytes, is none.
-fn day_of(i: usize) -> Day {
+fn day_of(i: usize) -> Decimal {
     let mut text = [0u8; 64];
     let n = os::arg(i, &mut text);
     if os::errno() != 0 {
-        return Day::Unclear;
+        return Decimal::Unclear;
     }
-    text_day::read(&text[..n])
+    text_decimal::read(&text[..n])
 }
 
 // The angle that argument i says, likewise.
-fn degrees_of(i: usize) -> Written {
+fn degrees_of(i: usize) -> ReadDegrees {
     let mut text = [0u8; 64];
     let n = os::arg(i, &mut text);
     if os::errno() != 0 {
-        return Written::Unclear;
+        return ReadDegrees::Unclear;
     }
     text_degrees::read(&text[..n])
 }
@@ -69,19 +69,19 @@ fn print(day1: f64, day2: f64, o: Observer) {
 
 // With both days read.
 fn on_days(day1: f64, day2: f64) {
-    let Written::Are(sidereal) = degrees_of(3) else {
+    let ReadDegrees::Are(sidereal) = degrees_of(3) else {
         no_angle(b"SIDEREAL");
         return;
     };
-    let Written::Are(long) = degrees_of(4) else {
+    let ReadDegrees::Are(long) = degrees_of(4) else {
         no_angle(b"LONGITUDE");
         return;
     };
-    let Written::Are(lat) = degrees_of(5) else {
+    let ReadDegrees::Are(lat) = degrees_of(5) else {
         no_angle(b"LATITUDE");
         return;
     };
-    let Written::Are(alt) = degrees_of(6) else {
+    let ReadDegrees::Are(alt) = degrees_of(6) else {
         no_angle(b"ALTITUDE");
         return;
     };
@@ -93,11 +93,11 @@ fn on_days(day1: f64, day2: f64) {
 }
 
 fn main() {
-    let Day::Is(day1) = day_of(1) else {
+    let Decimal::Is(day1) = day_of(1) else {
         no_day(b"JD1");
         return;
     };
-    let Day::Is(day2) = day_of(2) else {
+    let Decimal::Is(day2) = day_of(2) else {
         no_day(b"JD2");
         return;
     };

@@ -4,15 +4,15 @@
 ghost use mathlib.Core.Path.{_≡_};
 ghost use Rattle.quantity.specs.rules.Answer.{shownTwo};
 ghost use Rattle.precess.specs.rules.Annual.{annualM, annualN, annualAt, annualIn, annualRefusal, annualPrecessRule};
-ghost use Rattle.precess.specs.rules.Equatorial.{arcsOf, placed, turnedIn, precessEqCoordsRule, precessEqCoordsFK5Rule};
+ghost use Rattle.precess.specs.rules.Equatorial.{arcsOf, precessedFrom, precessedIn, precessEqCoordsRule, precessEqCoordsFK5Rule};
 ghost use Rattle.precess.specs.rules.Arcs.{arcsRefusal};
-ghost use Rattle.precess.specs.rules.Two.{placedTwo, turnedTwo};
+ghost use Rattle.precess.specs.rules.Two.{precessedTwoFrom, precessedTwo};
 use edition::Edition;
 use elementary::Direction;
 use elementary::Folded;
 use helpers::angle;
 use helpers::time;
-use precess_angles::EqTurns;
+use precess_angles::EqPrecession;
 use quantity::Deg;
 use quantity::EqPoint;
 use quantity::Places;
@@ -69,9 +69,9 @@ fn annual_refusal(asc: Rad, dec: Rad, day: f64) -> u8
 pub fn annual_precess(asc: Rad, dec: Rad, day: f64) -> Two
     ensures { λ r. ⌜ shownTwo r ≡ annualPrecessRule asc dec day ⌝ }
 {
-    let no = annual_refusal(asc, dec, day);
-    if no != 0 {
-        return Two::Refused(no);
+    let refusal = annual_refusal(asc, dec, day);
+    if refusal != 0 {
+        return Two::Refused(refusal);
     }
     annual_in(asc, dec, day)
 }
@@ -85,9 +85,9 @@ struct Arcs {
     height: f64,
 }
 
-// The arcs of a place after the turns, from the direction of its right ascension with xi added and its declination.
-fn arcs_of(d: Direction, turns: EqTurns) -> Arcs
-    ensures { λ r. ⌜ r ≡ arcsOf d turns ⌝ }
+// The arcs of a place after precession, from the direction of its right ascension with xi added and its declination.
+fn arcs_of(d: Direction, precession: EqPrecession) -> Arcs
+    ensures { λ r. ⌜ r ≡ arcsOf d precession ⌝ }
 {
     let sa = d.sin_asc;
     let ca = d.cos_asc;
@@ -95,32 +95,32 @@ fn arcs_of(d: Direction, turns: EqTurns) -> Arcs
     let cd = d.cos_dec;
     Arcs {
         up: cd * sa,
-        across: turns.cosine * cd * ca - turns.sine * sd,
-        height: turns.sine * cd * ca + turns.cosine * sd,
+        across: precession.cosine * cd * ca - precession.sine * sd,
+        height: precession.sine * cd * ca + precession.cosine * sd,
     }
 }
 
-// A place after the turns. Refusals: 14; 7.
-fn placed(d: Direction, turns: EqTurns) -> Two
-    ensures { λ r. ⌜ shownTwo r ≡ placed d turns ⌝ }
+// A place after precession. Refusals: 14; 7.
+fn precessed_from(d: Direction, precession: EqPrecession) -> Two
+    ensures { λ r. ⌜ shownTwo r ≡ precessedFrom d precession ⌝ }
 {
-    let zeta = turns.zeta;
-    let a = arcs_of(d, turns);
+    let zeta = precession.zeta;
+    let a = arcs_of(d, precession);
     quantity::both(
         quantity::plus(elementary_arc::arctangent_in(a.up, a.across), zeta),
         elementary_arc::arcsine_in(a.height),
     )
 }
 
-// A place under the turns of a night, of arguments that are not refused. Refusals: 14; 7.
-pub fn turned_in(asc: Rad, dec: Rad, turns: EqTurns) -> Two
-    ensures { λ r. ⌜ shownTwo r ≡ turnedIn asc dec turns ⌝ }
+// A place under a night's precession, of arguments that are not refused. Refusals: 14; 7.
+pub fn precessed_in(asc: Rad, dec: Rad, precession: EqPrecession) -> Two
+    ensures { λ r. ⌜ shownTwo r ≡ precessedIn asc dec precession ⌝ }
 {
     let p = EqPoint {
-        asc: asc.0 + turns.xi.0,
+        asc: asc.0 + precession.xi.0,
         dec: dec.0,
     };
-    placed(elementary::toward(p), turns)
+    precessed_from(elementary::toward(p), precession)
 }
 
 // Refusals of arcs: 14; 7; and 1 of a NaN.
@@ -138,13 +138,13 @@ fn arcs_refusal(a: Arcs) -> u8
     if 1.0 < size { 7 } else { 1 }
 }
 
-// Two places after the turns, side by side: both roots first, for both declinations wait for them. Refusals of each: 14; 7.
-fn placed_two(d: Direction, e: Direction, turns: EqTurns) -> Places
-    ensures { λ r. ⌜ r ≡ placedTwo d e turns ⌝ }
+// Two places after precession, side by side: both roots first, for both declinations wait for them. Refusals of each: 14; 7.
+fn precessed_two_from(d: Direction, e: Direction, precession: EqPrecession) -> Places
+    ensures { λ r. ⌜ r ≡ precessedTwoFrom d e precession ⌝ }
 {
-    let zeta = turns.zeta;
-    let a = arcs_of(d, turns);
-    let b = arcs_of(e, turns);
+    let zeta = precession.zeta;
+    let a = arcs_of(d, precession);
+    let b = arcs_of(e, precession);
     let root = elementary_arc::arcsine_root(a.height);
     let root2 = elementary_arc::arcsine_root(b.height);
     let ascs = elementary_arc::arctangents_of(a.up, a.across, b.up, b.across);
@@ -159,42 +159,42 @@ fn placed_two(d: Direction, e: Direction, turns: EqTurns) -> Places
     }
 }
 
-// Two places under the turns of a night, side by side, of arguments that are not refused. Refusals of each: 14; 7.
-pub fn turned_two(
+// Two places under a night's precession, side by side, of arguments that are not refused. Refusals of each: 14; 7.
+pub fn precessed_two(
     first_asc: Rad,
     first_dec: Rad,
     second_asc: Rad,
     second_dec: Rad,
-    turns: EqTurns,
+    precession: EqPrecession,
 ) -> Places
-    ensures { λ r. ⌜ r ≡ turnedTwo «first_asc» «first_dec» «second_asc» «second_dec» turns ⌝ }
+    ensures { λ r. ⌜ r ≡ precessedTwo «first_asc» «first_dec» «second_asc» «second_dec» precession ⌝ }
 {
     let p = EqPoint {
-        asc: first_asc.0 + turns.xi.0,
+        asc: first_asc.0 + precession.xi.0,
         dec: first_dec.0,
     };
     let q = EqPoint {
-        asc: second_asc.0 + turns.xi.0,
+        asc: second_asc.0 + precession.xi.0,
         dec: second_dec.0,
     };
     let both = elementary::towards(p, q);
     let d = both.first;
     let e = both.second;
-    placed_two(d, e, turns)
+    precessed_two_from(d, e, precession)
 }
 
 // Equatorial coordinates reduced from the first day to the second. Refusals: 1; 2; 3; then 14; 7.
 pub fn precess_eq_coords(edition: Edition, old_asc: Rad, old_dec: Rad, day1: f64, day2: f64) -> Two
     ensures { λ r. ⌜ shownTwo r ≡ precessEqCoordsRule edition «old_asc» «old_dec» day1 day2 ⌝ }
 {
-    let no = precess_angles::place_refusal(old_asc, old_dec, day1, day2);
-    if no != 0 {
-        return Two::Refused(no);
+    let refusal = precess_angles::place_refusal(old_asc, old_dec, day1, day2);
+    if refusal != 0 {
+        return Two::Refused(refusal);
     }
-    turned_in(
+    precessed_in(
         old_asc,
         old_dec,
-        precess_angles::eq_turns(edition, day1, day2),
+        precess_angles::eq_precession(edition, day1, day2),
     )
 }
 
@@ -208,13 +208,13 @@ pub fn precess_eq_coords_FK5(
 ) -> Two
     ensures { λ r. ⌜ shownTwo r ≡ precessEqCoordsFK5Rule edition «old_asc» «old_dec» day1 day2 ⌝ }
 {
-    let no = precess_angles::place_refusal(old_asc, old_dec, day1, day2);
-    if no != 0 {
-        return Two::Refused(no);
+    let refusal = precess_angles::place_refusal(old_asc, old_dec, day1, day2);
+    if refusal != 0 {
+        return Two::Refused(refusal);
     }
-    turned_in(
+    precessed_in(
         old_asc,
         old_dec,
-        precess_angles::fk4_turns(edition, day1, day2),
+        precess_angles::fk4_precession(edition, day1, day2),
     )
 }

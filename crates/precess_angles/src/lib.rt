@@ -2,8 +2,8 @@
 // Promised: bit for bit the crate's angles, or Meeus's, on every day.
 ghost use mathlib.Core.Path.{_≡_};
 ghost use Rattle.precess_angles.specs.rules.Days.{spanOf, daysRefusal, placeRefusal};
-ghost use Rattle.precess_angles.specs.rules.Equatorial.{eqXi, eqZeta, eqTheta, eqAnglesOf, turnsOf, eqTurnsOf};
-ghost use Rattle.precess_angles.specs.rules.Fk4.{fk4Century, fk4Span, fk4Xi, fk4Zeta, fk4Theta, degreesAsRadians, fk4Angle, fk4AnglesOf, fk4TurnsOf};
+ghost use Rattle.precess_angles.specs.rules.Equatorial.{eqXi, eqZeta, eqTheta, eqAnglesOf, precessionBy, eqPrecessionOf};
+ghost use Rattle.precess_angles.specs.rules.Fk4.{fk4Century, fk4Span, fk4Xi, fk4Zeta, fk4Theta, degreesAsRadians, fk4Angle, fk4AnglesOf, fk4PrecessionOf};
 use edition::Edition;
 use helpers::angle;
 use helpers::time;
@@ -48,8 +48,8 @@ pub struct EqAngles {
     pub theta: Rad,
 }
 
-// What places are turned by: two angles, and the sine and cosine of the third.
-pub struct EqTurns {
+// What places are precessed by: two angles, and the sine and cosine of the third.
+pub struct EqPrecession {
     pub xi: Rad,
     pub zeta: Rad,
     pub sine: f64,
@@ -70,7 +70,7 @@ fn eq_zeta(edition: Edition, c: f64, t: f64) -> Deg
 {
     let x = 1.09468 / 3600.0;
     let y = c * (0.000066 / 3600.0);
-    let z = edition::chosen(edition, x - y, x + y);
+    let z = edition::by_edition(edition, x - y, x + y);
     Deg(
         t * (2306.2181 / 3600.0 + c * (1.39656 / 3600.0 - c * (0.000139 / 3600.0)))
             + t * t * (z + t * (0.018203 / 3600.0)),
@@ -81,7 +81,7 @@ fn eq_zeta(edition: Edition, c: f64, t: f64) -> Deg
 fn eq_theta(edition: Edition, c: f64, t: f64) -> Deg
     ensures { λ r. ⌜ r ≡ eqTheta edition c t ⌝ }
 {
-    let x = edition::chosen(edition, 0.8533 / 3600.0, -(0.8533 / 3600.0));
+    let x = edition::by_edition(edition, 0.8533 / 3600.0, -(0.8533 / 3600.0));
     let y = c * (0.000217 / 3600.0);
     Deg(
         t
@@ -103,15 +103,15 @@ pub fn eq_angles(edition: Edition, day1: f64, day2: f64) -> EqAngles
     }
 }
 
-// The turns of three angles.
-fn turns_of(angles: EqAngles) -> EqTurns
-    ensures { λ r. ⌜ r ≡ turnsOf angles ⌝ }
+// The precession by three angles.
+fn precession_by(angles: EqAngles) -> EqPrecession
+    ensures { λ r. ⌜ r ≡ precessionBy angles ⌝ }
 {
     let xi = angles.xi;
     let zeta = angles.zeta;
     let theta = angles.theta;
-    let t = elementary::turn_of(theta);
-    EqTurns {
+    let t = elementary::sin_cos_of(theta);
+    EqPrecession {
         xi: xi,
         zeta: zeta,
         sine: t.sine,
@@ -119,11 +119,11 @@ fn turns_of(angles: EqAngles) -> EqTurns
     }
 }
 
-// The turns from the first day to the second.
-pub fn eq_turns(edition: Edition, day1: f64, day2: f64) -> EqTurns
-    ensures { λ r. ⌜ r ≡ eqTurnsOf edition day1 day2 ⌝ }
+// The precession from the first day to the second.
+pub fn eq_precession(edition: Edition, day1: f64, day2: f64) -> EqPrecession
+    ensures { λ r. ⌜ r ≡ eqPrecessionOf edition day1 day2 ⌝ }
 {
-    turns_of(eq_angles(edition, day1, day2))
+    precession_by(eq_angles(edition, day1, day2))
 }
 
 // ---- the FK4 system
@@ -199,9 +199,9 @@ fn fk4_angles(edition: Edition, day1: f64, day2: f64) -> EqAngles
     }
 }
 
-// The turns from the first day to the second.
-pub fn fk4_turns(edition: Edition, day1: f64, day2: f64) -> EqTurns
-    ensures { λ r. ⌜ r ≡ fk4TurnsOf edition day1 day2 ⌝ }
+// The precession from the first day to the second.
+pub fn fk4_precession(edition: Edition, day1: f64, day2: f64) -> EqPrecession
+    ensures { λ r. ⌜ r ≡ fk4PrecessionOf edition day1 day2 ⌝ }
 {
-    turns_of(fk4_angles(edition, day1, day2))
+    precession_by(fk4_angles(edition, day1, day2))
 }

@@ -2,7 +2,7 @@
 // Rust's formulas, or the refusal; 14 is never met.
 ghost use mathlib.Core.Path.{_≡_};
 ghost use Rattle.quantity.specs.rules.Answer.{shownTwo, shownThree, shownRadians};
-ghost use Rattle.precess_ecl.specs.rules.Ecliptic.{eclNu, eclPi, eclRho, eclTurned, eclTurnsOf, eclPlaced, eclTurnedIn, precessEclCoordsRule};
+ghost use Rattle.precess_ecl.specs.rules.Ecliptic.{eclNu, eclPi, eclRho, eclPrecessionBy, eclPrecessionOf, eclPrecessedFrom, eclPrecessedIn, precessEclCoordsRule};
 ghost use Rattle.precess_ecl.specs.rules.Orbit.{leanedOf, newInclination, newNode, nodeAndPerihelion, orbitFrom, orbitIn, orbitRefusal};
 ghost use Rattle.precess_ecl.specs.rules.Orbit.{precessOrbElementsRule};
 use elementary::Folded;
@@ -18,7 +18,7 @@ use quantity::Two;
 // ---- ecliptic coordinates (Meeus 21.5 to 21.7)
 
 // What two days fix of ecliptic precession: nu with its sine and cosine, Pi and rho.
-pub struct EclTurns {
+pub struct EclPrecession {
     pub nu: Rad,
     pub sine: f64,
     pub cosine: f64,
@@ -63,12 +63,12 @@ fn ecl_rho(c: f64, t: f64) -> Deg
     )
 }
 
-// The turns of three angles.
-fn ecl_turned(nu: Rad, pi: Rad, rho: Rad) -> EclTurns
-    ensures { λ r. ⌜ r ≡ eclTurned nu pi rho ⌝ }
+// The precession by three angles.
+fn ecl_precession_by(nu: Rad, pi: Rad, rho: Rad) -> EclPrecession
+    ensures { λ r. ⌜ r ≡ eclPrecessionBy nu pi rho ⌝ }
 {
-    let t = elementary::turn_of(nu);
-    EclTurns {
+    let t = elementary::sin_cos_of(nu);
+    EclPrecession {
         nu: nu,
         sine: t.sine,
         cosine: t.cosine,
@@ -77,22 +77,22 @@ fn ecl_turned(nu: Rad, pi: Rad, rho: Rad) -> EclTurns
     }
 }
 
-// The turns from the first day to the second.
-fn ecl_turns(day1: f64, day2: f64) -> EclTurns
-    ensures { λ r. ⌜ r ≡ eclTurnsOf day1 day2 ⌝ }
+// The precession from the first day to the second.
+fn ecl_precession(day1: f64, day2: f64) -> EclPrecession
+    ensures { λ r. ⌜ r ≡ eclPrecessionOf day1 day2 ⌝ }
 {
     let c = time::century(day1);
     let t = precess_angles::span(day1, day2);
-    ecl_turned(
+    ecl_precession_by(
         angle::radians(ecl_nu(c, t)),
         angle::radians(ecl_pi(c, t)),
         angle::radians(ecl_rho(c, t)),
     )
 }
 
-// A place after the turns: p is Pi less its longitude, b its latitude. Refusals: 7.
-fn ecl_placed(p: Folded, b: Folded, turns: EclTurns) -> Two
-    ensures { λ r. ⌜ shownTwo r ≡ eclPlaced p b turns ⌝ }
+// A place after precession: p is Pi less its longitude, b its latitude. Refusals: 7.
+fn ecl_precessed_from(p: Folded, b: Folded, precession: EclPrecession) -> Two
+    ensures { λ r. ⌜ shownTwo r ≡ eclPrecessedFrom p b precession ⌝ }
 {
     let sp = p.sine();
     let cp = p.cosine();
@@ -100,21 +100,24 @@ fn ecl_placed(p: Folded, b: Folded, turns: EclTurns) -> Two
     let cb = b.cosine();
     quantity::both(
         quantity::taken_from(
-            Rad(turns.rho.0 + turns.pi.0),
-            elementary_arc::arctangent_in(turns.cosine * cb * sp - turns.sine * sb, cb * cp),
+            Rad(precession.rho.0 + precession.pi.0),
+            elementary_arc::arctangent_in(
+                precession.cosine * cb * sp - precession.sine * sb,
+                cb * cp,
+            ),
         ),
-        elementary_arc::arcsine_in(turns.cosine * sb + turns.sine * cb * sp),
+        elementary_arc::arcsine_in(precession.cosine * sb + precession.sine * cb * sp),
     )
 }
 
-// A place under the turns of two days, of arguments that are not refused. Refusals: 7.
-fn ecl_turned_in(long: Rad, lat: Rad, turns: EclTurns) -> Two
-    ensures { λ r. ⌜ shownTwo r ≡ eclTurnedIn long lat turns ⌝ }
+// A place under the precession of two days, of arguments that are not refused. Refusals: 7.
+fn ecl_precessed_in(long: Rad, lat: Rad, precession: EclPrecession) -> Two
+    ensures { λ r. ⌜ shownTwo r ≡ eclPrecessedIn long lat precession ⌝ }
 {
-    ecl_placed(
-        elementary::fold(Rad(turns.pi.0 - long.0)),
+    ecl_precessed_from(
+        elementary::fold(Rad(precession.pi.0 - long.0)),
         elementary::fold(lat),
-        turns,
+        precession,
     )
 }
 
@@ -122,11 +125,11 @@ fn ecl_turned_in(long: Rad, lat: Rad, turns: EclTurns) -> Two
 pub fn precess_ecl_coords(old_long: Rad, old_lat: Rad, day1: f64, day2: f64) -> Two
     ensures { λ r. ⌜ shownTwo r ≡ precessEclCoordsRule «old_long» «old_lat» day1 day2 ⌝ }
 {
-    let no = precess_angles::place_refusal(old_long, old_lat, day1, day2);
-    if no != 0 {
-        return Two::Refused(no);
+    let refusal = precess_angles::place_refusal(old_long, old_lat, day1, day2);
+    if refusal != 0 {
+        return Two::Refused(refusal);
     }
-    ecl_turned_in(old_long, old_lat, ecl_turns(day1, day2))
+    ecl_precessed_in(old_long, old_lat, ecl_precession(day1, day2))
 }
 
 // ---- orbital elements (Meeus, chapter 24)
@@ -138,22 +141,22 @@ struct Leaned {
 }
 
 // A and B, from the inclination i and the node less Pi.
-fn lean(i: Folded, n: Folded, turns: EclTurns) -> Leaned
-    ensures { λ r. ⌜ r ≡ leanedOf i n turns ⌝ }
+fn lean(i: Folded, n: Folded, precession: EclPrecession) -> Leaned
+    ensures { λ r. ⌜ r ≡ leanedOf i n precession ⌝ }
 {
     let si = i.sine();
     Leaned {
         a: si * n.sine(),
-        b: -turns.sine * i.cosine() + turns.cosine * si * n.cosine(),
+        b: -precession.sine * i.cosine() + precession.cosine * si * n.cosine(),
     }
 }
 
 // The new inclination; nu where the old one is zero, of either sign. Refusals: 7.
-fn new_inclination(inc: Rad, l: Leaned, turns: EclTurns) -> Radians
-    ensures { λ r. ⌜ shownRadians r ≡ newInclination inc l turns ⌝ }
+fn new_inclination(inc: Rad, l: Leaned, precession: EclPrecession) -> Radians
+    ensures { λ r. ⌜ shownRadians r ≡ newInclination inc l precession ⌝ }
 {
     if inc.0 == 0.0 {
-        let nu = turns.nu;
+        let nu = precession.nu;
         return Radians::Are(nu);
     }
     match root::square_root(l.a * l.a + l.b * l.b) {
@@ -164,10 +167,10 @@ fn new_inclination(inc: Rad, l: Leaned, turns: EclTurns) -> Radians
 
 // The new node; half a turn on where the old inclination is zero. Where it has no direction the new inclination is zero, and
 // `orbit_from` refuses by 6 before it looks at the node.
-fn new_node(inc: Rad, l: Leaned, turns: EclTurns) -> Radians
-    ensures { λ r. ⌜ shownRadians r ≡ newNode inc l turns ⌝ }
+fn new_node(inc: Rad, l: Leaned, precession: EclPrecession) -> Radians
+    ensures { λ r. ⌜ shownRadians r ≡ newNode inc l precession ⌝ }
 {
-    let phi = turns.pi.0 + turns.rho.0;
+    let phi = precession.pi.0 + precession.rho.0;
     if inc.0 == 0.0 {
         return Radians::Are(Rad(phi + quantity::PI));
     }
@@ -175,40 +178,46 @@ fn new_node(inc: Rad, l: Leaned, turns: EclTurns) -> Radians
 }
 
 // The new node and perihelion, where the new inclination's sine s is not zero. Refusals: 7.
-fn node_and_perihelion(s: f64, node: Radians, perih: Rad, n: Folded, turns: EclTurns) -> Two
-    ensures { λ r. ⌜ shownTwo r ≡ nodeAndPerihelion s (shownRadians node) perih n turns ⌝ }
+fn node_and_perihelion(
+    s: f64,
+    node: Radians,
+    perih: Rad,
+    n: Folded,
+    precession: EclPrecession,
+) -> Two
+    ensures { λ r. ⌜ shownTwo r ≡ nodeAndPerihelion s (shownRadians node) perih n precession ⌝ }
 {
     quantity::both(
         node,
         quantity::added_to(
             perih,
-            elementary_arc::arcsine_in(-turns.sine * n.sine() / s),
+            elementary_arc::arcsine_in(-precession.sine * n.sine() / s),
         ),
     )
 }
 
 // The elements with their new inclination i. Refusals: 6 where its sine is zero; then 7.
-fn orbit_from(i: Rad, node: Radians, perih: Rad, n: Folded, turns: EclTurns) -> Three
-    ensures { λ r. ⌜ shownThree r ≡ orbitFrom i (shownRadians node) perih n turns ⌝ }
+fn orbit_from(i: Rad, node: Radians, perih: Rad, n: Folded, precession: EclPrecession) -> Three
+    ensures { λ r. ⌜ shownThree r ≡ orbitFrom i (shownRadians node) perih n precession ⌝ }
 {
     let s = elementary::fold(i).sine();
     if s == 0.0 {
         return Three::Refused(6);
     }
-    match node_and_perihelion(s, node, perih, n, turns) {
+    match node_and_perihelion(s, node, perih, n, precession) {
         Two::Are(x, w) => Three::Are(i.0, w, x),
         Two::Refused(k) => Three::Refused(k),
     }
 }
 
 // The elements of arguments that are not refused. Refusals: 7; 6; 7.
-fn orbit_in(inc: Rad, perih: Rad, node: Rad, turns: EclTurns) -> Three
-    ensures { λ r. ⌜ shownThree r ≡ orbitIn inc perih node turns ⌝ }
+fn orbit_in(inc: Rad, perih: Rad, node: Rad, precession: EclPrecession) -> Three
+    ensures { λ r. ⌜ shownThree r ≡ orbitIn inc perih node precession ⌝ }
 {
-    let n = elementary::fold(Rad(node.0 - turns.pi.0));
-    let l = lean(elementary::fold(inc), n, turns);
-    match new_inclination(inc, l, turns) {
-        Radians::Are(i) => orbit_from(i, new_node(inc, l, turns), perih, n, turns),
+    let n = elementary::fold(Rad(node.0 - precession.pi.0));
+    let l = lean(elementary::fold(inc), n, precession);
+    match new_inclination(inc, l, precession) {
+        Radians::Are(i) => orbit_from(i, new_node(inc, l, precession), perih, n, precession),
         Radians::Refused(k) => Three::Refused(k),
     }
 }
@@ -240,14 +249,14 @@ pub fn precess_orb_elements(
 ) -> Three
     ensures { λ r. ⌜ shownThree r ≡ precessOrbElementsRule «old_inc» «old_arg_perih» «old_long_ascend_node» day1 day2 ⌝ }
 {
-    let no = orbit_refusal(old_inc, old_arg_perih, old_long_ascend_node, day1, day2);
-    if no != 0 {
-        return Three::Refused(no);
+    let refusal = orbit_refusal(old_inc, old_arg_perih, old_long_ascend_node, day1, day2);
+    if refusal != 0 {
+        return Three::Refused(refusal);
     }
     orbit_in(
         old_inc,
         old_arg_perih,
         old_long_ascend_node,
-        ecl_turns(day1, day2),
+        ecl_precession(day1, day2),
     )
 }

@@ -3,7 +3,7 @@
 ghost use Prim.Native.Nat.{_≤_};
 use edition::Edition;
 use text_answers::Style;
-use text_day::Day;
+use text_decimal::Decimal;
 
 // An edition, or that the text names none.
 enum Named {
@@ -12,13 +12,13 @@ enum Named {
 }
 
 // The day that argument i says. A missing one, and one of more than 64 bytes, is none.
-fn day_of(i: usize) -> Day {
+fn day_of(i: usize) -> Decimal {
     let mut text = [0u8; 64];
     let n = os::arg(i, &mut text);
     if os::errno() != 0 {
-        return Day::Unclear;
+        return Decimal::Unclear;
     }
-    text_day::read(&text[..n])
+    text_decimal::read(&text[..n])
 }
 
 // The edition that argument i names.
@@ -87,11 +87,11 @@ fn before_days(table: bool) -> usize
 fn main() {
     let table = table_asked();
     let before = before_days(table);
-    let Day::Is(day1) = day_of(before + 1) else {
+    let Decimal::Is(day1) = day_of(before + 1) else {
         complain(b"first");
         return;
     };
-    let Day::Is(day2) = day_of(before + 2) else {
+    let Decimal::Is(day2) = day_of(before + 2) else {
         complain(b"second");
         return;
     };

@@ -4,7 +4,7 @@ ghost use mathlib.Core.Path.{_≡_};
 ghost use Prim.Native.Nat.{_*_, _%_, _^_, _≤_, _<_};
 ghost use Rattle.double.specs.rules.Operations.{bits};
 ghost use Rattle.double.specs.rules.Count.{count};
-ghost use Rattle.remainder.specs.rules.Digits.{digitsOf, placesOf};
+ghost use Rattle.remainder.specs.rules.Digits.{digitsOf, binaryPlacesOf};
 ghost use Rattle.remainder.specs.rules.Remainder.{remainderOf};
 
 // The digits of a pattern without its sign: 53 with the leading one, which is not written, or a subnormal's own.
@@ -18,8 +18,8 @@ fn digits(b: u64) -> u64
 }
 
 // How many binary places they stand above those of the smallest double.
-fn places(b: u64) -> u64
-    ensures { λ r. ⌜ r ≡ placesOf b ⌝ }
+fn binary_places(b: u64) -> u64
+    ensures { λ r. ⌜ r ≡ binaryPlacesOf b ⌝ }
 {
     if b < 0x10_0000_0000_0000 {
         return 0;
@@ -27,7 +27,7 @@ fn places(b: u64) -> u64
     (b >> 52) - 1
 }
 
-// What is left of m·2^k by n, eleven binary places a turn: what is left then has 64 digits at most.
+// What is left of m·2^k by n, eleven binary places a pass: what is left then has 64 digits at most.
 fn rest_of(m: u64, k: u64, n: u64) -> u64
     requires { ⌜ (m < 2 ^ 53) × (0 < n) × (n < 2 ^ 53) ⌝ }
     ensures { λ r. ⌜ r ≡ m * 2 ^ k % n ⌝ }
@@ -63,8 +63,8 @@ fn remainder_pattern(b: u64, c: u64) -> u64
     ensures { λ r. ⌜ (r < 2047 * 2 ^ 52) × (count (bits r) ≡ count (bits b) % count (bits c)) ⌝ }
 {
     if c < 0x10_0000_0000_0000 {
-        let up = places(c);
-        return packed(rest_of(digits(b), places(b) - up, digits(c)), up);
+        let up = binary_places(c);
+        return packed(rest_of(digits(b), binary_places(b) - up, digits(c)), up);
     }
     let m = 0x10_0000_0000_0000 + b % 0x10_0000_0000_0000;
     let n = 0x10_0000_0000_0000 + c % 0x10_0000_0000_0000;

@@ -8,7 +8,7 @@ use text_answers::Style;
 // Bytes of the longest text, at most: so many a star, and those of a head and a foot.
 pub const ROOM: usize = 444 + 145 * list::MOST_STARS;
 
-// The list reduced from the first day to the second, as text from the slice's start on; and the place after it.
+// The list reduced from the first day to the second, as text from the slice's start on; and the offset after it.
 pub fn put_report(
     out: &mut [u8],
     style: Style,

@@ -186,9 +186,9 @@ pub fn square_root(x: f64) -> One
             return One::Is(normal_root(x));
         }
     }
-    let no = root_refusal(x);
-    if no != 0 {
-        return One::Refused(no);
+    let refusal = root_refusal(x);
+    if refusal != 0 {
+        return One::Refused(refusal);
     }
     One::Is(root_of(x))
 }

@@ -1,5 +1,5 @@
 // Prints the sheet of the star list that stands on standard input.
-use text_sheet::Written;
+use text_sheet::Sheet;
 
 // Writes the text, or says that it could not.
 fn write(text: &[u8]) {
@@ -13,9 +13,9 @@ fn main() {
     let n = io::read_full(0, &mut input);
     let mut out = [0u8; text_sheet::ROOM];
     match text_sheet::render(&input[..n], &mut out) {
-        Written::Bytes(k) => {
+        Sheet::Bytes(k) => {
             write(&out[..k]);
         }
-        Written::Refused(_) => {}
+        Sheet::Refused(_) => {}
     }
 }

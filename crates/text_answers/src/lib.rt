@@ -47,7 +47,7 @@ fn angle_at(s: &[u64], i: usize) -> Rad
     Rad(0.0)
 }
 
-// Each `put_` writes its text from the place on, and answers the place after it. This one: a star in its style.
+// Each `put_` writes its text from the offset on, and answers the offset after it. This one: a star in its style.
 fn put_star(
     out: &mut [u8],
     at: usize,
@@ -111,13 +111,13 @@ fn put_stars<'a>(
     ensures { λ r. ⌜ Wrote (now (out .entry)) at
         (texts n (lentLine style (now (bytes .entry)) (now (status .entry)) (now (asc .entry)) (now (dec .entry)))) (now (out .exit)) r ⌝ }
 {
-    let mut place = lent::within(at, out.len());
+    let mut offset = lent::within(at, out.len());
     let mut i: usize = 0;
     while i < n {
-        place = put_nth(out, place, style, bytes, status, asc, dec, i);
+        offset = put_nth(out, offset, style, bytes, status, asc, dec, i);
         i += 1;
     }
-    place
+    offset
 }
 
 // ---- head and foot
@@ -169,13 +169,13 @@ fn put_count(out: &mut [u8], at: usize, n: u32) -> usize
 fn put_counts(out: &mut [u8], at: usize, counts: &[u32; 20]) -> usize
     ensures { λ r. ⌜ Wrote (now (out .entry)) at (texts (highestStatus + 1) (countAt (now (counts .entry)))) (now (out .exit)) r ⌝ }
 {
-    let mut place = lent::within(at, out.len());
+    let mut offset = lent::within(at, out.len());
     let mut k: usize = 0;
     while k < KNOWN {
-        place = put_count(out, place, counts[k]);
+        offset = put_count(out, offset, counts[k]);
         k += 1;
     }
-    place
+    offset
 }
 
 // The tally in a line.
@@ -225,7 +225,7 @@ fn put_refused(out: &mut [u8], style: Style, n: u8) -> usize
 
 // ---- the whole
 
-// The answers of a list that was reduced with such a refusal and tally, from the slice's start on; and the place after them.
+// The answers of a list that was reduced with such a refusal and tally, from the slice's start on; and the offset after them.
 pub fn put_answers<'a>(
     out: &mut [u8],
     style: Style,
@@ -240,9 +240,9 @@ pub fn put_answers<'a>(
     ensures { λ r. ⌜ Wrote (now (out .entry)) 0
         (answersText style edition (now (bytes .entry)) (now (status .entry)) (now (asc .entry)) (now (dec .entry)) refusal tally) (now (out .exit)) r ⌝ }
 {
-    let no = refusal_in(style, refusal);
-    if no != 0 {
-        return put_refused(out, style, no);
+    let stated = refusal_in(style, refusal);
+    if stated != 0 {
+        return put_refused(out, style, stated);
     }
     let a = put_head(out, style, edition);
     let b = put_stars(out, a, style, bytes, status, asc, dec, list::count(bytes));

@@ -17,7 +17,7 @@ pub fn has_minus(y: f64, n: u64) -> bool
     false
 }
 
-// Each `put_` writes its text from the place on, and answers the place after it. This one: an angle in whole milliarcseconds.
+// Each `put_` writes its text from the offset on, and answers the offset after it. This one: an angle in whole milliarcseconds.
 fn put_angle(out: &mut [u8], at: usize, x: Rad) -> usize
     ensures { λ r. ⌜ Wrote (now (out .entry)) at (angleText x) (now (out .exit)) r ⌝ }
 {

@@ -3,7 +3,7 @@ ghost use Rattle.lent.specs.rules.Writing.{Wrote};
 ghost use Rattle.text_number.specs.rules.Number.{decimalText, signedText, integerText, hex16};
 ghost use Rattle.text_number.specs.rules.Refused.{refusedText};
 
-// Each `put_` writes its text from the place on, and answers the place after it. This one: a number in decimal.
+// Each `put_` writes its text from the offset on, and answers the offset after it. This one: a number in decimal.
 pub fn put_decimal(out: &mut [u8], at: usize, n: u64) -> usize
     ensures { λ r. ⌜ Wrote (now (out .entry)) at (decimalText n) (now (out .exit)) r ⌝ }
 {
@@ -27,7 +27,7 @@ pub fn put_signed(out: &mut [u8], at: usize, minus: bool, n: u64) -> usize
 pub fn put_integer(out: &mut [u8], at: usize, z: i32) -> usize
     ensures { λ r. ⌜ Wrote (now (out .entry)) at (integerText z) (now (out .exit)) r ⌝ }
 {
-    put_signed(out, at, list_words::negative(z), list_words::size(z) as u64)
+    put_signed(out, at, signed::negative(z), signed::size(z) as u64)
 }
 
 // Sixteen hexadecimal digits.

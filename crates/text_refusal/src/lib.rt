@@ -2,7 +2,7 @@
 ghost use Rattle.lent.specs.rules.Writing.{Wrote};
 ghost use Rattle.text_refusal.specs.rules.Refusal.{callWords, starWords, refusalText};
 
-// Each `put_` writes its text from the place on, and answers the place after it. This one: what a call of the batch can be refused by.
+// Each `put_` writes its text from the offset on, and answers the offset after it. This one: what a call of the batch can be refused by.
 fn put_call_words(out: &mut [u8], at: usize, n: u8) -> usize
     ensures { λ r. ⌜ Wrote (now (out .entry)) at (callWords n) (now (out .exit)) r ⌝ }
 {

@@ -26,7 +26,7 @@ fn milliseconds_of(x: Rad) -> u64
     units::nearest_whole(y) % 86400000
 }
 
-// Each `put_` writes its text from the place on, and answers the place after it. This one: a number of three digits.
+// Each `put_` writes its text from the offset on, and answers the offset after it. This one: a number of three digits.
 fn put_three(out: &mut [u8], at: usize, n: u64) -> usize
     ensures { λ r. ⌜ Wrote (now (out .entry)) at (threeDigits n) (now (out .exit)) r ⌝ }
 {

@@ -8,11 +8,11 @@ ghost use Rattle.lent.specs.rules.Texts.{texts};
 ghost use Rattle.list.specs.rules.Record.{inRange};
 ghost use Rattle.list.specs.rules.Stars.{stars};
 ghost use Rattle.text_sheet.specs.rules.Sheet.{line, lineAt, goods, heading, footing, sheetOf};
-ghost use Rattle.text_sheet.specs.rules.Render.{shownWritten, bytesOf, renderRule, rendered};
+ghost use Rattle.text_sheet.specs.rules.Render.{shownSheet, bytesOf, renderRule, rendered};
 use list::Star;
 
 // How many bytes were written, or a refusal.
-pub enum Written {
+pub enum Sheet {
     Bytes(usize),
     Refused(u8),
 }
@@ -20,7 +20,7 @@ pub enum Written {
 // Bytes of the longest sheet, at most: forty a star, and sixty more.
 pub const ROOM: usize = 60 + 40 * list::MOST_STARS;
 
-// Each `put_` writes its text from the place on, and answers the place after it. This one: a star's line.
+// Each `put_` writes its text from the offset on, and answers the offset after it. This one: a star's line.
 fn put_line(out: &mut [u8], at: usize, star: Star) -> usize
     ensures { λ r. ⌜ Wrote (now (out .entry)) at (line star) (now (out .exit)) r ⌝ }
 {
@@ -39,13 +39,13 @@ fn put_line(out: &mut [u8], at: usize, star: Star) -> usize
 fn put_lines(out: &mut [u8], at: usize, bytes: &[u8], n: usize) -> usize
     ensures { λ r. ⌜ Wrote (now (out .entry)) at (texts n (lineAt (now (bytes .entry)))) (now (out .exit)) r ⌝ }
 {
-    let mut place = lent::within(at, out.len());
+    let mut offset = lent::within(at, out.len());
     let mut i: usize = 0;
     while i < n {
-        place = put_line(out, place, list::nth(bytes, i));
+        offset = put_line(out, offset, list::nth(bytes, i));
         i += 1;
     }
-    place
+    offset
 }
 
 // 1 for a star in range, and else 0.
@@ -105,13 +105,13 @@ fn put_sheet(out: &mut [u8], bytes: &[u8]) -> usize
 
 // The sheet of a list, from the slice's start on; of bytes that are no list, the line that says so.
 // Refusals: 8 for a slice that is shorter than the longest sheet.
-pub fn render(bytes: &[u8], out: &mut [u8]) -> Written
-    ensures { λ r. ⌜ shownWritten r ≡ renderRule (now (bytes .entry)) (now (out .entry)) ⌝ }
+pub fn render(bytes: &[u8], out: &mut [u8]) -> Sheet
+    ensures { λ r. ⌜ shownSheet r ≡ renderRule (now (bytes .entry)) (now (out .entry)) ⌝ }
     ensures text { λ _. ⌜ now (out .exit) ≡ rendered (now (bytes .entry)) (now (out .entry)) ⌝ }
     ensures within { λ r. ⌜ bytesOf r ≤ length (now (out .exit)) ⌝ }
 {
     if out.len() < ROOM {
-        return Written::Refused(8);
+        return Sheet::Refused(8);
     }
-    Written::Bytes(put_sheet(out, bytes))
+    Sheet::Bytes(put_sheet(out, bytes))
 }

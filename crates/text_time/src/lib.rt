@@ -16,7 +16,7 @@ fn seconds_of(x: f64) -> u64
     double::whole_part(x * 86400.0 + 0.5)
 }
 
-// Each `put_` writes its text from the place on, and answers the place after it. This one: a number of two digits.
+// Each `put_` writes its text from the offset on, and answers the offset after it. This one: a number of two digits.
 pub fn put_two(out: &mut [u8], at: usize, n: u64) -> usize
     ensures { λ r. ⌜ Wrote (now (out .entry)) at (twoDigits n) (now (out .exit)) r ⌝ }
 {

@@ -6,7 +6,7 @@ ghost use Rattle.quantity.specs.rules.Answer.{shownRadians, shownThree};
 ghost use Rattle.transit.specs.rules.Arc.{arcCosine, arcIn};
 ghost use Rattle.transit.specs.rules.RiseCulmSet.{withinADay, culminationOf, fractions, riseCulmSetIn};
 ghost use Rattle.transit.specs.rules.RiseCulmSet.{observerRefusal, riseCulmSetRefusal, riseCulmSetRule};
-ghost use Rattle.transit.specs.rules.Observer.{planRefusal, plannedOf, placeInDegrees, observerInDegrees};
+ghost use Rattle.transit.specs.rules.Observer.{planRefusal, plannedOf, siteInDegrees, observerInDegrees};
 use helpers::angle;
 use quantity::Deg;
 use quantity::EqPoint;
@@ -26,8 +26,8 @@ fn arc_cosine(dec: Rad, lat: Rad, alt: Rad) -> f64
     ensures { λ r. ⌜ r ≡ arcCosine dec lat alt ⌝ }
 {
     let h = elementary::fold(alt);
-    let d = elementary::turn_of(dec);
-    let p = elementary::turn_of(lat);
+    let d = elementary::sin_cos_of(dec);
+    let p = elementary::sin_cos_of(lat);
     (h.sine() - p.sine * d.sine) / (p.cosine * d.cosine)
 }
 
@@ -73,23 +73,23 @@ fn fractions(culmination: f64, arc: Rad) -> Three
 }
 
 // Rise, culmination and set of arguments that are not refused.
-fn rise_culm_set_in(p: EqPoint, sidereal: Rad, place: GeographPoint, alt: Rad) -> Three
-    ensures { λ r. ⌜ shownThree r ≡ riseCulmSetIn p sidereal place alt ⌝ }
+fn rise_culm_set_in(p: EqPoint, sidereal: Rad, site: GeographPoint, alt: Rad) -> Three
+    ensures { λ r. ⌜ shownThree r ≡ riseCulmSetIn p sidereal site alt ⌝ }
 {
-    match arc_in(arc_cosine(Rad(p.dec), Rad(place.lat), alt)) {
-        Radians::Are(arc) => fractions(culmination_of(Rad(p.asc), sidereal, Rad(place.long)), arc),
+    match arc_in(arc_cosine(Rad(p.dec), Rad(site.lat), alt)) {
+        Radians::Are(arc) => fractions(culmination_of(Rad(p.asc), sidereal, Rad(site.long)), arc),
         Radians::Refused(n) => Three::Refused(n),
     }
 }
 
 // Refusals of what belongs to the observer and his night: 1; 3; 4.
-fn observer_refusal(sidereal: Rad, place: GeographPoint, alt: Rad) -> u8
-    ensures { λ r. ⌜ r ≡ observerRefusal sidereal place alt ⌝ }
+fn observer_refusal(sidereal: Rad, site: GeographPoint, alt: Rad) -> u8
+    ensures { λ r. ⌜ r ≡ observerRefusal sidereal site alt ⌝ }
 {
     quantity::lower(
         quantity::lower(
-            quantity::angle_refusal(Rad(place.long)),
-            quantity::steep_refusal(Rad(place.lat)),
+            quantity::angle_refusal(Rad(site.long)),
+            quantity::steep_refusal(Rad(site.lat)),
         ),
         quantity::lower(
             quantity::angle_refusal(sidereal),
@@ -99,20 +99,20 @@ fn observer_refusal(sidereal: Rad, place: GeographPoint, alt: Rad) -> u8
 }
 
 // Refusals of all arguments: 1; 3; 4.
-fn rise_culm_set_refusal(p: EqPoint, sidereal: Rad, place: GeographPoint, alt: Rad) -> u8
-    ensures { λ r. ⌜ r ≡ riseCulmSetRefusal p sidereal place alt ⌝ }
+fn rise_culm_set_refusal(p: EqPoint, sidereal: Rad, site: GeographPoint, alt: Rad) -> u8
+    ensures { λ r. ⌜ r ≡ riseCulmSetRefusal p sidereal site alt ⌝ }
 {
     quantity::lower(
         quantity::lower(
             quantity::angle_refusal(Rad(p.asc)),
             quantity::steep_refusal(Rad(p.dec)),
         ),
-        observer_refusal(sidereal, place, alt),
+        observer_refusal(sidereal, site, alt),
     )
 }
 
 // Rise, culmination and set of a star as fractions of the sidereal day since 0h, in this order. Given: its point, the sidereal time at
-// Greenwich at 0h, the observer's place and the standard altitude. Refusals: 1; 3; 4 past 1.57 for declination and the observer's
+// Greenwich at 0h, the observer's site and the standard altitude. Refusals: 1; 3; 4 past 1.57 for declination and the observer's
 // latitude; then 15 where the star never rises and 16 where it never sets.
 pub fn rise_culm_set(
     eq_point: EqPoint,
@@ -122,19 +122,19 @@ pub fn rise_culm_set(
 ) -> Three
     ensures { λ r. ⌜ shownThree r ≡ riseCulmSetRule «eq_point» «greenw_sidr» «geograph_point» alt ⌝ }
 {
-    let no = rise_culm_set_refusal(eq_point, greenw_sidr, geograph_point, alt);
-    if no != 0 {
-        return Three::Refused(no);
+    let refusal = rise_culm_set_refusal(eq_point, greenw_sidr, geograph_point, alt);
+    if refusal != 0 {
+        return Three::Refused(refusal);
     }
     rise_culm_set_in(eq_point, greenw_sidr, geograph_point, alt)
 }
 
 // ---- an observer's plan
 
-// An observer and his night: the sidereal time at Greenwich at 0h, his place, and the standard altitude.
+// An observer and his night: the sidereal time at Greenwich at 0h, his site, and the standard altitude.
 pub struct Observer {
     pub sidereal: Rad,
-    pub place: GeographPoint,
+    pub site: GeographPoint,
     pub alt: Rad,
 }
 
@@ -143,9 +143,9 @@ pub fn plan_refusal(o: Observer) -> u8
     ensures { λ r. ⌜ r ≡ planRefusal o ⌝ }
 {
     let sidereal = o.sidereal;
-    let place = o.place;
+    let site = o.site;
     let alt = o.alt;
-    observer_refusal(sidereal, place, alt)
+    observer_refusal(sidereal, site, alt)
 }
 
 // The rise, culmination and set of a star that was given a status and two angles. Refusals: the status; then those of `rise_culm_set`.
@@ -156,18 +156,18 @@ pub fn planned(status: u8, asc: Rad, dec: Rad, o: Observer) -> Three
         return Three::Refused(status);
     }
     let sidereal = o.sidereal;
-    let place = o.place;
+    let site = o.site;
     let alt = o.alt;
     let point = EqPoint {
         asc: asc.0,
         dec: dec.0,
     };
-    rise_culm_set(point, sidereal, place, alt)
+    rise_culm_set(point, sidereal, site, alt)
 }
 
-// A place from its longitude, west positive, and latitude in degrees.
-fn place_in_degrees(long: Deg, lat: Deg) -> GeographPoint
-    ensures { λ r. ⌜ r ≡ placeInDegrees long lat ⌝ }
+// A site from its longitude, west positive, and latitude in degrees.
+fn site_in_degrees(long: Deg, lat: Deg) -> GeographPoint
+    ensures { λ r. ⌜ r ≡ siteInDegrees long lat ⌝ }
 {
     GeographPoint {
         long: angle::radians(long).0,
@@ -180,11 +180,11 @@ pub fn observer_in_degrees(sidereal: Deg, long: Deg, lat: Deg, alt: Deg) -> Obse
     ensures { λ r. ⌜ r ≡ observerInDegrees sidereal long lat alt ⌝ }
 {
     let theta = angle::radians(sidereal);
-    let place = place_in_degrees(long, lat);
+    let site = site_in_degrees(long, lat);
     let height = angle::radians(alt);
     Observer {
         sidereal: theta,
-        place,
+        site,
         alt: height,
     }
 }

@@ -12,8 +12,8 @@ returns c =
     let second = c .before .before in
     let m = second .before .before in
     let first = m .before in
-    let kept = ap (λ (y : Multipliers). y .kept) (sym (m .multipliers-of .ensures)) ∙ second .before .if1 .taken in
-    rw (kept, m .multipliers-of .ensures, first .angle-of .ensures, second .angle-of2 .ensures)
+    let bracketed = ap (λ (y : Multipliers). y .bracketed) (sym (m .multipliers-of .ensures)) ∙ second .before .if1 .taken in
+    rw (bracketed, m .multipliers-of .ensures, first .angle-of .ensures, second .angle-of2 .ensures)
 
 returns-2 : tie.Need-returns-2
 unfolding argumentOf
@@ -22,7 +22,7 @@ returns-2 c =
     let one = two .before in
     let m = one .before .before in
     let first = m .before in
-    let spread = ap (λ (y : Multipliers). y .kept) (sym (m .multipliers-of .ensures)) ∙ one .before .if1 .left in
+    let spread = ap (λ (y : Multipliers). y .bracketed) (sym (m .multipliers-of .ensures)) ∙ one .before .if1 .left in
     rw (
       spread,
       c .with-angle2 .ensures,

@@ -19,7 +19,7 @@ another-argument-excluded = apart (λ (g : Arguments). ofRad (g .l3)) refl
 
 -- the cosine alone
 abbrev cosineAlone : Terms
-cosineAlone = record { kept = false; moving = false; sine = zero; «sine_t» = zero; cosine = one; «cosine_t» = zero }
+cosineAlone = record { bracketed = false; moving = false; sine = zero; «sine_t» = zero; cosine = one; «cosine_t» = zero }
 
 -- an infinite sine
 pub absent-term-added-excluded : absentTermAdded cosineAlone zero (inf false) one zero ≢ spread cosineAlone zero (inf false) one zero

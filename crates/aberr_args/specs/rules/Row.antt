@@ -11,7 +11,7 @@ use Rattle.double.specs.rules.Operations.{zero, _⊕_, _⊖_, _⊗_}
 use Rattle.double.specs.rules.Sign.{bearsMinus, size}
 use Rattle.quantity.specs.declared.Rad.{Rad}
 use Rattle.quantity.specs.rules.Angle.{rad}
-use Rattle.elementary.specs.rules.Sine.{turnOf}
+use Rattle.elementary.specs.rules.Sine.{sinCosOf}
 use Rattle.aberr_args.specs.declared.Arguments.{Arguments}
 use Rattle.aberr_args.specs.declared.Row.{Row}
 use Rattle.aberr_args.specs.declared.Multipliers.{Multipliers}
@@ -37,13 +37,13 @@ abbrev whole : ℤ → Float
 whole z = ofInt binary64 z
 
 abbrev pub multipliersOf : Row → Multipliers
-multipliersOf x = record { kept = eqb (x .6 % 2) 1; first = whole (x .0); second = whole (x .2); third = whole (x .4) }
+multipliersOf x = record { bracketed = eqb (x .6 % 2) 1; first = whole (x .0); second = whole (x .2); third = whole (x .4) }
 
 -- a row's terms; q is the row that holds their parts in T, and x .7 is 0 where they have none
 abbrev pub xTerms : Row → Row → Terms
 xTerms x q =
     record {
-      kept = eqb (x .6 / 2 % 2) 1;
+      bracketed = eqb (x .6 / 2 % 2) 1;
       moving = not (eqb (x .7) 0);
       sine = whole (x .8);
       «sine_t» = whole (q .8);
@@ -54,7 +54,7 @@ xTerms x q =
 abbrev pub yTerms : Row → Row → Terms
 yTerms x q =
     record {
-      kept = false;
+      bracketed = false;
       moving = not (eqb (x .7) 0);
       sine = whole (x .10);
       «sine_t» = whole (q .10);
@@ -65,7 +65,7 @@ yTerms x q =
 abbrev pub zTerms : Row → Row → Terms
 zTerms x q =
     record {
-      kept = eqb (x .6 / 4 % 2) 1;
+      bracketed = eqb (x .6 / 4 % 2) 1;
       moving = not (eqb (x .7) 0);
       sine = whole (x .12);
       «sine_t» = whole (q .12);
@@ -95,7 +95,7 @@ argumentOf x g =
     let a = angleOf g (x .1) .0 in
     let b = angleOf g (x .3) .0 in
     let c = angleOf g (x .5) .0 in
-    rad (cond (m .kept) (m .first ⊗ (a ⊖ b)) (plus (plus (times (m .first) a) (m .second) b) (m .third) c))
+    rad (cond (m .bracketed) (m .first ⊗ (a ⊖ b)) (plus (plus (times (m .first) a) (m .second) b) (m .third) c))
 
 -- one coefficient times a sum or a difference: the greater, where they differ
 unfoldable pub grouped : Terms → Float → Float → Float
@@ -125,7 +125,7 @@ spread e t sine cosine v =
 
 -- the sum v with a row's terms
 unfoldable pub shareOf : Terms → Float → Float → Float → Float → Float
-shareOf e t sine cosine v = cond (e .kept) (v ⊕ grouped e sine cosine) (spread e t sine cosine v)
+shareOf e t sine cosine v = cond (e .bracketed) (v ⊕ grouped e sine cosine) (spread e t sine cosine v)
 
 -- the sums v with a row's terms
 unfoldable pub added : Row → Row → Float → Float → Float → Velocity → Velocity
@@ -159,5 +159,5 @@ nothing =
 -- the sums v with a row x of a table
 unfoldable pub withRow : Row → List Row → Arguments → Velocity → Velocity
 withRow x table g v =
-    let a = turnOf (argumentOf x g) in
+    let a = sinCosOf (argumentOf x g) in
     added x (getD table (x .7) nothing) (g .t) (a .sine) (a .cosine) v

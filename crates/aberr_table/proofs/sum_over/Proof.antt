@@ -43,8 +43,8 @@ array-copy-out-x c = search needs
 cast-n : tie.Need-cast-n Inv-loop μ-loop
 cast-n c = search needs
 
-turn-in-requires : tie.Need-turn-in-requires Inv-loop μ-loop
-turn-in-requires c κs = search needs
+sin-cos-in-requires : tie.Need-sin-cos-in-requires Inv-loop μ-loop
+sin-cos-in-requires c κs = search needs
 
 mul-with-terms : tie.Need-mul-with-terms Inv-loop μ-loop
 mul-with-terms c =
@@ -72,7 +72,7 @@ loop-again c =
     let inv = loop .inv in
     let a = c .before .before .before .before .before .before .before .args in
     let inside : loop .i < length (take 36 (a .t1)) = omega (arith, length-take-le 36 (a .t1) (omega (arith, inv .2))) in
-    (omega arith, rw (c .with-terms .ensures, c .before .before .turn-in .ensures) (next (a .t1) (loop .i) _ _ _ (omega arith) inside ∙ inv .1), inv .2, inv .3)
+    (omega arith, rw (c .with-terms .ensures, c .before .before .sin-cos-in .ensures) (next (a .t1) (loop .i) _ _ _ (omega arith) inside ∙ inv .1), inv .2, inv .3)
 
 returns : tie.Need-returns Inv-loop μ-loop
 unfolding walked
@@ -92,7 +92,7 @@ sum-over-spec =
     mul-x
     array-copy-out-x
     cast-n
-    turn-in-requires
+    sin-cos-in-requires
     mul-with-terms
     array-copy-out-with-terms
     with-terms-requires

@@ -3,7 +3,7 @@
 use lib.Ieee.{neg}
 use Rattle.double.specs.rules.Operations.{_⊕_, _⊖_, _⊗_}
 use Rattle.quantity.specs.rules.Angle.{rad}
-use Rattle.elementary.specs.rules.Sine.{turnOf}
+use Rattle.elementary.specs.rules.Sine.{sinCosOf}
 use Rattle.aberr_args.specs.declared.Arguments.{Arguments}
 use Rattle.aberr_args.specs.declared.Velocity.{Velocity}
 use Rattle.aberr_table.specs.rules.Numbers.{n1719914, n2, n25, n13, n1578089, n156, n10, n32, n684185, n358, n6434, n141, n28007, n107, n25697}
@@ -13,7 +13,7 @@ use Rattle.aberr_table.specs.rules.Numbers.{n12, n8, n11, n21, n19, n17,
 
 unfoldable pub row1 : Arguments → Velocity → Velocity
 row1 g v =
-    let a = turnOf (rad (g .l3 .0)) in
+    let a = sinCosOf (rad (g .l3 .0)) in
     record {
       x = v .x ⊕ ((neg n1719914 ⊖ n2 ⊗ g .t) ⊗ a .sine ⊖ n25 ⊗ a .cosine);
       y = v .y ⊕ ((n25 ⊖ n13 ⊗ g .t) ⊗ a .sine ⊕ (n1578089 ⊕ n156 ⊗ g .t) ⊗ a .cosine);
@@ -22,7 +22,7 @@ row1 g v =
 
 unfoldable pub row2 : Arguments → Velocity → Velocity
 row2 g v =
-    let a = turnOf (rad (n2 ⊗ g .l3 .0)) in
+    let a = sinCosOf (rad (n2 ⊗ g .l3 .0)) in
     record {
       x = v .x ⊕ ((n6434 ⊕ n141 ⊗ g .t) ⊗ a .sine ⊕ (n28007 ⊖ n107 ⊗ g .t) ⊗ a .cosine);
       y = v .y ⊕ ((n25697 ⊖ n95 ⊗ g .t) ⊗ a .sine ⊕ (neg n5904 ⊖ n130 ⊗ g .t) ⊗ a .cosine);
@@ -31,7 +31,7 @@ row2 g v =
 
 unfoldable pub row3 : Arguments → Velocity → Velocity
 row3 g v =
-    let a = turnOf (rad (g .l5 .0)) in
+    let a = sinCosOf (rad (g .l5 .0)) in
     record {
       x = v .x ⊕ n715 ⊗ a .sine;
       y = v .y ⊕ (n6 ⊗ a .sine ⊖ n657 ⊗ a .cosine);
@@ -40,7 +40,7 @@ row3 g v =
 
 unfoldable pub row4 : Arguments → Velocity → Velocity
 row4 g v =
-    let a = turnOf (rad (g .l1 .0)) in
+    let a = sinCosOf (rad (g .l1 .0)) in
     record {
       x = v .x ⊕ n715 ⊗ a .sine;
       y = v .y ⊕ neg n656 ⊗ a .cosine;
@@ -49,7 +49,7 @@ row4 g v =
 
 unfoldable pub row5 : Arguments → Velocity → Velocity
 row5 g v =
-    let a = turnOf (rad (n3 ⊗ g .l3 .0)) in
+    let a = sinCosOf (rad (n3 ⊗ g .l3 .0)) in
     record {
       x = v .x ⊕ ((n486 ⊖ n5 ⊗ g .t) ⊗ a .sine ⊕ (neg n236 ⊖ n4 ⊗ g .t) ⊗ a .cosine);
       y = v .y ⊕ ((neg n216 ⊖ n4 ⊗ g .t) ⊗ a .sine ⊕ (neg n446 ⊕ n5 ⊗ g .t) ⊗ a .cosine);
@@ -58,7 +58,7 @@ row5 g v =
 
 unfoldable pub row6 : Arguments → Velocity → Velocity
 row6 g v =
-    let a = turnOf (rad (g .l6 .0)) in
+    let a = sinCosOf (rad (g .l6 .0)) in
     record {
       x = v .x ⊕ n159 ⊗ a .sine;
       y = v .y ⊕ (n2 ⊗ a .sine ⊖ n147 ⊗ a .cosine);
@@ -67,7 +67,7 @@ row6 g v =
 
 unfoldable pub row7 : Arguments → Velocity → Velocity
 row7 g v =
-    let a = turnOf (rad (g .f .0)) in
+    let a = sinCosOf (rad (g .f .0)) in
     record {
       x = v .x;
       y = v .y ⊕ n26 ⊗ a .cosine;
@@ -76,7 +76,7 @@ row7 g v =
 
 unfoldable pub row8 : Arguments → Velocity → Velocity
 row8 g v =
-    let a = turnOf (rad (g .l1 .0 ⊕ g .m1 .0)) in
+    let a = sinCosOf (rad (g .l1 .0 ⊕ g .m1 .0)) in
     record {
       x = v .x ⊕ n39 ⊗ a .sine;
       y = v .y ⊕ neg n36 ⊗ a .cosine;
@@ -85,7 +85,7 @@ row8 g v =
 
 unfoldable pub row9 : Arguments → Velocity → Velocity
 row9 g v =
-    let a = turnOf (rad (n2 ⊗ g .l5 .0)) in
+    let a = sinCosOf (rad (n2 ⊗ g .l5 .0)) in
     record {
       x = v .x ⊕ (n33 ⊗ a .sine ⊖ n10 ⊗ a .cosine);
       y = v .y ⊕ (neg n9 ⊗ a .sine ⊖ n30 ⊗ a .cosine);
@@ -94,7 +94,7 @@ row9 g v =
 
 unfoldable pub row10 : Arguments → Velocity → Velocity
 row10 g v =
-    let a = turnOf (rad (n2 ⊗ g .l3 .0 ⊖ g .l5 .0)) in
+    let a = sinCosOf (rad (n2 ⊗ g .l3 .0 ⊖ g .l5 .0)) in
     record {
       x = v .x ⊕ (n31 ⊗ a .sine ⊕ a .cosine);
       y = v .y ⊕ (a .sine ⊖ n28 ⊗ a .cosine);
@@ -103,7 +103,7 @@ row10 g v =
 
 unfoldable pub row11 : Arguments → Velocity → Velocity
 row11 g v =
-    let a = turnOf (rad (n3 ⊗ g .l3 .0 ⊖ n8 ⊗ g .l4 .0 ⊕ n3 ⊗ g .l5 .0)) in
+    let a = sinCosOf (rad (n3 ⊗ g .l3 .0 ⊖ n8 ⊗ g .l4 .0 ⊕ n3 ⊗ g .l5 .0)) in
     record {
       x = v .x ⊕ (n8 ⊗ a .sine ⊖ n28 ⊗ a .cosine);
       y = v .y ⊕ (n25 ⊗ a .sine ⊕ n8 ⊗ a .cosine);
@@ -112,7 +112,7 @@ row11 g v =
 
 unfoldable pub row12 : Arguments → Velocity → Velocity
 row12 g v =
-    let a = turnOf (rad (n5 ⊗ g .l3 .0 ⊖ n8 ⊗ g .l4 .0 ⊕ n3 ⊗ g .l5 .0)) in
+    let a = sinCosOf (rad (n5 ⊗ g .l3 .0 ⊖ n8 ⊗ g .l4 .0 ⊕ n3 ⊗ g .l5 .0)) in
     record {
       x = v .x ⊕ (n8 ⊗ a .sine ⊖ n28 ⊗ a .cosine);
       y = v .y ⊕ (neg n25 ⊗ a .sine ⊖ n8 ⊗ a .cosine);
@@ -121,7 +121,7 @@ row12 g v =
 
 unfoldable pub row13 : Arguments → Velocity → Velocity
 row13 g v =
-    let a = turnOf (rad (n2 ⊗ g .l2 .0 ⊖ g .l3 .0)) in
+    let a = sinCosOf (rad (n2 ⊗ g .l2 .0 ⊖ g .l3 .0)) in
     record {
       x = v .x ⊕ n21 ⊗ a .sine;
       y = v .y ⊕ neg n19 ⊗ a .cosine;
@@ -130,7 +130,7 @@ row13 g v =
 
 unfoldable pub row14 : Arguments → Velocity → Velocity
 row14 g v =
-    let a = turnOf (rad (g .l2 .0)) in
+    let a = sinCosOf (rad (g .l2 .0)) in
     record {
       x = v .x ⊕ neg n19 ⊗ a .sine;
       y = v .y ⊕ n17 ⊗ a .cosine;
@@ -139,7 +139,7 @@ row14 g v =
 
 unfoldable pub row15 : Arguments → Velocity → Velocity
 row15 g v =
-    let a = turnOf (rad (g .l7 .0)) in
+    let a = sinCosOf (rad (g .l7 .0)) in
     record {
       x = v .x ⊕ n17 ⊗ a .sine;
       y = v .y ⊕ neg n16 ⊗ a .cosine;
@@ -148,7 +148,7 @@ row15 g v =
 
 unfoldable pub row16 : Arguments → Velocity → Velocity
 row16 g v =
-    let a = turnOf (rad (g .l3 .0 ⊖ n2 ⊗ g .l5 .0)) in
+    let a = sinCosOf (rad (g .l3 .0 ⊖ n2 ⊗ g .l5 .0)) in
     record {
       x = v .x ⊕ n16 ⊗ a .sine;
       y = v .y ⊕ n15 ⊗ a .cosine;
@@ -157,7 +157,7 @@ row16 g v =
 
 unfoldable pub row17 : Arguments → Velocity → Velocity
 row17 g v =
-    let a = turnOf (rad (g .l8 .0)) in
+    let a = sinCosOf (rad (g .l8 .0)) in
     record {
       x = v .x ⊕ n16 ⊗ a .sine;
       y = v .y ⊕ (a .sine ⊖ n15 ⊗ a .cosine);
@@ -166,7 +166,7 @@ row17 g v =
 
 unfoldable pub row18 : Arguments → Velocity → Velocity
 row18 g v =
-    let a = turnOf (rad (g .l3 .0 ⊕ g .l5 .0)) in
+    let a = sinCosOf (rad (g .l3 .0 ⊕ g .l5 .0)) in
     record {
       x = v .x ⊕ (n11 ⊗ a .sine ⊖ a .cosine);
       y = v .y ⊕ (neg n1 ⊗ a .sine ⊖ n10 ⊗ a .cosine);
@@ -175,7 +175,7 @@ row18 g v =
 
 unfoldable pub row19 : Arguments → Velocity → Velocity
 row19 g v =
-    let a = turnOf (rad (n2 ⊗ (g .l2 .0 ⊖ g .l3 .0))) in
+    let a = sinCosOf (rad (n2 ⊗ (g .l2 .0 ⊖ g .l3 .0))) in
     record {
       x = v .x ⊕ neg n11 ⊗ a .cosine;
       y = v .y ⊕ neg n10 ⊗ a .sine;
@@ -184,7 +184,7 @@ row19 g v =
 
 unfoldable pub row20 : Arguments → Velocity → Velocity
 row20 g v =
-    let a = turnOf (rad (g .l3 .0 ⊖ g .l5 .0)) in
+    let a = sinCosOf (rad (g .l3 .0 ⊖ g .l5 .0)) in
     record {
       x = v .x ⊕ (neg n11 ⊗ a .sine ⊖ n2 ⊗ a .cosine);
       y = v .y ⊕ (neg n2 ⊗ a .sine ⊕ n9 ⊗ a .cosine);
@@ -193,7 +193,7 @@ row20 g v =
 
 unfoldable pub row21 : Arguments → Velocity → Velocity
 row21 g v =
-    let a = turnOf (rad (n4 ⊗ g .l3 .0)) in
+    let a = sinCosOf (rad (n4 ⊗ g .l3 .0)) in
     record {
       x = v .x ⊕ (neg n7 ⊗ a .sine ⊖ n8 ⊗ a .cosine);
       y = v .y ⊕ (neg n8 ⊗ a .sine ⊕ n6 ⊗ a .cosine);
@@ -202,7 +202,7 @@ row21 g v =
 
 unfoldable pub row22 : Arguments → Velocity → Velocity
 row22 g v =
-    let a = turnOf (rad (n3 ⊗ g .l3 .0 ⊖ n2 ⊗ g .l5 .0)) in
+    let a = sinCosOf (rad (n3 ⊗ g .l3 .0 ⊖ n2 ⊗ g .l5 .0)) in
     record {
       x = v .x ⊕ neg n10 ⊗ a .sine;
       y = v .y ⊕ n9 ⊗ a .cosine;
@@ -211,7 +211,7 @@ row22 g v =
 
 unfoldable pub row23 : Arguments → Velocity → Velocity
 row23 g v =
-    let a = turnOf (rad (g .l2 .0 ⊖ n2 ⊗ g .l3 .0)) in
+    let a = sinCosOf (rad (g .l2 .0 ⊖ n2 ⊗ g .l3 .0)) in
     record {
       x = v .x ⊕ neg n9 ⊗ a .sine;
       y = v .y ⊕ neg n9 ⊗ a .cosine;
@@ -220,7 +220,7 @@ row23 g v =
 
 unfoldable pub row24 : Arguments → Velocity → Velocity
 row24 g v =
-    let a = turnOf (rad (n2 ⊗ g .l2 .0 ⊖ n3 ⊗ g .l3 .0)) in
+    let a = sinCosOf (rad (n2 ⊗ g .l2 .0 ⊖ n3 ⊗ g .l3 .0)) in
     record {
       x = v .x ⊕ neg n9 ⊗ a .sine;
       y = v .y ⊕ neg n8 ⊗ a .cosine;
@@ -229,7 +229,7 @@ row24 g v =
 
 unfoldable pub row25 : Arguments → Velocity → Velocity
 row25 g v =
-    let a = turnOf (rad (n2 ⊗ g .l6 .0)) in
+    let a = sinCosOf (rad (n2 ⊗ g .l6 .0)) in
     record {
       x = v .x ⊕ neg n9 ⊗ a .cosine;
       y = v .y ⊕ neg n8 ⊗ a .sine;
@@ -238,7 +238,7 @@ row25 g v =
 
 unfoldable pub row26 : Arguments → Velocity → Velocity
 row26 g v =
-    let a = turnOf (rad (n2 ⊗ g .l2 .0 ⊖ n4 ⊗ g .l3 .0)) in
+    let a = sinCosOf (rad (n2 ⊗ g .l2 .0 ⊖ n4 ⊗ g .l3 .0)) in
     record {
       x = v .x ⊕ neg n9 ⊗ a .cosine;
       y = v .y ⊕ n8 ⊗ a .sine;
@@ -247,7 +247,7 @@ row26 g v =
 
 unfoldable pub row27 : Arguments → Velocity → Velocity
 row27 g v =
-    let a = turnOf (rad (n3 ⊗ g .l3 .0 ⊖ n2 ⊗ g .l4 .0)) in
+    let a = sinCosOf (rad (n3 ⊗ g .l3 .0 ⊖ n2 ⊗ g .l4 .0)) in
     record {
       x = v .x ⊕ n8 ⊗ a .sine;
       y = v .y ⊕ neg n8 ⊗ a .cosine;
@@ -256,7 +256,7 @@ row27 g v =
 
 unfoldable pub row28 : Arguments → Velocity → Velocity
 row28 g v =
-    let a = turnOf (rad (g .l1 .0 ⊕ n2 ⊗ g .d .0 ⊖ g .m1 .0)) in
+    let a = sinCosOf (rad (g .l1 .0 ⊕ n2 ⊗ g .d .0 ⊖ g .m1 .0)) in
     record {
       x = v .x ⊕ n8 ⊗ a .sine;
       y = v .y ⊕ neg n7 ⊗ a .cosine;
@@ -265,7 +265,7 @@ row28 g v =
 
 unfoldable pub row29 : Arguments → Velocity → Velocity
 row29 g v =
-    let a = turnOf (rad (n8 ⊗ g .l2 .0 ⊖ n12 ⊗ g .l3 .0)) in
+    let a = sinCosOf (rad (n8 ⊗ g .l2 .0 ⊖ n12 ⊗ g .l3 .0)) in
     record {
       x = v .x ⊕ (neg n4 ⊗ a .sine ⊖ n7 ⊗ a .cosine);
       y = v .y ⊕ (neg n6 ⊗ a .sine ⊕ n4 ⊗ a .cosine);
@@ -274,7 +274,7 @@ row29 g v =
 
 unfoldable pub row30 : Arguments → Velocity → Velocity
 row30 g v =
-    let a = turnOf (rad (n8 ⊗ g .l2 .0 ⊖ n14 ⊗ g .l3 .0)) in
+    let a = sinCosOf (rad (n8 ⊗ g .l2 .0 ⊖ n14 ⊗ g .l3 .0)) in
     record {
       x = v .x ⊕ (neg n4 ⊗ a .sine ⊖ n7 ⊗ a .cosine);
       y = v .y ⊕ (n6 ⊗ a .sine ⊖ n4 ⊗ a .cosine);
@@ -283,7 +283,7 @@ row30 g v =
 
 unfoldable pub row31 : Arguments → Velocity → Velocity
 row31 g v =
-    let a = turnOf (rad (n2 ⊗ g .l4 .0)) in
+    let a = sinCosOf (rad (n2 ⊗ g .l4 .0)) in
     record {
       x = v .x ⊕ (neg n6 ⊗ a .sine ⊖ n5 ⊗ a .cosine);
       y = v .y ⊕ (neg n4 ⊗ a .sine ⊕ n5 ⊗ a .cosine);
@@ -292,7 +292,7 @@ row31 g v =
 
 unfoldable pub row32 : Arguments → Velocity → Velocity
 row32 g v =
-    let a = turnOf (rad (n3 ⊗ g .l2 .0 ⊖ n4 ⊗ g .l3 .0)) in
+    let a = sinCosOf (rad (n3 ⊗ g .l2 .0 ⊖ n4 ⊗ g .l3 .0)) in
     record {
       x = v .x ⊕ neg n1 ⊗ (a .sine ⊕ a .cosine);
       y = v .y ⊕ (neg n2 ⊗ a .sine ⊖ n7 ⊗ a .cosine);
@@ -301,7 +301,7 @@ row32 g v =
 
 unfoldable pub row33 : Arguments → Velocity → Velocity
 row33 g v =
-    let a = turnOf (rad (n2 ⊗ (g .l3 .0 ⊖ g .l5 .0))) in
+    let a = sinCosOf (rad (n2 ⊗ (g .l3 .0 ⊖ g .l5 .0))) in
     record {
       x = v .x ⊕ (n4 ⊗ a .sine ⊖ n6 ⊗ a .cosine);
       y = v .y ⊕ (neg n5 ⊗ a .sine ⊖ n4 ⊗ a .cosine);
@@ -310,7 +310,7 @@ row33 g v =
 
 unfoldable pub row34 : Arguments → Velocity → Velocity
 row34 g v =
-    let a = turnOf (rad (n3 ⊗ (g .l2 .0 ⊖ g .l3 .0))) in
+    let a = sinCosOf (rad (n3 ⊗ (g .l2 .0 ⊖ g .l3 .0))) in
     record {
       x = v .x ⊕ neg n7 ⊗ a .cosine;
       y = v .y ⊕ neg n6 ⊗ a .sine;
@@ -319,7 +319,7 @@ row34 g v =
 
 unfoldable pub row35 : Arguments → Velocity → Velocity
 row35 g v =
-    let a = turnOf (rad (n2 ⊗ (g .l3 .0 ⊖ g .l4 .0))) in
+    let a = sinCosOf (rad (n2 ⊗ (g .l3 .0 ⊖ g .l4 .0))) in
     record {
       x = v .x ⊕ n5 ⊗ (a .sine ⊖ a .cosine);
       y = v .y ⊕ (neg n4 ⊗ a .sine ⊖ n5 ⊗ a .cosine);
@@ -328,7 +328,7 @@ row35 g v =
 
 unfoldable pub row36 : Arguments → Velocity → Velocity
 row36 g v =
-    let a = turnOf (rad (g .l1 .0 ⊖ n2 ⊗ g .d .0)) in
+    let a = sinCosOf (rad (g .l1 .0 ⊖ n2 ⊗ g .d .0)) in
     record {
       x = v .x ⊕ n5 ⊗ a .sine;
       y = v .y ⊕ neg n5 ⊗ a .cosine;

@@ -1,4 +1,4 @@
--- `batch::batch` meets its contract: before each turn the stars so far are stored and counted, and a turn does two more.
+-- `batch::batch` meets its contract: before each pass the stars so far are stored and counted, and a pass does two more.
 use borrow.Author.Needs.{needs}
 use borrow.Author.Tests.{ne-eqb}
 use mathlib.Core.Path.{_≡_, sym, ap, _∙_}
@@ -7,9 +7,9 @@ use native.Mathlib.Omega.{arith}
 use Rattle.double.specs.laws.Calls.{asks-nothing}
 use Rattle.quantity.specs.rules.Answer.{firstPlace, secondPlace}
 use Rattle.list.specs.rules.Stars.{countOf}
-use Rattle.batch.specs.notions.Kept.{under, Begun, Upto}
+use Rattle.batch.specs.notions.StarStored.{under, Begun, Upto}
 use Rattle.batch.specs.laws.Star.{first-star, second-star}
-use Rattle.batch.specs.laws.Kept.{few-stars, none-kept, places-there, one-kept, all-kept}
+use Rattle.batch.specs.laws.StarStored.{few-stars, no-star-stored, places-there, one-star-stored, all-stars-stored}
 use Rattle.batch.proofs.batch.Statement.{statement}
 use Rattle.batch.proofs.batch.Tie as tie
 
@@ -40,12 +40,12 @@ module _ (c : tie.After-count Inv-loop μ-loop) where
   begun = record { none = sym (c .before .before .before .before .batch-refusal .ensures) ∙ c .before .before .if1 .left; night-is = c .before .night-of .ensures }
 
 loop-holds : tie.Need-loop-holds Inv-loop μ-loop
-loop-holds c = (search needs, (c .count .ensures, none-kept (begun c) _ (c .before .before .before .new .ensures)))
+loop-holds c = (search needs, (c .count .ensures, no-star-stored (begun c) _ (c .before .before .before .new .ensures)))
 
 add-loop : tie.Need-add-loop Inv-loop μ-loop
 add-loop c = omega (arith, c .loop .inv .0, c .loop .inv .1 .0, few-stars (begun (c .before)))
 
--- in a turn both stars are there
+-- in a pass both stars are there
 module _ (c : tie.In-loop Inv-loop μ-loop) where
   both-there : c .before .loop .i + 1 < countOf (begin (c .before .before) .args .bytes .now)
   both-there = omega (arith, c .loop-test .taken, c .before .loop .inv .1 .0)
@@ -53,36 +53,36 @@ module _ (c : tie.In-loop Inv-loop μ-loop) where
 add-j : tie.Need-add-j Inv-loop μ-loop
 add-j c = omega (arith, both-there c, few-stars (begun (c .before .before)))
 
-keep-requires : tie.Need-keep-requires Inv-loop μ-loop
-keep-requires c κs =
-    let turn = c .before .before .before .before .before .before in
-    places-there (begun (turn .before .before)) (turn .before .loop .inv .1 .1) _ (omega (arith, both-there turn))
+store-star-requires : tie.Need-store-star-requires Inv-loop μ-loop
+store-star-requires c κs =
+    let pass = c .before .before .before .before .before .before in
+    places-there (begun (pass .before .before)) (pass .before .loop .inv .1 .1) _ (omega (arith, both-there pass))
 
 -- the first of the two is stored
-module _ (c : tie.After-keep Inv-loop μ-loop) where
-  abbrev in-turn : tie.In-loop Inv-loop μ-loop
-  in-turn = c .before .before .before .before .before .before .before
+module _ (c : tie.After-store-star Inv-loop μ-loop) where
+  abbrev in-pass : tie.In-loop Inv-loop μ-loop
+  in-pass = c .before .before .before .before .before .before .before
 
-  abbrev before-turn : tie.After-count Inv-loop μ-loop
-  before-turn = in-turn .before .before
+  abbrev before-pass : tie.After-count Inv-loop μ-loop
+  before-pass = in-pass .before .before
 
-  first-stored : Upto (before-turn .before .night-of .result) (begin before-turn .args .bytes .now) (begin before-turn .args .status .now) (begin before-turn .args .asc .now) (begin before-turn .args .dec .now) (in-turn .before .loop .i + 1) (c .keep .result) (c .keep .last .0) (c .keep .last .1 .0) (c .keep .last .1 .1 .0)
+  first-stored : Upto (before-pass .before .night-of .result) (begin before-pass .args .bytes .now) (begin before-pass .args .status .now) (begin before-pass .args .asc .now) (begin before-pass .args .dec .now) (in-pass .before .loop .i + 1) (c .store-star .result) (c .store-star .last .0) (c .store-star .last .1 .0) (c .store-star .last .1 .1 .0)
   first-stored =
       let at-two = c .before .before .before .before in
-      one-kept (begun before-turn) (in-turn .before .loop .inv .1 .1) (omega (arith, both-there in-turn))
-      (ap firstPlace (at-two .reduce-two .ensures) ∙ first-star _ _ _ ∙ ap (under (before-turn .before .night-of .result)) (at-two .before .before .nth .ensures))
-      (c .keep .ensures)
+      one-star-stored (begun before-pass) (in-pass .before .loop .inv .1 .1) (omega (arith, both-there in-pass))
+      (ap firstPlace (at-two .two-stars-under .ensures) ∙ first-star _ _ _ ∙ ap (under (before-pass .before .night-of .result)) (at-two .before .before .nth .ensures))
+      (c .store-star .ensures)
 
-keep-requires-2 : tie.Need-keep-requires-2 Inv-loop μ-loop
-keep-requires-2 c κs =
+store-star-requires-2 : tie.Need-store-star-requires-2 Inv-loop μ-loop
+store-star-requires-2 c κs =
     let at-first = c .before .before .before .before .before .before .before .before .before in
-    places-there (begun (before-turn at-first)) (first-stored at-first) _ (both-there (in-turn at-first))
+    places-there (begun (before-pass at-first)) (first-stored at-first) _ (both-there (in-pass at-first))
 
 add-i : tie.Need-add-i Inv-loop μ-loop
 add-i c =
     let at-second = c .before .before .before .before .before .before in
     let at-first = at-second .before .before .before .before .before .before .before .before .before .before in
-    omega (arith, both-there (in-turn at-first), few-stars (begun (before-turn at-first)))
+    omega (arith, both-there (in-pass at-first), few-stars (begun (before-pass at-first)))
 
 loop-less : tie.Need-loop-less Inv-loop μ-loop
 loop-less c = search needs
@@ -94,10 +94,10 @@ loop-again c =
     let at-two = at-first .before .before .before .before in (
       search needs,
       (
-        in-turn at-first .before .loop .inv .1 .0,
-        one-kept (begun (before-turn at-first)) (first-stored at-first) (both-there (in-turn at-first))
-            (ap secondPlace (at-two .reduce-two .ensures) ∙ second-star _ _ _ ∙ ap (under (before-turn at-first .before .night-of .result)) (at-two .before .nth2 .ensures))
-            (at-second .keep2 .ensures),
+        in-pass at-first .before .loop .inv .1 .0,
+        one-star-stored (begun (before-pass at-first)) (first-stored at-first) (both-there (in-pass at-first))
+            (ap secondPlace (at-two .two-stars-under .ensures) ∙ second-star _ _ _ ∙ ap (under (before-pass at-first .before .night-of .result)) (at-two .before .nth2 .ensures))
+            (at-second .store-star2 .ensures),
       ),
     )
 
@@ -106,25 +106,25 @@ module _ (c : tie.Then2 Inv-loop μ-loop) where
   last-there : c .before .before .loop .i < countOf (begin (c .before .before .before) .args .bytes .now)
   last-there = omega (arith, c .if2 .taken, c .before .before .loop .inv .1 .0)
 
-keep-requires-3 : tie.Need-keep-requires-3 Inv-loop μ-loop
-keep-requires-3 c κs =
+store-star-requires-3 : tie.Need-store-star-requires-3 Inv-loop μ-loop
+store-star-requires-3 c κs =
     let left = c .before .before .before .before .before in
     places-there (begun (left .before .before .before)) (left .before .before .loop .inv .1 .1) _ (last-there left)
 
 -- and then stored
-module _ (c : tie.After-keep3 Inv-loop μ-loop) where
+module _ (c : tie.After-store-star3 Inv-loop μ-loop) where
   abbrev with-one-left : tie.Then2 Inv-loop μ-loop
   with-one-left = c .before .before .before .before .before .before
 
   abbrev before-last : tie.After-count Inv-loop μ-loop
   before-last = with-one-left .before .before .before
 
-  last-stored : Upto (before-last .before .night-of .result) (begin before-last .args .bytes .now) (begin before-last .args .status .now) (begin before-last .args .asc .now) (begin before-last .args .dec .now) (with-one-left .before .before .loop .i + 1) (c .keep3 .result) (c .keep3 .last .0) (c .keep3 .last .1 .0) (c .keep3 .last .1 .1 .0)
+  last-stored : Upto (before-last .before .night-of .result) (begin before-last .args .bytes .now) (begin before-last .args .status .now) (begin before-last .args .asc .now) (begin before-last .args .dec .now) (with-one-left .before .before .loop .i + 1) (c .store-star3 .result) (c .store-star3 .last .0) (c .store-star3 .last .1 .0) (c .store-star3 .last .1 .1 .0)
   last-stored =
       let at-two = c .before .before .before .before in
-      one-kept (begun before-last) (with-one-left .before .before .loop .inv .1 .1) (last-there with-one-left)
-      (ap firstPlace (at-two .reduce-two2 .ensures) ∙ first-star _ _ _ ∙ ap (under (before-last .before .night-of .result)) (at-two .before .nth3 .ensures))
-      (c .keep3 .ensures)
+      one-star-stored (begun before-last) (with-one-left .before .before .loop .inv .1 .1) (last-there with-one-left)
+      (ap firstPlace (at-two .two-stars-under2 .ensures) ∙ first-star _ _ _ ∙ ap (under (before-last .before .night-of .result)) (at-two .before .nth3 .ensures))
+      (c .store-star3 .ensures)
 
 same-length : tie.Need-same-length Inv-loop μ-loop
 same-length c = last-stored (c .before .before .before .before .before .before) .statuses .long
@@ -139,7 +139,7 @@ returns-2 : tie.Need-returns-2 Inv-loop μ-loop
 returns-2 c =
     let at-last = c .before .before .before .before .before .before in
     let left = with-one-left at-last in
-    all-kept (begun (before-last at-last)) (last-stored at-last)
+    all-stars-stored (begun (before-last at-last)) (last-stored at-last)
     (omega (arith, left .before .loop-test .left, last-there left, left .before .before .loop .inv .1 .0))
 
 same-length-4 : tie.Need-same-length-4 Inv-loop μ-loop
@@ -154,7 +154,7 @@ same-length-6 c = c .before .before .loop .inv .1 .1 .decs .long
 returns-3 : tie.Need-returns-3 Inv-loop μ-loop
 returns-3 c =
     let inv = c .before .before .loop .inv in
-    all-kept (begun (c .before .before .before)) (inv .1 .1) (omega (arith, c .if2 .left, inv .0, inv .1 .0))
+    all-stars-stored (begun (c .before .before .before)) (inv .1 .1) (omega (arith, c .if2 .left, inv .0, inv .1 .0))
 
 pub batch-spec : {M : Type 1} → statement M
 batch-spec =
@@ -173,14 +173,14 @@ batch-spec =
     asks-nothing
     asks-nothing
     asks-nothing
-    keep-requires
-    keep-requires-2
+    store-star-requires
+    store-star-requires-2
     add-i
     loop-less
     loop-again
     asks-nothing
     asks-nothing
-    keep-requires-3
+    store-star-requires-3
     same-length
     same-length-2
     same-length-3

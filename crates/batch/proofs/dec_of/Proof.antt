@@ -4,7 +4,7 @@ use lib.IntN.{ℤ}
 use Rattle.double.specs.laws.Calls.{asks-nothing}
 use Rattle.units.specs.rules.Degrees.{degreesOf}
 use Rattle.helpers.specs.rules.Angle.{radiansOf}
-use Rattle.list_words.specs.laws.Signed.{signed-word}
+use Rattle.signed.specs.laws.Signed.{signed-word}
 use Rattle.batch.proofs.dec_of.Statement.{statement}
 use Rattle.batch.proofs.dec_of.Tie as tie
 

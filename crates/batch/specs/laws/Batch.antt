@@ -23,7 +23,7 @@ use Rattle.list.specs.laws.Stars.{length-stars, few}
 use Rattle.list_tally.specs.declared.Raised.{Raised}
 use Rattle.list_tally.specs.declared.Tally.{Tally}
 use Rattle.list_tally.specs.rules.Status.{highestStatus}
-use Rattle.list_tally.specs.rules.Tally.{places, raiseRule, times, tallyOf, empty, raisedBy, AllKnown}
+use Rattle.list_tally.specs.rules.Tally.{countsInAll, raiseRule, times, tallyOf, empty, raisedBy, AllKnown}
 use Rattle.list_tally.specs.laws.Tally.{times-most, raise-more, counts-all}
 use Rattle.batch.specs.declared.Batched.{Batched}
 use Rattle.batch.specs.rules.Star.{starRule, firstOf, secondOf, firstBits, secondBits}
@@ -101,7 +101,7 @@ module _ (answer : Star → Answer Pair) (known : (star : Star) → statusOf (an
       (ap (λ (n : ℕ). take i statuses ++ (n ∷ [])) (status ∙ value statusOf answer s i)
       ∙ sym (rw add-one (take-suc statuses i (statusOf (answer nought)) (omega arith))))
 
-  -- after the last turn
+  -- after the last pass
   pub raised-all : (i : ℕ) → i ≡ countOf s → take i statuses ≡ statuses
   raised-all i e = ap (λ (n : ℕ). take n statuses) (e ∙ sym (how-many statusOf answer s)) ∙ take-length statuses
 
@@ -157,11 +157,11 @@ module _ {edition : Edition} {s : List ℕ} {day1 day2 : Float} {status asc dec 
         ∙ take-at (statusesOf edition s day1 day2) (drop (length (statusesOf edition s day1 day2)) status) (countOf s) (how-many statusOf answer s)
 
     -- each count is the number of status bytes of that value
-    pub tally-counts-bytes : (k : ℕ) → k < places → getD (r .tally .counts) k 0 ≡ times k (take (countOf s) status′)
+    pub tally-counts-bytes : (k : ℕ) → k < countsInAll → getD (r .tally .counts) k 0 ≡ times k (take (countOf s) status′)
     unfolding tallyOf
     tally-counts-bytes k h =
         ap (λ (t : Tally). getD (t .counts) k 0) tally-is
-        ∙ getD-upto places (λ (j : ℕ). times j (statusesOf edition s day1 day2)) k 0 h
+        ∙ getD-upto countsInAll (λ (j : ℕ). times j (statusesOf edition s day1 day2)) k 0 h
         ∙ ap (times k) (sym bytes-are)
 
     -- the tally is the empty one, raised by each star's status in the list's order

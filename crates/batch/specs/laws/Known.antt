@@ -14,14 +14,14 @@ use Rattle.edition.specs.declared.Edition.{Edition}
 use Rattle.root.specs.rules.Root.{rootRule, rootRefusal}
 use Rattle.elementary_arc.specs.rules.Arctangent.{bothZero, arctangentIn}
 use Rattle.elementary_arc.specs.rules.Arcsine.{arcsineIn}
-use Rattle.precess_angles.specs.declared.EqTurns.{EqTurns}
-use Rattle.precess.specs.rules.Equatorial.{placed, turnedIn}
+use Rattle.precess_angles.specs.declared.EqPrecession.{EqPrecession}
+use Rattle.precess.specs.rules.Equatorial.{precessedFrom, precessedIn}
 use Rattle.chain.specs.declared.Night.{Night}
-use Rattle.chain.specs.rules.Night.{nightFrom, nightOf, moved, movedUnder, reducedAt, reducedIn}
+use Rattle.chain.specs.rules.Night.{nightFrom, nightOf, moved, movedUnder, pointUnder, placeUnder}
 use Rattle.list_tally.specs.rules.Status.{highestStatus}
 use Rattle.list.specs.declared.Star.{Star}
 use Rattle.list.specs.rules.Record.{inRange}
-use Rattle.batch.specs.rules.Star.{ascOf, decOf, reduceStar}
+use Rattle.batch.specs.rules.Star.{ascOf, decOf, starUnder}
 
 -- ---- numbers, and what rules do with answers
 
@@ -91,27 +91,27 @@ known-arcsine s =
     known-choice (lt one (size s)) (refused 7) _ (omega arith)
     (known-then _ _ (known-root _) (λ (r : Float). known-arctangent s r))
 
-known-turned : (asc dec : Rad) (turns : EqTurns) → statusOf (turnedIn asc dec turns) ≤ highestStatus
-unfolding turnedIn placed
-known-turned asc dec turns = known-both _ _ (known-plus _ _ (known-arctangent _ _)) (known-arcsine _)
+known-precessed : (asc dec : Rad) (precession : EqPrecession) → statusOf (precessedIn asc dec precession) ≤ highestStatus
+unfolding precessedIn precessedFrom
+known-precessed asc dec precession = known-both _ _ (known-plus _ _ (known-arctangent _ _)) (known-arcsine _)
 
 known-night : (edition : Edition) (day1 day2 : Float) → nightOf edition day1 day2 .refusal ≤ highestStatus
 unfolding nightOf nightFrom
 known-night edition day1 day2 = known-lower _ _ (known-angle _) (known-lower _ _ (known-angle _) (known-angle _))
 
 module _ (night : Night) (h : night .refusal ≤ highestStatus) where
-  known-at : (p : EqPoint) → statusOf (reducedAt p night) ≤ highestStatus
-  unfolding reducedAt movedUnder moved
+  known-at : (p : EqPoint) → statusOf (pointUnder p night) ≤ highestStatus
+  unfolding pointUnder movedUnder moved
   known-at p = known-unless _ _ (known-lower _ _ (known-lower _ _ (known-angle _) (known-steep _)) h) (omega arith)
 
-  known-in : (asc dec : Rad) → statusOf (reducedIn asc dec night) ≤ highestStatus
-  unfolding reducedIn
-  known-in asc dec = known-then _ _ (known-turned asc dec (night .turns)) (λ (p : Pair). known-at _)
+  known-in : (asc dec : Rad) → statusOf (placeUnder asc dec night) ≤ highestStatus
+  unfolding placeUnder
+  known-in asc dec = known-then _ _ (known-precessed asc dec (night .precession)) (λ (p : Pair). known-at _)
 
-  known-star : (star : Star) → statusOf (reduceStar star night) ≤ highestStatus
-  unfolding reduceStar
+  known-star : (star : Star) → statusOf (starUnder star night) ≤ highestStatus
+  unfolding starUnder
   known-star star =
       known-choice (inRange star) _ (refused 9) (known-in (ascOf star) (decOf star)) (omega arith)
 
-pub known-under : (edition : Edition) (star : Star) (day1 day2 : Float) → statusOf (reduceStar star (nightOf edition day1 day2)) ≤ highestStatus
+pub known-under : (edition : Edition) (star : Star) (day1 day2 : Float) → statusOf (starUnder star (nightOf edition day1 day2)) ≤ highestStatus
 known-under edition star day1 day2 = known-star (nightOf edition day1 day2) (known-night edition day1 day2) star

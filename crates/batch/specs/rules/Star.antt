@@ -13,8 +13,8 @@ use Rattle.edition.specs.declared.Edition.{Edition}
 use Rattle.helpers.specs.rules.Angle.{radiansOf}
 use Rattle.chain.specs.declared.Night.{Night}
 use Rattle.chain.specs.rules.Chain.{chainRule}
-use Rattle.chain.specs.rules.Night.{reducedIn}
-use Rattle.chain.specs.rules.Two.{reducedTwo}
+use Rattle.chain.specs.rules.Night.{placeUnder}
+use Rattle.chain.specs.rules.Two.{twoPlacesUnder}
 use Rattle.list.specs.declared.Star.{Star}
 use Rattle.list.specs.rules.Record.{inRange}
 
@@ -29,14 +29,14 @@ unfoldable pub starRule : Edition → Star → Float → Float → Answer Pair
 starRule edition star day1 day2 = cond (inRange star) (chainRule edition (ascOf star) (decOf star) day1 day2) (refused 9)
 
 -- the same under a night, whose days are not refused; the angles of a star in range never are
-unfoldable pub reduceStar : Star → Night → Answer Pair
-reduceStar star night = cond (inRange star) (reducedIn (ascOf star) (decOf star) night) (refused 9)
+unfoldable pub starUnder : Star → Night → Answer Pair
+starUnder star night = cond (inRange star) (placeUnder (ascOf star) (decOf star) night) (refused 9)
 
 -- two stars side by side, every float of both fixed whatever is refused; `first-star` and `second-star` in laws/Star say that each has
 -- the place that it has alone
-unfoldable pub reduceTwo : Star → Star → Night → Places
-reduceTwo a b night =
-    let p = reducedTwo (ascOf a) (decOf a) (ascOf b) (decOf b) night in
+unfoldable pub twoStarsUnder : Star → Star → Night → Places
+twoStarsUnder a b night =
+    let p = twoPlacesUnder (ascOf a) (decOf a) (ascOf b) (decOf b) night in
     record {
       «first_asc» = p .«first_asc»;
       «second_asc» = p .«second_asc»;

@@ -4,39 +4,39 @@ use mathlib.Core.Path.{_≡_, refl}
 use lib.IntN.{ℤ}
 use Rattle.quantity.specs.rules.Answer.{Answer}
 use Rattle.list.specs.declared.Star.{Star}
-use Rattle.list_groups.specs.rules.Reading.{Placed}
+use Rattle.list_groups.specs.rules.Reading.{AtOffset}
 use Rattle.list_radio.specs.declared.Opened.{Opened}
 use Rattle.list_radio.specs.declared.Opened.the-variants as opened
-use Rattle.list_radio.specs.declared.Sighted.{Sighted}
-use Rattle.list_radio.specs.declared.Sighted.the-variants as sighted
+use Rattle.list_radio.specs.declared.Received.{Received}
+use Rattle.list_radio.specs.declared.Received.the-variants as received
 use Rattle.list_radio.specs.declared.Accepted.{Accepted}
 use Rattle.list_radio.specs.declared.Accepted.the-variants as accepted
-use Rattle.list_radio.specs.rules.Reader.{shownOpened, shownSighted, shownAccepted}
-use Rattle.brundelak.specs.rules.Put.{ToldNumber}
-use Rattle.brundelak.specs.rules.Radio.{ToldOpened, ToldSighted}
+use Rattle.list_radio.specs.rules.Reader.{shownOpened, shownReceived, shownAccepted}
+use Rattle.brundelak.specs.rules.Put.{HandedNumber}
+use Rattle.brundelak.specs.rules.Radio.{HandedOpened, HandedReceived}
 
-pub opened-told : {a : Answer (Placed ℕ)} {r : Opened} {stars first count place : ℕ} → shownOpened r ≡ a
-    → r ≡ opened.Stars stars first → ToldOpened a 0 count place stars first
-opened-told p e = rw (← p, e) (record { answers = refl; leaves-count = refl; leaves-place = refl })
+pub opened-handed : {a : Answer (AtOffset ℕ)} {r : Opened} {stars first count offset : ℕ} → shownOpened r ≡ a
+    → r ≡ opened.Stars stars first → HandedOpened a 0 count offset stars first
+opened-handed p e = rw (← p, e) (record { answers = refl; leaves-count = refl; leaves-offset = refl })
 
-pub not-opened-told : {a : Answer (Placed ℕ)} {r : Opened} {n count place : ℕ} → shownOpened r ≡ a → r ≡ opened.Refused n
-    → ToldOpened a n count place count place
-not-opened-told p e = rw (← p, e) (record { answers = refl; leaves-count = refl; leaves-place = refl })
+pub not-opened-handed : {a : Answer (AtOffset ℕ)} {r : Opened} {n count offset : ℕ} → shownOpened r ≡ a → r ≡ opened.Refused n
+    → HandedOpened a n count offset count offset
+not-opened-handed p e = rw (← p, e) (record { answers = refl; leaves-count = refl; leaves-offset = refl })
 
-pub sighted-told : {a : Answer (Placed Star)} {r : Sighted} {star : Star} {after number asc next : ℕ} {z dec : ℤ} → shownSighted r ≡ a
-    → r ≡ sighted.Star star after → z ≡ star .dec → ToldSighted a 0 number asc dec next (star .number) (star .asc) z after
-sighted-told p e same =
+pub received-handed : {a : Answer (AtOffset Star)} {r : Received} {star : Star} {after number asc next : ℕ} {z dec : ℤ} → shownReceived r ≡ a
+    → r ≡ received.Star star after → z ≡ star .dec → HandedReceived a 0 number asc dec next (star .number) (star .asc) z after
+received-handed p e same =
     rw (← p, e) (record { answers = refl; leaves-number = refl; leaves-asc = refl; leaves-dec = same; leaves-next = refl })
 
-pub not-sighted-told : {a : Answer (Placed Star)} {r : Sighted} {n number asc next : ℕ} {dec : ℤ} → shownSighted r ≡ a
-    → r ≡ sighted.Refused n → ToldSighted a n number asc dec next number asc dec next
-not-sighted-told p e =
+pub not-received-handed : {a : Answer (AtOffset Star)} {r : Received} {n number asc next : ℕ} {dec : ℤ} → shownReceived r ≡ a
+    → r ≡ received.Refused n → HandedReceived a n number asc dec next number asc dec next
+not-received-handed p e =
     rw (← p, e) (record { answers = refl; leaves-number = refl; leaves-asc = refl; leaves-dec = refl; leaves-next = refl })
 
-pub accepted-told : {a : Answer ℕ} {r : Accepted} {stars count : ℕ} → shownAccepted r ≡ a → r ≡ accepted.Stars stars
-    → ToldNumber a 0 count stars
-accepted-told p e = rw (← p, e) (record { answers = refl; leaves = refl })
+pub accepted-handed : {a : Answer ℕ} {r : Accepted} {stars count : ℕ} → shownAccepted r ≡ a → r ≡ accepted.Stars stars
+    → HandedNumber a 0 count stars
+accepted-handed p e = rw (← p, e) (record { answers = refl; leaves = refl })
 
-pub not-accepted-told : {a : Answer ℕ} {r : Accepted} {n count : ℕ} → shownAccepted r ≡ a → r ≡ accepted.Refused n
-    → ToldNumber a n count count
-not-accepted-told p e = rw (← p, e) (record { answers = refl; leaves = refl })
+pub not-accepted-handed : {a : Answer ℕ} {r : Accepted} {n count : ℕ} → shownAccepted r ≡ a → r ≡ accepted.Refused n
+    → HandedNumber a n count count
+not-accepted-handed p e = rw (← p, e) (record { answers = refl; leaves = refl })

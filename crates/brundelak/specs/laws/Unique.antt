@@ -8,56 +8,56 @@ use lib.IntN.{ℤ}
 use lib.Ieee.{Float}
 use Rattle.quantity.specs.rules.Answer.{Answer}
 use Rattle.list.specs.rules.Find.{Entry}
-use Rattle.list.specs.rules.Reader.{Sight}
+use Rattle.list.specs.rules.Reader.{Item}
 use Rattle.list.specs.declared.Star.{Star}
-use Rattle.list_groups.specs.rules.Reading.{Placed}
+use Rattle.list_groups.specs.rules.Reading.{AtOffset}
 use Rattle.edition.specs.declared.Edition.{Edition}
 use Rattle.batch.specs.declared.Batched.{Batched}
 use Rattle.batch.specs.laws.Batch.{batch-fixes-all}
-use Rattle.brundelak.specs.rules.Stored.{ToldFound, ToldStar, ToldBatch, ToldRaise}
-use Rattle.brundelak.specs.rules.Put.{ToldNumber, ToldPut}
-use Rattle.brundelak.specs.rules.Radio.{ToldOpened, ToldSighted}
+use Rattle.brundelak.specs.rules.Stored.{HandedFound, HandedStar, HandedBatch, HandedRaise}
+use Rattle.brundelak.specs.rules.Put.{HandedNumber, HandedPut}
+use Rattle.brundelak.specs.rules.Radio.{HandedOpened, HandedReceived}
 
-pub one-told-found : {a : Answer Entry} {n m index asc i i′ r r′ : ℕ} {dec d d′ : ℤ} → ToldFound a n index asc dec i r d
-    → ToldFound a m index asc dec i′ r′ d′ → (n ≡ m) × ((i ≡ i′) × ((r ≡ r′) × (d ≡ d′)))
-one-told-found t u =
+pub one-handed-found : {a : Answer Entry} {n m index asc i i′ r r′ : ℕ} {dec d d′ : ℤ} → HandedFound a n index asc dec i r d
+    → HandedFound a m index asc dec i′ r′ d′ → (n ≡ m) × ((i ≡ i′) × ((r ≡ r′) × (d ≡ d′)))
+one-handed-found t u =
     (t .answers ∙ sym (u .answers), (t .leaves-index ∙ sym (u .leaves-index), (t .leaves-asc ∙ sym (u .leaves-asc), t .leaves-dec ∙ sym (u .leaves-dec))))
 
-pub one-told-star : {a : Answer Sight} {n m number asc next i i′ r r′ k k′ : ℕ} {dec d d′ : ℤ}
-    → ToldStar a n number asc dec next i r d k → ToldStar a m number asc dec next i′ r′ d′ k′
+pub one-handed-star : {a : Answer Item} {n m number asc next i i′ r r′ k k′ : ℕ} {dec d d′ : ℤ}
+    → HandedStar a n number asc dec next i r d k → HandedStar a m number asc dec next i′ r′ d′ k′
     → (n ≡ m) × ((i ≡ i′) × ((r ≡ r′) × ((d ≡ d′) × (k ≡ k′))))
-one-told-star t u =
+one-handed-star t u =
     (t .answers ∙ sym (u .answers), (t .leaves-number ∙ sym (u .leaves-number), (t .leaves-asc ∙ sym (u .leaves-asc), (t .leaves-dec ∙ sym (u .leaves-dec), t .leaves-next ∙ sym (u .leaves-next)))))
 
-pub one-told-raise : {status n m : ℕ} {counts c c′ : List ℕ} → ToldRaise status counts n c
-    → ToldRaise status counts m c′ → (n ≡ m) × (c ≡ c′)
-one-told-raise t u = (t .answers ∙ sym (u .answers), t .leaves-counts ∙ sym (u .leaves-counts))
+pub one-handed-raise : {status n m : ℕ} {counts c c′ : List ℕ} → HandedRaise status counts n c
+    → HandedRaise status counts m c′ → (n ≡ m) × (c ≡ c′)
+one-handed-raise t u = (t .answers ∙ sym (u .answers), t .leaves-counts ∙ sym (u .leaves-counts))
 
-pub one-told-batch : {edition : Edition} {s status asc dec counts : List ℕ} {day1 day2 : Float} {n m : ℕ} {z z′ c c′ x x′ y y′ : List ℕ}
-    → ToldBatch edition s day1 day2 status asc dec counts n z x y c → ToldBatch edition s day1 day2 status asc dec counts m z′ x′ y′ c′
+pub one-handed-batch : {edition : Edition} {s status asc dec counts : List ℕ} {day1 day2 : Float} {n m : ℕ} {z z′ c c′ x x′ y y′ : List ℕ}
+    → HandedBatch edition s day1 day2 status asc dec counts n z x y c → HandedBatch edition s day1 day2 status asc dec counts m z′ x′ y′ c′
     → (n ≡ m) × ((c ≡ c′) × ((z ≡ z′) × ((x ≡ x′) × (y ≡ y′))))
-one-told-batch {counts = counts} t u =
+one-handed-batch {counts = counts} t u =
     let f = batch-fixes-all (t .batch) (u .batch) in
     (t .answers ∙ ap (λ (b : Batched). b .refusal) (f .0) ∙ sym (u .answers), (t .leaves-counts ∙ ap (λ (b : Batched). cond (eqb (b .refusal) 0) (b .tally .counts) counts) (f .0) ∙ sym (u .leaves-counts), f .1))
 
 -- ---- a number, and a text put
 
-pub one-told-number : {a : Answer ℕ} {n m old k k′ : ℕ} → ToldNumber a n old k → ToldNumber a m old k′ → (n ≡ m) × (k ≡ k′)
-one-told-number t u = (t .answers ∙ sym (u .answers), t .leaves ∙ sym (u .leaves))
+pub one-handed-number : {a : Answer ℕ} {n m old k k′ : ℕ} → HandedNumber a n old k → HandedNumber a m old k′ → (n ≡ m) × (k ≡ k′)
+one-handed-number t u = (t .answers ∙ sym (u .answers), t .leaves ∙ sym (u .leaves))
 
-pub one-told-put : {text : Answer (List ℕ)} {slice : List ℕ} {at n m next : ℕ} {s s′ : List ℕ} {k k′ : ℕ}
-    → ToldPut text slice at n next s k → ToldPut text slice at m next s′ k′ → (s ≡ s′) × ((n ≡ m) × (k ≡ k′))
-one-told-put t u = (t .leaves-slice ∙ sym (u .leaves-slice), one-told-number (t .place-after) (u .place-after))
+pub one-handed-put : {text : Answer (List ℕ)} {slice : List ℕ} {at n m next : ℕ} {s s′ : List ℕ} {k k′ : ℕ}
+    → HandedPut text slice at n next s k → HandedPut text slice at m next s′ k′ → (s ≡ s′) × ((n ≡ m) × (k ≡ k′))
+one-handed-put t u = (t .leaves-slice ∙ sym (u .leaves-slice), one-handed-number (t .offset-after) (u .offset-after))
 
 -- ---- the radio list
 
-pub one-told-opened : {a : Answer (Placed ℕ)} {n m count place c c′ p p′ : ℕ} → ToldOpened a n count place c p
-    → ToldOpened a m count place c′ p′ → (n ≡ m) × ((c ≡ c′) × (p ≡ p′))
-one-told-opened t u =
-    (t .answers ∙ sym (u .answers), (t .leaves-count ∙ sym (u .leaves-count), t .leaves-place ∙ sym (u .leaves-place)))
+pub one-handed-opened : {a : Answer (AtOffset ℕ)} {n m count offset c c′ p p′ : ℕ} → HandedOpened a n count offset c p
+    → HandedOpened a m count offset c′ p′ → (n ≡ m) × ((c ≡ c′) × (p ≡ p′))
+one-handed-opened t u =
+    (t .answers ∙ sym (u .answers), (t .leaves-count ∙ sym (u .leaves-count), t .leaves-offset ∙ sym (u .leaves-offset)))
 
-pub one-told-sighted : {a : Answer (Placed Star)} {n m number asc next i i′ r r′ k k′ : ℕ} {dec d d′ : ℤ}
-    → ToldSighted a n number asc dec next i r d k → ToldSighted a m number asc dec next i′ r′ d′ k′
+pub one-handed-received : {a : Answer (AtOffset Star)} {n m number asc next i i′ r r′ k k′ : ℕ} {dec d d′ : ℤ}
+    → HandedReceived a n number asc dec next i r d k → HandedReceived a m number asc dec next i′ r′ d′ k′
     → (n ≡ m) × ((i ≡ i′) × ((r ≡ r′) × ((d ≡ d′) × (k ≡ k′))))
-one-told-sighted t u =
+one-handed-received t u =
     (t .answers ∙ sym (u .answers), (t .leaves-number ∙ sym (u .leaves-number), (t .leaves-asc ∙ sym (u .leaves-asc), (t .leaves-dec ∙ sym (u .leaves-dec), t .leaves-next ∙ sym (u .leaves-next)))))

@@ -26,65 +26,65 @@ use Rattle.edition.specs.declared.Edition.{Edition}
 use Rattle.batch.specs.declared.Batched.{Batched}
 use Rattle.list.specs.rules.Stars.{isList, countOf, stars}
 use Rattle.batch.specs.rules.Batch.{batchRefusal, answersOf}
-use Rattle.brundelak.specs.rules.Stored.{ToldFound, ToldBatch, ToldRaise}
-use Rattle.brundelak.specs.rules.Put.{ToldNumber, ToldPut}
-use Rattle.brundelak.specs.rules.Radio.{ToldOpened, ToldSighted}
+use Rattle.brundelak.specs.rules.Stored.{HandedFound, HandedBatch, HandedRaise}
+use Rattle.brundelak.specs.rules.Put.{HandedNumber, HandedPut}
+use Rattle.brundelak.specs.rules.Radio.{HandedOpened, HandedReceived}
 
 -- star 7 has the right ascension 5, and 0 is left
-pub found-asc-lost-excluded : ¬ ToldFound (answered (record { index = 7; asc = 5; dec = pos 3 })) 0 0 0 (pos 0) 7 0 (pos 3)
+pub found-asc-lost-excluded : ¬ HandedFound (answered (record { index = 7; asc = 5; dec = pos 3 })) 0 0 0 (pos 0) 7 0 (pos 3)
 found-asc-lost-excluded wrong = apart ofNumber refl (wrong .leaves-asc)
 
 -- the first day is no number
-pub batch-always-refused-by-eight-excluded : (edition : Edition) → ¬ ToldBatch edition [] (inf false) epoch [] [] [] [] 8 [] [] [] []
+pub batch-always-refused-by-eight-excluded : (edition : Edition) → ¬ HandedBatch edition [] (inf false) epoch [] [] [] [] 8 [] [] [] []
 unfolding computed batchRefusal daysRefusal
 batch-always-refused-by-eight-excluded edition wrong =
     apart ofNumber refl (wrong .answers ∙ ap (λ (b : Batched). b .refusal) (wrong .batch .answer))
 
 -- so is the call refused, and of the angles a NaN that the caller left is made the quiet one
 pub nan-of-a-refused-batch-tidied-excluded : (edition : Edition)
-    → ¬ ToldBatch edition [] (inf false) epoch [] (0x7ff0000000000001 ∷ []) [] [] 1 [] (0x7ff8000000000000 ∷ []) [] []
+    → ¬ HandedBatch edition [] (inf false) epoch [] (0x7ff0000000000001 ∷ []) [] [] 1 [] (0x7ff8000000000000 ∷ []) [] []
 unfolding computed batchRefusal daysRefusal
 nan-of-a-refused-batch-tidied-excluded edition wrong = apart (λ (l : List ℕ). getD l 0 0) refl (wrong .batch .ascs)
 
 -- an empty list is reduced, and of the places past its stars a NaN is made the quiet one
 pub nan-past-the-stars-tidied-excluded : (edition : Edition) (counts′ : List ℕ)
-    → ¬ ToldBatch edition [] epoch epoch [] [] (0x7ff0000000000001 ∷ []) [] 0 [] [] (0x7ff8000000000000 ∷ []) counts′
+    → ¬ HandedBatch edition [] epoch epoch [] [] (0x7ff0000000000001 ∷ []) [] 0 [] [] (0x7ff8000000000000 ∷ []) counts′
 unfolding computed batchRefusal daysRefusal isList countOf stars answersOf
 nan-past-the-stars-tidied-excluded edition counts′ wrong = apart (λ (l : List ℕ). getD l 0 0) refl (wrong .batch .decs)
 
 -- the status 3, and 0 is counted
-pub another-status-counted-excluded : ¬ ToldRaise 3 (empty .counts) 0 (raiseRule empty 0 .tally .counts)
+pub another-status-counted-excluded : ¬ HandedRaise 3 (empty .counts) 0 (raiseRule empty 0 .tally .counts)
 unfolding raiseRule raiseRefusal tallyOf
 another-status-counted-excluded wrong = apart (λ (l : List ℕ). getD l 0 0) refl (wrong .leaves-counts)
 
 -- a slice of one byte has no room for a record, and that byte is written all the same
-pub byte-of-a-refused-record-written-excluded : ¬ ToldPut (recordText 0 nought) (9 ∷ []) 0 8 0 (0 ∷ []) 0
+pub byte-of-a-refused-record-written-excluded : ¬ HandedPut (recordText 0 nought) (9 ∷ []) 0 8 0 (0 ∷ []) 0
 unfolding list.computed roomFor
 byte-of-a-refused-record-written-excluded wrong = apart (λ (l : List ℕ). getD l 0 0) refl (wrong .leaves-slice)
 
 -- ---- the radio list
 
--- a head of two bytes, and the place after the first is left
-pub head-without-its-count-excluded : ¬ ToldOpened (openRule (2 ∷ 0 ∷ [])) 0 0 0 0 1
+-- a head of two bytes, and the offset after the first is left
+pub head-without-its-count-excluded : ¬ HandedOpened (openRule (2 ∷ 0 ∷ [])) 0 0 0 0 1
 unfolding radio.computed
-head-without-its-count-excluded wrong = apart ofNumber refl (wrong .leaves-place)
+head-without-its-count-excluded wrong = apart ofNumber refl (wrong .leaves-offset)
 
 -- the star 7 at 0, −1 (folded 1), and its declination comes out as 1
-pub declination-folded-excluded : ¬ ToldSighted (starAtRule (2 ∷ 1 ∷ 7 ∷ 0 ∷ 1 ∷ []) 2) 0 0 0 (pos 0) 0 7 0 (pos 1) 5
+pub declination-folded-excluded : ¬ HandedReceived (starAtRule (2 ∷ 1 ∷ 7 ∷ 0 ∷ 1 ∷ []) 2) 0 0 0 (pos 0) 0 7 0 (pos 1) 5
 unfolding radio.computed
 declination-folded-excluded wrong = apart folded refl (wrong .leaves-dec)
 
 -- a list cut short in its first star, and the count is left all the same
-pub count-left-of-a-refused-list-excluded : ¬ ToldNumber (acceptRule (2 ∷ 1 ∷ 7 ∷ [])) 13 0 1
+pub count-left-of-a-refused-list-excluded : ¬ HandedNumber (acceptRule (2 ∷ 1 ∷ 7 ∷ [])) 13 0 1
 unfolding radio.computed
 count-left-of-a-refused-list-excluded wrong = apart ofNumber refl (wrong .leaves)
 
 -- the head of no stars, from the second byte of four on, and the byte after it is cleared
-pub byte-past-the-head-cleared-excluded : ¬ ToldPut (headText 0) (9 ∷ 9 ∷ 9 ∷ 9 ∷ []) 1 0 0 (9 ∷ 2 ∷ 0 ∷ 0 ∷ []) 3
+pub byte-past-the-head-cleared-excluded : ¬ HandedPut (headText 0) (9 ∷ 9 ∷ 9 ∷ 9 ∷ []) 1 0 0 (9 ∷ 2 ∷ 0 ∷ 0 ∷ []) 3
 unfolding radio.computed
 byte-past-the-head-cleared-excluded wrong = apart (λ (l : List ℕ). getD l 3 0) refl (wrong .leaves-slice)
 
 -- a byte over, and the slice is written before that is known
-pub slice-of-a-refused-move-written-excluded : ¬ ToldPut (toList (2 ∷ 0 ∷ 5 ∷ [])) (9 ∷ []) 0 13 0 (0 ∷ []) 0
+pub slice-of-a-refused-move-written-excluded : ¬ HandedPut (toList (2 ∷ 0 ∷ 5 ∷ [])) (9 ∷ []) 0 13 0 (0 ∷ []) 0
 unfolding radio.computed
 slice-of-a-refused-move-written-excluded wrong = apart (λ (l : List ℕ). getD l 0 0) refl (wrong .leaves-slice)

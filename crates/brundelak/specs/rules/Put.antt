@@ -7,12 +7,12 @@ use Rattle.quantity.specs.rules.Answer.{Answer, with, statusOf}
 use Rattle.lent.specs.rules.Put.{roomFor, laid}
 use Rattle.brundelak_handed.specs.rules.Boundary.{kept}
 
--- one number: how many stars a whole list has, the place after a text
-pub record ToldNumber (a : Answer ℕ) (n : ℕ) (old new : ℕ) : Type 0 where
+-- one number: how many stars a whole list has, the offset after a text
+pub record HandedNumber (a : Answer ℕ) (n : ℕ) (old new : ℕ) : Type 0 where
   pub answers : n ≡ statusOf a
   pub leaves : new ≡ kept (λ (x : ℕ). x) a old
 
--- a text put into the slice from a place on: the place after it, and the slice
-pub record ToldPut (text : Answer (List ℕ)) (slice : List ℕ) (at : ℕ) (n : ℕ) (next : ℕ) (slice′ : List ℕ) (next′ : ℕ) : Type 0 where
-  pub place-after : ToldNumber (with (λ (t : List ℕ). at + length t) (roomFor slice at text)) n next next′
+-- a text put into the slice from an offset on: the offset after it, and the slice
+pub record HandedPut (text : Answer (List ℕ)) (slice : List ℕ) (at : ℕ) (n : ℕ) (next : ℕ) (slice′ : List ℕ) (next′ : ℕ) : Type 0 where
+  pub offset-after : HandedNumber (with (λ (t : List ℕ). at + length t) (roomFor slice at text)) n next next′
   pub leaves-slice : slice′ ≡ laid slice at (roomFor slice at text)

@@ -4,18 +4,19 @@ use mathlib.Core.Path.{refl}
 use std.Logic.{_≢_}
 use lib.Ieee.{Float}
 use Rattle.double.specs.rules.Operations.{zero, one}
+use Rattle.double.specs.rules.Pattern.{patternOf}
 use Rattle.double.specs.notions.Code.{ofNumber}
 use Rattle.double.specs.laws.Apart.{apart}
 use Rattle.quantity.specs.declared.Deg.{Deg}
 use Rattle.quantity.specs.declared.Rad.{Rad}
 use Rattle.quantity.specs.declared.EqPoint.{EqPoint}
 use Rattle.quantity.specs.declared.EclPoint.{EclPoint}
-use Rattle.quantity.specs.rules.Answer.{Answer, answered, refused}
+use Rattle.quantity.specs.rules.Answer.{Answer, answered, refused, pair}
 use Rattle.quantity.specs.notions.Computed.{computed}
 use Rattle.quantity.specs.notions.Code.{ofFloat, ofPair, ofAnswer}
 use Rattle.quantity.specs.notions.Varies.{Varies}
 use Rattle.atmos.specs.declared.Arcmin.{Arcmin}
-use Rattle.brundelak_handed.specs.rules.Boundary.{Told, numberOfDegrees, numberOfRadians, numberOfArcminutes, numbersOfPoint, numbersOfEcliptic}
+use Rattle.brundelak_handed.specs.rules.Boundary.{Handed, HandedTwo, HandedThree, numberOfDegrees, numberOfRadians, numberOfArcminutes, numbersOfPoint, numbersOfEcliptic}
 use Rattle.brundelak_handed.specs.notions.Wrong.{degreesLost, radiansRefusedAsOne, arcminutesInDegrees, pointTraded, eclipticTraded}
 
 abbrev degrees : Float → Answer Deg
@@ -73,6 +74,18 @@ pub ecliptic-traded-excluded : eclipticTraded (ecliptic one zero) ≢ numbersOfE
 unfolding computed numbersOfEcliptic
 ecliptic-traded-excluded = apart (ofAnswer ofPair) refl
 
+-- 1.0 is answered, and 0.0 stands there
+pub nothing-handed-out-excluded : ¬ Handed (answered one) 0 0 0
+unfolding computed
+nothing-handed-out-excluded wrong = apart ofNumber refl (wrong .leaves)
+
+pub both-traded-excluded : ¬ HandedTwo (answered (pair one zero)) 0 0 0 (patternOf zero) (patternOf one)
+unfolding computed
+both-traded-excluded wrong = apart ofNumber refl (wrong .leaves1)
+
+pub refusal-says-done-excluded : ¬ HandedThree (refused 5) 0 7 8 9 7 8 9
+refusal-says-done-excluded wrong = apart ofNumber refl (wrong .answers)
+
 -- a NaN that a caller left, signalling and of the number 1, and a refused call leaves the quiet one
-pub nan-tidied-excluded : ¬ Told (refused 1) 1 0x7ff0000000000001 0x7ff8000000000000
+pub nan-tidied-excluded : ¬ Handed (refused 1) 1 0x7ff0000000000001 0x7ff8000000000000
 nan-tidied-excluded wrong = apart ofNumber refl (wrong .leaves)

@@ -16,17 +16,17 @@ kept part (answered x) old = part x
 kept part (refused n) old = old
 
 -- of one float lent
-pub record Told (a : Answer Float) (n : ℕ) (old new : ℕ) : Type 0 where
+pub record Handed (a : Answer Float) (n : ℕ) (old new : ℕ) : Type 0 where
   pub answers : n ≡ statusOf a
   pub leaves : new ≡ kept patternOf a old
 
 -- of one whose bits are answered
-pub record ToldBits (a : Answer ℕ) (n : ℕ) (old new : ℕ) : Type 0 where
+pub record HandedBits (a : Answer ℕ) (n : ℕ) (old new : ℕ) : Type 0 where
   pub answers : n ≡ statusOf a
   pub leaves : new ≡ kept (λ (b : ℕ). b) a old
 
 -- of two
-pub record ToldTwo (a : Answer Pair) (n : ℕ) (old1 old2 new1 new2 : ℕ) : Type 0 where
+pub record HandedTwo (a : Answer Pair) (n : ℕ) (old1 old2 new1 new2 : ℕ) : Type 0 where
   pub answers : n ≡ statusOf a
   pub leaves1 : new1 ≡ kept (λ (p : Pair). patternOf (first p)) a old1
   pub leaves2 : new2 ≡ kept (λ (p : Pair). patternOf (second p)) a old2
@@ -41,7 +41,7 @@ abbrev pub three-of : Triple → Float
 three-of (triple x y z) = z
 
 -- of three
-pub record ToldThree (a : Answer Triple) (n : ℕ) (old1 old2 old3 new1 new2 new3 : ℕ) : Type 0 where
+pub record HandedThree (a : Answer Triple) (n : ℕ) (old1 old2 old3 new1 new2 new3 : ℕ) : Type 0 where
   pub answers : n ≡ statusOf a
   pub leaves1 : new1 ≡ kept (λ (t : Triple). patternOf (one-of t)) a old1
   pub leaves2 : new2 ≡ kept (λ (t : Triple). patternOf (two-of t)) a old2

@@ -13,7 +13,7 @@ returns c =
     let c3 = c2 .before in
     let c4 = c3 .before in
     let c6 = c4 .before .before in
-    rw (c1 .velocity-on .ensures, c2 .true-obliquity .ensures, c3 .mean-obliquity-on .ensures, c4 .eq-turns .ensures, c6 .nutation-on .ensures) at (c .night-from .ensures)
+    rw (c1 .velocity-on .ensures, c2 .true-obliquity .ensures, c3 .mean-obliquity-on .ensures, c4 .eq-precession .ensures, c6 .nutation-on .ensures) at (c .night-from .ensures)
 
 pub night-of-spec : {M : Type 1} → statement M
 night-of-spec = tie.close (tie.spec asks-nothing asks-nothing asks-nothing asks-nothing asks-nothing asks-nothing returns)

@@ -10,15 +10,15 @@ use Rattle.quantity.specs.laws.Answer.{then-unless, unless-cong, then-cong}
 use Rattle.edition.specs.declared.Edition.{Edition}
 use Rattle.elementary.specs.laws.Accepted.{lower-none}
 use Rattle.precess_angles.specs.rules.Days.{daysRefusal, placeRefusal}
-use Rattle.precess_angles.specs.rules.Equatorial.{eqTurnsOf}
-use Rattle.precess.specs.rules.Equatorial.{turnedIn}
+use Rattle.precess_angles.specs.rules.Equatorial.{eqPrecessionOf}
+use Rattle.precess.specs.rules.Equatorial.{precessedIn}
 use Rattle.nutation.specs.rules.Day.{nutationRule}
 use Rattle.nutation_table.specs.rules.Day.{nutationOf}
 use Rattle.nutation.specs.rules.Point.{nutationInEqCoordsRule, nutationInEqCoordsIn}
 use Rattle.aberr.specs.rules.Star.{stellAberrInEqCoordsRule, stellAberrInEqCoordsIn}
 use Rattle.chain.specs.rules.Obliquity.{meanObliquityOf, trueObliquity}
 use Rattle.chain.specs.rules.Chain.{point, sum, fromPoint, chainRule, pointRefusal, anglesRefusal}
-use Rattle.chain.specs.rules.Night.{nightFrom, nightOf, moved, movedUnder, reducedAt, reducedIn}
+use Rattle.chain.specs.rules.Night.{nightFrom, nightOf, moved, movedUnder, pointUnder, placeUnder}
 
 unless-none : {A : Type 0} (n : ℕ) (a : Answer A) → n ≡ 0 → unless n a ≡ a
 unless-none n a e = rw e
@@ -46,8 +46,8 @@ module _ (edition : Edition) (asc dec : Rad) (day1 day2 : Float) where
   oblq = trueObliquity (meanObliquityOf day2) (nutationOf day2 .oblq)
 
   -- at a precessed point, the second day being accepted
-  at-point : (p : Pair) → dayRefusal day2 ≡ 0 → fromPoint p nutations day2 ≡ reducedAt (point p) (nightOf edition day1 day2)
-  unfolding nutationInEqCoordsRule stellAberrInEqCoordsRule nutationInEqCoordsIn stellAberrInEqCoordsIn reducedAt movedUnder moved nightOf nightFrom
+  at-point : (p : Pair) → dayRefusal day2 ≡ 0 → fromPoint p nutations day2 ≡ pointUnder (point p) (nightOf edition day1 day2)
+  unfolding nutationInEqCoordsRule stellAberrInEqCoordsRule nutationInEqCoordsIn stellAberrInEqCoordsIn pointUnder movedUnder moved nightOf nightFrom
   at-point p ok =
       two-steps (pointRefusal (point p)) (anglesRefusal (nutationOf day2) oblq) (dayRefusal day2)
       (pair (nutationInEqCoordsIn (point p) (rad (first nutations)) (rad (second nutations)) oblq .asc .0)
@@ -59,7 +59,7 @@ module _ (edition : Edition) (asc dec : Rad) (day1 day2 : Float) where
   steps p = then (nutationRule day2) (λ (n : Pair). fromPoint p n day2)
 
   abbrev under : Pair → Answer Pair
-  under p = reducedAt (point p) (nightOf edition day1 day2)
+  under p = pointUnder (point p) (nightOf edition day1 day2)
 
   -- an accepted place has an accepted second day
   second-day : placeRefusal asc dec day1 day2 ≡ 0 → dayRefusal day2 ≡ 0
@@ -74,10 +74,10 @@ module _ (edition : Edition) (asc dec : Rad) (day1 day2 : Float) where
       ap (λ (a : Answer Pair). then a (λ (n : Pair). fromPoint p n day2)) (unless-none (dayRefusal day2) (answered nutations) ok)
       ∙ at-point p ok
 
-  pub chain-under-a-night : chainRule edition asc dec day1 day2 ≡ unless (placeRefusal asc dec day1 day2) (reducedIn asc dec (nightOf edition day1 day2))
-  unfolding chainRule reducedIn nightOf nightFrom
+  pub chain-under-a-night : chainRule edition asc dec day1 day2 ≡ unless (placeRefusal asc dec day1 day2) (placeUnder asc dec (nightOf edition day1 day2))
+  unfolding chainRule placeUnder nightOf nightFrom
   chain-under-a-night =
-      then-unless (placeRefusal asc dec day1 day2) (turnedIn asc dec (eqTurnsOf edition day1 day2)) steps
-      ∙ unless-cong (placeRefusal asc dec day1 day2) (then (turnedIn asc dec (eqTurnsOf edition day1 day2)) steps)
-      (then (turnedIn asc dec (eqTurnsOf edition day1 day2)) under)
-      (λ e. then-cong (turnedIn asc dec (eqTurnsOf edition day1 day2)) steps under (same-steps (second-day e)))
+      then-unless (placeRefusal asc dec day1 day2) (precessedIn asc dec (eqPrecessionOf edition day1 day2)) steps
+      ∙ unless-cong (placeRefusal asc dec day1 day2) (then (precessedIn asc dec (eqPrecessionOf edition day1 day2)) steps)
+      (then (precessedIn asc dec (eqPrecessionOf edition day1 day2)) under)
+      (λ e. then-cong (precessedIn asc dec (eqPrecessionOf edition day1 day2)) steps under (same-steps (second-day e)))

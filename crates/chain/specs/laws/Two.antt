@@ -9,13 +9,13 @@ use Rattle.quantity.specs.rules.Answer.{Answer, answered, refused, Pair, unless
 use Rattle.quantity.specs.rules.Refusal.{lower}
 use Rattle.quantity.specs.laws.Answer.{then-unless}
 use Rattle.elementary.specs.rules.Direction.{directionOf}
-use Rattle.precess.specs.rules.Equatorial.{turnedIn}
-use Rattle.precess.specs.rules.Two.{turnedTwo}
-use Rattle.precess.specs.laws.Arcs.{first-turned, second-turned}
+use Rattle.precess.specs.rules.Equatorial.{precessedIn}
+use Rattle.precess.specs.rules.Two.{precessedTwo}
+use Rattle.precess.specs.laws.Arcs.{first-precessed, second-precessed}
 use Rattle.chain.specs.declared.Night.{Night}
 use Rattle.chain.specs.rules.Chain.{point, pointRefusal}
-use Rattle.chain.specs.rules.Night.{movedUnder, pairOf, reducedAt, reducedIn}
-use Rattle.chain.specs.rules.Two.{nextRefusal, reducedTwo}
+use Rattle.chain.specs.rules.Night.{movedUnder, pairOf, pointUnder, placeUnder}
+use Rattle.chain.specs.rules.Two.{nextRefusal, twoPlacesUnder}
 
 -- one refusal, or else the next
 unless-twice : {A : Type 0} (n k : ℕ) (a : Answer A) → unless (cond (eqb n 0) k n) a ≡ unless n (unless k a)
@@ -26,26 +26,26 @@ unless-twice n k a = by-case (eqb n 0) refl
     by-case false e = rw e
 
 -- from the precessed place, which n refuses where it is not 0
-reduced-in-steps : (asc dec : Rad) (night : Night) (n : ℕ) (p : EqPoint) → unless n (answered (pairOf p)) ≡ turnedIn asc dec (night .turns)
-    → unless (nextRefusal n p (night .refusal)) (answered (pairOf (movedUnder p (directionOf p) night))) ≡ reducedIn asc dec night
-unfolding reducedIn reducedAt then
-reduced-in-steps asc dec night n p place =
-    let f : Pair → Answer Pair = λ x. reducedAt (point x) night in
+under-in-steps : (asc dec : Rad) (night : Night) (n : ℕ) (p : EqPoint) → unless n (answered (pairOf p)) ≡ precessedIn asc dec (night .precession)
+    → unless (nextRefusal n p (night .refusal)) (answered (pairOf (movedUnder p (directionOf p) night))) ≡ placeUnder asc dec night
+unfolding placeUnder pointUnder then
+under-in-steps asc dec night n p place =
+    let f : Pair → Answer Pair = λ x. pointUnder (point x) night in
     unless-twice n (lower (pointRefusal p) (night .refusal)) (answered (pairOf (movedUnder p (directionOf p) night)))
     ∙ sym (then-unless n (answered (pairOf p)) f)
     ∙ ap (λ (a : Answer Pair). then a f) place
 
 module _ (asc dec asc2 dec2 : Rad) (night : Night) where
-  pub first-reduced : firstPlace (reducedTwo asc dec asc2 dec2 night) ≡ reducedIn asc dec night
-  unfolding reducedTwo
-  first-reduced =
-      let t = turnedTwo asc dec asc2 dec2 (night .turns) in
-      reduced-in-steps asc dec night (t .«first_refusal») (record { asc = t .«first_asc»; dec = t .«first_dec» })
-      (first-turned asc dec asc2 dec2 (night .turns))
+  pub first-under : firstPlace (twoPlacesUnder asc dec asc2 dec2 night) ≡ placeUnder asc dec night
+  unfolding twoPlacesUnder
+  first-under =
+      let t = precessedTwo asc dec asc2 dec2 (night .precession) in
+      under-in-steps asc dec night (t .«first_refusal») (record { asc = t .«first_asc»; dec = t .«first_dec» })
+      (first-precessed asc dec asc2 dec2 (night .precession))
 
-  pub second-reduced : secondPlace (reducedTwo asc dec asc2 dec2 night) ≡ reducedIn asc2 dec2 night
-  unfolding reducedTwo
-  second-reduced =
-      let t = turnedTwo asc dec asc2 dec2 (night .turns) in
-      reduced-in-steps asc2 dec2 night (t .«second_refusal») (record { asc = t .«second_asc»; dec = t .«second_dec» })
-      (second-turned asc dec asc2 dec2 (night .turns))
+  pub second-under : secondPlace (twoPlacesUnder asc dec asc2 dec2 night) ≡ placeUnder asc2 dec2 night
+  unfolding twoPlacesUnder
+  second-under =
+      let t = precessedTwo asc dec asc2 dec2 (night .precession) in
+      under-in-steps asc2 dec2 night (t .«second_refusal») (record { asc = t .«second_asc»; dec = t .«second_dec» })
+      (second-precessed asc dec asc2 dec2 (night .precession))

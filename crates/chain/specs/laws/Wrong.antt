@@ -19,7 +19,7 @@ use Rattle.edition.specs.declared.Edition.the-variants.{Crate, Published}
 use Rattle.chain.specs.declared.Night.{Night}
 use Rattle.chain.specs.rules.Obliquity.{meanObliquity, meanObliquityOf, trueObliquity}
 use Rattle.chain.specs.rules.Chain.{pointRefusal, chainRule}
-use Rattle.chain.specs.rules.Night.{nightOf, moved, reducedAt, reducedIn}
+use Rattle.chain.specs.rules.Night.{nightOf, moved, pointUnder, placeUnder}
 use Rattle.chain.specs.notions.Computed.{computed}
 use Rattle.chain.specs.notions.Still.{still}
 use Rattle.chain.specs.notions.Wrong.{obliquityOfOneDay, lastTermAdded, meanForTrue, nutationTakenAway, nightOfOneDay, precessedPointNotSteep}
@@ -49,12 +49,12 @@ nutation-taken-away-excluded = apart ofRad refl
 
 pub night-of-one-day-excluded : (edition : Edition) → nightOfOneDay edition epoch later ≢ nightOf edition epoch later
 unfolding computed
-night-of-one-day-excluded edition = apart (λ (n : Night). ofRad (n .turns .xi)) refl
+night-of-one-day-excluded edition = apart (λ (n : Night). ofRad (n .precession .xi)) refl
 
 -- an edition ignored, over the century that ends at 2451545.0
 pub night-by-edition : nightOf Published earlier epoch ≢ nightOf Crate earlier epoch
 unfolding computed
-night-by-edition = apart (λ (n : Night). ofRad (n .turns .zeta)) refl
+night-by-edition = apart (λ (n : Night). ofRad (n .precession .zeta)) refl
 
 -- ---- a star under a night
 
@@ -68,13 +68,13 @@ pub aberration-added-first-excluded : aberrationAddedFirst (record { asc = one; 
 unfolding computed
 aberration-added-first-excluded = apart (λ (p : EqPoint). ofFloat (p .asc)) refl
 
-pub angles-of-the-night-not-tested-excluded : anglesOfTheNightNotTested origin (still 3) ≢ reducedAt origin (still 3)
+pub angles-of-the-night-not-tested-excluded : anglesOfTheNightNotTested origin (still 3) ≢ pointUnder origin (still 3)
 unfolding computed
 angles-of-the-night-not-tested-excluded = apart (ofAnswer unread) refl
 
-pub reduced-in-varies : Varies (reducedIn r0 r0 (still 0)) (reducedIn r1 r0 (still 0))
+pub place-under-varies : Varies (placeUnder r0 r0 (still 0)) (placeUnder r1 r0 (still 0))
 unfolding computed
-reduced-in-varies = record { here = refl; there = refl; apart = apart (ofAnswer ofFirst) refl }
+place-under-varies = record { here = refl; there = refl; apart = apart (ofAnswer ofFirst) refl }
 
 -- ---- the chain
 

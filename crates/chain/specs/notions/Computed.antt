@@ -5,9 +5,9 @@ use Rattle.nutation.specs.rules.Point.{nutationAt}
 use Rattle.aberr.specs.rules.Star.{aberrAt}
 use Rattle.chain.specs.rules.Obliquity.{meanObliquity, meanObliquityOf, trueObliquity}
 use Rattle.chain.specs.rules.Chain.{chainRule}
-use Rattle.chain.specs.rules.Night.{nightFrom, nightOf, moved, movedUnder, reducedAt, reducedIn}
+use Rattle.chain.specs.rules.Night.{nightFrom, nightOf, moved, movedUnder, pointUnder, placeUnder}
 
 -- a name for the line below it, which is what counts
 unfoldable pub computed : ℕ
-unfolding precess.computed nutationAt aberrAt meanObliquity meanObliquityOf trueObliquity chainRule nightFrom nightOf moved movedUnder reducedAt reducedIn
+unfolding precess.computed nutationAt aberrAt meanObliquity meanObliquityOf trueObliquity chainRule nightFrom nightOf moved movedUnder pointUnder placeUnder
 computed = 0

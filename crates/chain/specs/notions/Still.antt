@@ -7,7 +7,7 @@ use Rattle.chain.specs.declared.Night.{Night}
 abbrev pub still : ℕ → Night
 still n =
     record {
-      turns = record { xi = r0; zeta = r0; sine = zero; cosine = one };
+      precession = record { xi = r0; zeta = r0; sine = zero; cosine = one };
       nutation = record { long = r0; oblq = r0 };
       «sin_oblq» = zero;
       «cos_oblq» = one;

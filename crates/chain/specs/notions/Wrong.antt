@@ -13,7 +13,7 @@ use Rattle.edition.specs.declared.Edition.{Edition}
 use Rattle.elementary.specs.rules.Direction.{directionOf}
 use Rattle.helpers.specs.rules.Angle.{arc}
 use Rattle.precess_angles.specs.rules.Days.{placeRefusal}
-use Rattle.precess_angles.specs.rules.Equatorial.{eqTurnsOf}
+use Rattle.precess_angles.specs.rules.Equatorial.{eqPrecessionOf}
 use Rattle.precess.specs.rules.Equatorial.{precessEqCoordsRule}
 use Rattle.nutation_table.specs.rules.Day.{nutationOf}
 use Rattle.nutation.specs.rules.Day.{nutationRule}
@@ -24,7 +24,7 @@ use Rattle.chain.specs.declared.Night.{Night}
 use Rattle.chain.specs.rules.Numbers.{n84381·448, n46·8150, n0·00059, n0·001813}
 use Rattle.chain.specs.rules.Obliquity.{meanObliquityOf, trueObliquity}
 use Rattle.chain.specs.rules.Chain.{point, sum, pointRefusal}
-use Rattle.chain.specs.rules.Night.{nightFrom, nightOf, movedUnder, pairOf, reducedIn}
+use Rattle.chain.specs.rules.Night.{nightFrom, nightOf, movedUnder, pairOf, placeUnder}
 
 -- that of 2451545.0
 abbrev pub obliquityOfOneDay : Float → Rad
@@ -53,7 +53,7 @@ chainBy obliquity edition asc dec day1 day2 =
 abbrev pub nightOfOneDay : Edition → Float → Float → Night
 nightOfOneDay edition day1 day2 =
     let n = nutationOf day2 in
-    nightFrom (eqTurnsOf edition day1 day1) n (trueObliquity (meanObliquityOf day2) (n .oblq)) (velocityOf day2)
+    nightFrom (eqPrecessionOf edition day1 day1) n (trueObliquity (meanObliquityOf day2) (n .oblq)) (velocityOf day2)
 
 -- the right ascension tested in the declination's place
 abbrev pub precessedPointNotSteep : EqPoint → ℕ
@@ -70,4 +70,4 @@ anglesOfTheNightNotTested p night =
 
 -- the second day not tested
 abbrev pub placeNotRefused : Edition → Rad → Rad → Float → Float → Answer Pair
-placeNotRefused edition asc dec day1 day2 = unless (placeRefusal asc dec day1 day1) (reducedIn asc dec (nightOf edition day1 day2))
+placeNotRefused edition asc dec day1 day2 = unless (placeRefusal asc dec day1 day1) (placeUnder asc dec (nightOf edition day1 day2))

@@ -1,5 +1,5 @@
 -- Two stars side by side under a night: each with its two floats and its refusal, all of them fixed whatever is refused.
--- `first-reduced` and `second-reduced` in laws/Two say that each is the star's reduction alone.
+-- `first-under` and `second-under` in laws/Two say that each is the star's reduction alone.
 use Prim.Native.Nat.{ℕ}
 use mathlib.Core.Bool.{cond}
 use lib.Dec.{eqb}
@@ -8,7 +8,7 @@ use Rattle.quantity.specs.declared.EqPoint.{EqPoint}
 use Rattle.quantity.specs.declared.Places.{Places}
 use Rattle.quantity.specs.rules.Refusal.{lower}
 use Rattle.elementary.specs.rules.Direction.{directionOf}
-use Rattle.precess.specs.rules.Two.{turnedTwo}
+use Rattle.precess.specs.rules.Two.{precessedTwo}
 use Rattle.chain.specs.declared.Night.{Night}
 use Rattle.chain.specs.rules.Chain.{pointRefusal}
 use Rattle.chain.specs.rules.Night.{movedUnder}
@@ -33,6 +33,6 @@ reducedFrom t night =
       «second_refusal» = nextRefusal (t .«second_refusal») q (night .refusal);
     }
 
-unfoldable pub reducedTwo : Rad → Rad → Rad → Rad → Night → Places
+unfoldable pub twoPlacesUnder : Rad → Rad → Rad → Rad → Night → Places
 unfolding reducedFrom
-reducedTwo asc dec asc2 dec2 night = reducedFrom (turnedTwo asc dec asc2 dec2 (night .turns)) night
+twoPlacesUnder asc dec asc2 dec2 night = reducedFrom (precessedTwo asc dec asc2 dec2 (night .precession)) night

@@ -48,9 +48,9 @@ sky-sheet-mirrored-excluded = apart (ofAnswer ofRad) refl
 
 -- ---- altitude
 
-pub altitude-turns-with-the-hour-excluded : ¬ ((h d p : Rad) → altFrmEqRule (opposite h) d p ≡ with opposite (altFrmEqRule h d p))
+pub altitude-negates-with-the-hour-excluded : ¬ ((h d p : Rad) → altFrmEqRule (opposite h) d p ≡ with opposite (altFrmEqRule h d p))
 unfolding computed altitudeIn
-altitude-turns-with-the-hour-excluded wrong = apart (ofAnswer ofRad) refl (wrong r0 r0 r0)
+altitude-negates-with-the-hour-excluded wrong = apart (ofAnswer ofRad) refl (wrong r0 r0 r0)
 
 pub altitude-with-latitude-alone-negated-excluded : ¬ ((h d p : Rad) → altFrmEqRule h (opposite d) (opposite p) ≡ altFrmEqRule h d (opposite p))
 unfolding computed altitudeIn

@@ -18,7 +18,7 @@ use Rattle.edition.specs.declared.Edition.the-variants.{Crate, Published}
 use Rattle.elementary_arc.specs.notions.Computed.{computed}
 use Rattle.coords.specs.rules.HourAngle.{hrAnglFrmObserverLongRule, hrAnglFrmLocSidrRule}
 use Rattle.coords.specs.rules.Horizon.{azimuthIn, azFrmEqRule, altitudeIn, altFrmEqRule, hrAnglFrmHzIn, hrAnglFrmHzRule, decFrmHzIn, decFrmHzRule}
-use Rattle.coords.specs.notions.Wrong.{longitudeAdded, localTimeTurned, oppositeQuadrant, sineAndCosineTraded, hourAngleReducedFirst}
+use Rattle.coords.specs.notions.Wrong.{longitudeAdded, localTimeNegated, oppositeQuadrant, sineAndCosineTraded, hourAngleReducedFirst}
 use Rattle.coords.specs.notions.Wrong.{latitudeForDeclination, declinationNotSteep, zenithIsSouth, altitudeRegrouped}
 use Rattle.coords.specs.notions.Wrong.{limitOfAnAngleForALatitude, hourAngleOfTheRatio, cosineOfAzimuthOnce}
 
@@ -36,9 +36,9 @@ pub hr-angl-frm-loc-sidr-varies : Varies (hrAnglFrmLocSidrRule r1 r0) (hrAnglFrm
 unfolding computed
 hr-angl-frm-loc-sidr-varies = record { here = refl; there = refl; apart = apart (ofAnswer ofRad) refl }
 
-pub local-time-turned-excluded : localTimeTurned r2 r1 ≢ hrAnglFrmLocSidrRule r2 r1
+pub local-time-negated-excluded : localTimeNegated r2 r1 ≢ hrAnglFrmLocSidrRule r2 r1
 unfolding computed
-local-time-turned-excluded = apart (ofAnswer ofRad) refl
+local-time-negated-excluded = apart (ofAnswer ofRad) refl
 
 -- ---- azimuth
 

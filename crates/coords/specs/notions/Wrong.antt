@@ -23,8 +23,8 @@ abbrev pub longitudeAdded : Rad → Rad → Rad → Answer Rad
 longitudeAdded g l a = unless (observerLongRefusal g l a) (answered (rad ((g .0 ⊕ l .0) ⊖ a .0)))
 
 -- a turn too much
-abbrev pub localTimeTurned : Rad → Rad → Answer Rad
-localTimeTurned s a = unless (locSidrRefusal s a) (answered (rad (s .0 ⊖ a .0 ⊕ turn)))
+abbrev pub localTimeNegated : Rad → Rad → Answer Rad
+localTimeNegated s a = unless (locSidrRefusal s a) (answered (rad (s .0 ⊖ a .0 ⊕ turn)))
 
 -- ---- azimuth
 

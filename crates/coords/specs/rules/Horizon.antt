@@ -4,7 +4,7 @@ use Rattle.double.specs.rules.Operations.{_⊕_, _⊖_, _⊗_}
 use Rattle.quantity.specs.declared.Rad.{Rad}
 use Rattle.quantity.specs.rules.Answer.{Answer, unless}
 use Rattle.edition.specs.declared.Edition.{Edition}
-use Rattle.edition.specs.rules.Edition.{chosen}
+use Rattle.edition.specs.rules.Edition.{byEdition}
 use Rattle.elementary.specs.rules.Sine.{sineOf, cosineOf, tangentOf}
 use Rattle.elementary_arc.specs.rules.Arctangent.{arctangentIn}
 use Rattle.elementary_arc.specs.rules.Arcsine.{arcsineIn}
@@ -38,7 +38,7 @@ hrAnglFrmHzRule z a p = unless (steepSkyRefusal z a p) (hrAnglFrmHzIn z a p)
 
 -- the crate has cos z twice, Meeus cos a·cos z
 unfoldable pub decFrmHzIn : Edition → Rad → Rad → Rad → Answer Rad
-decFrmHzIn e z a p = arcsineIn (sineOf p ⊗ sineOf a ⊖ cosineOf p ⊗ chosen e (cosineOf z) (cosineOf a) ⊗ cosineOf z)
+decFrmHzIn e z a p = arcsineIn (sineOf p ⊗ sineOf a ⊖ cosineOf p ⊗ byEdition e (cosineOf z) (cosineOf a) ⊗ cosineOf z)
 
 abbrev pub decFrmHzRule : Edition → Rad → Rad → Rad → Answer Rad
 decFrmHzRule e z a p = unless (skyRefusal z a p) (decFrmHzIn e z a p)

@@ -18,7 +18,7 @@ use Rattle.double.specs.rules.Table.{over}
 use Rattle.double.specs.notions.Range.{Range, _to_, inside}
 use Rattle.double.specs.laws.Tests.{by-test}
 use Rattle.double.specs.laws.Between.{between-itself, between-cut, between→size}
-use Rattle.elementary.specs.rules.Sine.{turnOf, farthestAlone}
+use Rattle.elementary.specs.rules.Sine.{sinCosOf, farthestAlone}
 use Rattle.elementary.specs.laws.Sine.{sine-between, cosine-between}
 use Rattle.aberr_args.specs.declared.Row.{Row}
 use Rattle.aberr_args.specs.declared.Terms.{Terms}
@@ -30,7 +30,7 @@ use Rattle.aberr_table.specs.rules.Table.{table, walked}
 use Rattle.aberr_table.specs.laws.Walk.{table-is-rows}
 use Rattle.domain_accepted.specs.notions.Within.{Within}
 use Rattle.domain.specs.notions.Ranges.{Lies}
-use Rattle.domain.specs.notions.Aberration.{Held, Ranges, still, Lie, turning, angleRange, timesRange, plusRange, argumentRange, century}
+use Rattle.domain.specs.notions.Aberration.{Held, Ranges, still, Lie, drifting, angleRange, timesRange, plusRange, argumentRange, century}
 use Rattle.domain.specs.notions.Aberration.{farOver, farAlong, cuts, argumentFar, argumentsFar, turn, groupedRange, termRange, withTermRange}
 use Rattle.domain.specs.notions.Aberration.{shareRange, withRowRange, walkedRange}
 use Rattle.domain.specs.laws.Ranges.{constant-lies, sum-lies, difference-lies, product-lies, either-lies, either-angle-lies, in-inside}
@@ -49,21 +49,21 @@ plus-lies k i j =
 -- ---- a row's argument
 
 module _ {part : Range} {t : Float} (P : Lies part t) where
-  turning-lies : (a b : Float) → Lies (turning part a b) (a ⊕ b ⊗ t)
-  turning-lies a b = sum-lies (constant-lies a) (product-lies (constant-lies b) P)
+  drifting-lies : (a b : Float) → Lies (drifting part a b) (a ⊕ b ⊗ t)
+  drifting-lies a b = sum-lies (constant-lies a) (product-lies (constant-lies b) P)
 
   angle-lies : (n : ℕ) → Lies (angleRange part n) (angleOf (argumentsOf t) n .0)
   unfolding angleOf argumentsOf
   angle-lies n =
-      either-angle-lies (eqb n 1) (turning-lies _ _)
-      (either-angle-lies (eqb n 2) (turning-lies _ _)
-      (either-angle-lies (eqb n 3) (turning-lies _ _)
-      (either-angle-lies (eqb n 4) (turning-lies _ _)
-      (either-angle-lies (eqb n 5) (turning-lies _ _)
-      (either-angle-lies (eqb n 6) (turning-lies _ _)
-      (either-angle-lies (eqb n 7) (turning-lies _ _)
-      (either-angle-lies (eqb n 8) (turning-lies _ _)
-      (either-angle-lies (eqb n 9) (turning-lies _ _) (either-angle-lies (eqb n 10) (turning-lies _ _) (turning-lies _ _))))))))))
+      either-angle-lies (eqb n 1) (drifting-lies _ _)
+      (either-angle-lies (eqb n 2) (drifting-lies _ _)
+      (either-angle-lies (eqb n 3) (drifting-lies _ _)
+      (either-angle-lies (eqb n 4) (drifting-lies _ _)
+      (either-angle-lies (eqb n 5) (drifting-lies _ _)
+      (either-angle-lies (eqb n 6) (drifting-lies _ _)
+      (either-angle-lies (eqb n 7) (drifting-lies _ _)
+      (either-angle-lies (eqb n 8) (drifting-lies _ _)
+      (either-angle-lies (eqb n 9) (drifting-lies _ _) (either-angle-lies (eqb n 10) (drifting-lies _ _) (drifting-lies _ _))))))))))
 
   argument-lies : (x : Row) → Lies (argumentRange part x) (argumentOf x (argumentsOf t) .0)
   unfolding argumentOf
@@ -72,7 +72,7 @@ module _ {part : Range} {t : Float} (P : Lies part t) where
       let a = angle-lies (x .1) in
       let b = angle-lies (x .3) in
       let c = angle-lies (x .5) in
-      either-lies (m .kept) (product-lies (constant-lies (m .first)) (difference-lies a b))
+      either-lies (m .bracketed) (product-lies (constant-lies (m .first)) (difference-lies a b))
       (plus-lies (m .third) (plus-lies (m .second) (times-lies (m .first) a) b) c)
 
   part-far : (x : Row) → T (farOver part x) → size (argumentOf x (argumentsOf t) .0) ≼ farthestAlone
@@ -113,7 +113,7 @@ module _ {t s c : Float} (P : Lies century t) (S : Lies turn s) (C : Lies turn c
   share-lies : (e : Terms) {r : Range} {v : Float} → Lies r v → Lies (shareRange e r) (shareOf e t s c v)
   unfolding shareOf spread moved
   share-lies e i =
-      either-lies (e .kept) (sum-lies i (grouped-lies e))
+      either-lies (e .bracketed) (sum-lies i (grouped-lies e))
       (either-lies (e .moving) (sum-lies i (with-term-lies (e .cosine) (e .«cosine_t») (term-lies (e .sine) (e .«sine_t»))))
       (either-lies (eq (e .sine) zero) (either-lies (eq (e .cosine) zero) i (sum-lies i (times-lies (e .cosine) C)))
       (sum-lies i (plus-lies (e .cosine) (times-lies (e .sine) S) C))))
@@ -135,12 +135,12 @@ module _ {t : Float} (W : Within 20 t) where
 
   row-lies : (x : Row) (all : List Row) {r : Ranges} {v : Velocity} → T (argumentFar x) → Lie r v
       → Lie (withRowRange x all r) (withRow x all (argumentsOf t) v)
-  unfolding withRow added turnOf argumentsOf
+  unfolding withRow added sinCosOf argumentsOf
   row-lies x all f i =
       let a = argumentOf x (argumentsOf t) in
       let P : Lies century t = record { lies = W } in
-      let S : Lies turn (turnOf a .sine) = record { lies = sine-between a (argument-far x f) } in
-      let C : Lies turn (turnOf a .cosine) = record { lies = cosine-between a (argument-far x f) } in
+      let S : Lies turn (sinCosOf a .sine) = record { lies = sine-between a (argument-far x f) } in
+      let C : Lies turn (sinCosOf a .cosine) = record { lies = cosine-between a (argument-far x f) } in
       record { x = share-lies P S C _ (i .x); y = share-lies P S C _ (i .y); z = share-lies P S C _ (i .z) }
 
   walked-lie : (all xs : List Row) {r : Ranges} {v : Velocity} → T (argumentsFar xs) → Lie r v

@@ -27,8 +27,8 @@ use Rattle.elementary.specs.rules.Sine.{farthestAlone}
 use Rattle.elementary.specs.laws.Accepted.{answered-unless}
 use Rattle.helpers.specs.rules.Angle.{arc, degree}
 use Rattle.precess_angles.specs.rules.Days.{placeRefusal}
-use Rattle.precess_angles.specs.rules.Equatorial.{eqTurnsOf}
-use Rattle.precess.specs.rules.Equatorial.{turnedIn, precessEqCoordsRule}
+use Rattle.precess_angles.specs.rules.Equatorial.{eqPrecessionOf}
+use Rattle.precess.specs.rules.Equatorial.{precessedIn, precessEqCoordsRule}
 use Rattle.nutation_table.specs.rules.Day.{nutationOf}
 use Rattle.nutation.specs.rules.Day.{nutationRule}
 use Rattle.nutation.specs.rules.Point.{nutationInRefusal, nutationInEqCoordsIn, nutationInEqCoordsRule}
@@ -40,7 +40,7 @@ use Rattle.domain_accepted.specs.notions.Outcome.{Outcome, FourSevenOrFourteen}
 use Rattle.domain_accepted.specs.notions.Within.{Within, IsPlace, BothFinite, BothWithin}
 use Rattle.domain_accepted.specs.laws.Outcome.{outcome-answered, outcome-then}
 use Rattle.domain_accepted.specs.laws.Near.{within, near-far}
-use Rattle.domain.specs.notions.Turns.{noDirection}
+use Rattle.domain.specs.notions.Precession.{noDirection}
 use Rattle.domain.specs.laws.Days.{century-within, second-accepted, place-accepted}
 use Rattle.domain.specs.laws.Equatorial.{precess-eq-coords-answers, precess-eq-coords-refuses, precess-eq-coords-fourteen}
 use Rattle.domain.specs.laws.NutationSum.{nutation-outcome, nutation-answers, nutation-refuses}
@@ -214,7 +214,7 @@ module _ (edition : Edition) (asc dec : Rad) (day1 day2 : Float) where
 
   -- 14 exactly where precession meets it
   pub chain-fourteen : placeRefusal asc dec day1 day2 ≡ 0
-      → chainRule edition asc dec day1 day2 ≡ refused 14 ↔ T (noDirection asc dec (eqTurnsOf edition day1 day2))
+      → chainRule edition asc dec day1 day2 ≡ refused 14 ↔ T (noDirection asc dec (eqPrecessionOf edition day1 day2))
   unfolding chainRule
   chain-fourteen none =
       Iff·trans
@@ -229,6 +229,6 @@ module _ (edition : Edition) (asc dec : Rad) (day1 day2 : Float) where
   unfolding chainRule
   chain-finite v e =
       let n = placeRefusal asc dec day1 day2 in
-      let work = turnedIn asc dec (eqTurnsOf edition day1 day2) in
+      let work = precessedIn asc dec (eqPrecessionOf edition day1 day2) in
       let none = answered-unless n (then work after) v (sym (then-unless n work after) ∙ e) .0 in
       outcome none .answers v e

@@ -22,11 +22,11 @@ use Rattle.helpers.specs.rules.Time.{centuryOf}
 use Rattle.precess_angles.specs.rules.Numbers.{n0·000217, n2004·3109, n0·8533, n0·42665, n0·041833, n1·09468, n0·000066}
 use Rattle.precess_angles.specs.declared.EqAngles.{EqAngles}
 use Rattle.precess_angles.specs.rules.Days.{spanOf, placeRefusal}
-use Rattle.precess_angles.specs.rules.Equatorial.{eqZeta, eqTheta, eqAnglesOf, turnsOf, eqTurnsOf}
+use Rattle.precess_angles.specs.rules.Equatorial.{eqZeta, eqTheta, eqAnglesOf, precessionBy, eqPrecessionOf}
 use Rattle.precess_angles.specs.notions.Editions.{zetaPublished, thetaPublished, anglesBy}
 use Rattle.precess_angles.specs.notions.Computed.{computed}
 use Rattle.precess_angles.specs.laws.Editions.{eq-angles-published}
-use Rattle.precess.specs.rules.Equatorial.{turnedIn, precessEqCoordsRule}
+use Rattle.precess.specs.rules.Equatorial.{precessedIn, precessEqCoordsRule}
 use Rattle.precess.specs.notions.Editions.{precessedBy}
 use Rattle.nutation.specs.rules.Day.{nutationRule}
 use Rattle.chain.specs.rules.Chain.{fromPoint, chainRule}
@@ -47,12 +47,12 @@ theta-printed : (c t : Float) → Within 20 c → thetaPublished c t ≡ thetaPr
 theta-printed c t C =
     let a = arc n0·8533 in
     let y = c ⊗ arc n0·000217 in
-    let turned : neg a ⊖ y ≡ neg (a ⊕ y) =
+    let negated : neg a ⊖ y ≡ neg (a ⊕ y) =
     ap (λ (z : Float). neg a ⊖ z) (sym (neg-neg y))
     ∙ sub-neg-neg binary64 a (neg y) (rw (sub-neg-r binary64 a y) (sum-not-zero c C))
     ∙ ap neg (sub-neg-r binary64 a y) in
     ap (λ (x : Float). deg (t ⊗ (arc n2004·3109 ⊕ x ⊖ t ⊗ ((arc n0·42665 ⊕ y) ⊕ t ⊗ arc n0·041833))))
-    (ap (λ (z : Float). c ⊗ z) turned ∙ mul-neg-r binary64 c (a ⊕ y))
+    (ap (λ (z : Float). c ⊗ z) negated ∙ mul-neg-r binary64 c (a ⊕ y))
     ∙ ap (λ (x : Float). deg (t ⊗ (x ⊖ t ⊗ ((arc n0·42665 ⊕ y) ⊕ t ⊗ arc n0·041833)))) (add-neg-r binary64 (arc n2004·3109) (c ⊗ (a ⊕ y)))
 
 -- bit for bit, of every accepted day
@@ -70,11 +70,11 @@ eq-angles-as-printed day1 day2 none =
 -- and so is the rule, of every place and any two days
 pub precess-eq-coords-as-printed : (asc dec : Rad) (day1 day2 : Float)
     → precessEqCoordsRule Published asc dec day1 day2 ≡ precessedBy zetaPublished thetaPrinted asc dec day1 day2
-unfolding eqTurnsOf
+unfolding eqPrecessionOf
 precess-eq-coords-as-printed asc dec day1 day2 =
-    let turned : EqAngles → Answer Pair = λ (a : EqAngles). turnedIn asc dec (turnsOf a) in
-    unless-cong (placeRefusal asc dec day1 day2) (turned (eqAnglesOf Published day1 day2)) (turned (anglesBy zetaPublished thetaPrinted day1 day2))
-    (λ none. ap turned (eq-angles-as-printed day1 day2 (first-accepted day1 day2 (place-accepted asc dec day1 day2 none .2))))
+    let precessed : EqAngles → Answer Pair = λ (a : EqAngles). precessedIn asc dec (precessionBy a) in
+    unless-cong (placeRefusal asc dec day1 day2) (precessed (eqAnglesOf Published day1 day2)) (precessed (anglesBy zetaPublished thetaPrinted day1 day2))
+    (λ none. ap precessed (eq-angles-as-printed day1 day2 (first-accepted day1 day2 (place-accepted asc dec day1 day2 none .2))))
 
 -- ---- from 2451545.0, where T is zero
 
@@ -89,14 +89,14 @@ third-same : arc n2004·3109 ⊕ c0 ⊗ (neg (arc n0·8533) ⊖ c0 ⊗ arc n0·0
 unfolding computed
 third-same = refl
 
-pub same-turns-from-the-epoch : (day : Float) → eqTurnsOf Published epoch day ≡ eqTurnsOf Crate epoch day
-unfolding eqTurnsOf eqAnglesOf eqZeta eqTheta
-same-turns-from-the-epoch day = rw (second-same, third-same)
+pub same-precession-from-the-epoch : (day : Float) → eqPrecessionOf Published epoch day ≡ eqPrecessionOf Crate epoch day
+unfolding eqPrecessionOf eqAnglesOf eqZeta eqTheta
+same-precession-from-the-epoch day = rw (second-same, third-same)
 
 -- so every place is, and every star of the chain
 pub same-places-from-the-epoch : (asc dec : Rad) (day : Float)
     → precessEqCoordsRule Published asc dec epoch day ≡ precessEqCoordsRule Crate asc dec epoch day
-same-places-from-the-epoch asc dec day = rw (same-turns-from-the-epoch day)
+same-places-from-the-epoch asc dec day = rw (same-precession-from-the-epoch day)
 
 pub same-chain-from-the-epoch : (asc dec : Rad) (day : Float) → chainRule Published asc dec epoch day ≡ chainRule Crate asc dec epoch day
 unfolding chainRule

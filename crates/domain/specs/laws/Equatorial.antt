@@ -25,18 +25,18 @@ use Rattle.elementary_arc.specs.laws.Arcsine.{arcsine-never-meets-fourteen}
 use Rattle.helpers.specs.rules.Angle.{arc, degree, radiansOf}
 use Rattle.helpers.specs.rules.Time.{centuryOf}
 use Rattle.precess_angles.specs.declared.EqAngles.{EqAngles}
-use Rattle.precess_angles.specs.declared.EqTurns.{EqTurns}
+use Rattle.precess_angles.specs.declared.EqPrecession.{EqPrecession}
 use Rattle.precess_angles.specs.rules.Numbers.{n2306·2181, n1·39656, n0·000139, n0·30188, n0·000344, n0·017998, n1·09468, n0·000066, n0·018203}
 use Rattle.precess_angles.specs.rules.Numbers.{n0·000217, n2004·3109, n0·8533, n0·42665, n0·041833, n2304·25, n1·396, n0·302, n0·018, n0·791, n0·001}
 use Rattle.precess_angles.specs.rules.Numbers.{n2004·682, n0·853, n0·426, n0·042}
 use Rattle.precess_angles.specs.rules.Days.{spanOf, daysRefusal, placeRefusal}
-use Rattle.precess_angles.specs.rules.Equatorial.{eqXi, eqZeta, eqTheta, eqAnglesOf, turnsOf, eqTurnsOf}
-use Rattle.precess_angles.specs.rules.Fk4.{fk4Century, fk4Span, fk4Xi, fk4Zeta, fk4Theta, degreesAsRadians, fk4Angle, fk4AnglesOf, fk4TurnsOf}
-use Rattle.precess.specs.rules.Equatorial.{arcsOf, placed, turnedIn, precessEqCoordsRule, precessEqCoordsFK5Rule}
+use Rattle.precess_angles.specs.rules.Equatorial.{eqXi, eqZeta, eqTheta, eqAnglesOf, precessionBy, eqPrecessionOf}
+use Rattle.precess_angles.specs.rules.Fk4.{fk4Century, fk4Span, fk4Xi, fk4Zeta, fk4Theta, degreesAsRadians, fk4Angle, fk4AnglesOf, fk4PrecessionOf}
+use Rattle.precess.specs.rules.Equatorial.{arcsOf, precessedFrom, precessedIn, precessEqCoordsRule, precessEqCoordsFK5Rule}
 use Rattle.domain_accepted.specs.laws.Accepted.{angle-between, latitude-sine, latitude-cosine}
 use Rattle.domain_accepted.specs.notions.Outcome.{Outcome, SevenOrFourteen}
 use Rattle.domain_accepted.specs.notions.Within.{Within, IsPlace, BothFinite}
-use Rattle.domain.specs.notions.Turns.{EqTurnsNear, upOf, acrossOf, noDirection}
+use Rattle.domain.specs.notions.Precession.{EqPrecessionNear, upOf, acrossOf, noDirection}
 use Rattle.domain_accepted.specs.laws.Outcome.{outcome-with, outcome-both, rule-answers, rule-refuses}
 use Rattle.domain_accepted.specs.laws.Elementary.{arctangent-outcome, arcsine-outcome}
 use Rattle.domain_accepted.specs.laws.Near.{within, near-far, near-sine, near-cosine}
@@ -108,9 +108,9 @@ module _ (c t : Float) (C : Within 41 c) (S : Within 41 t) where
   fk4-theta-near Crate = fk4-theta-within
   fk4-theta-near Published = within 2048 (known fk4-theta-within ⊠ con degree) tt
 
-turns-near : (a : EqAngles) → Within 1024 (a .xi .0) → Within 32 (a .zeta .0) → Within 2048 (a .theta .0) → EqTurnsNear (turnsOf a)
-unfolding turnsOf
-turns-near a X Z T = record { xi = X; zeta = Z; sine = near-sine (a .theta) T; cosine = near-cosine (a .theta) T }
+precession-near : (a : EqAngles) → Within 1024 (a .xi .0) → Within 32 (a .zeta .0) → Within 2048 (a .theta .0) → EqPrecessionNear (precessionBy a)
+unfolding precessionBy
+precession-near a X Z T = record { xi = X; zeta = Z; sine = near-sine (a .theta) T; cosine = near-cosine (a .theta) T }
 
 module _ (e : Edition) (day1 day2 : Float) (none : daysRefusal day1 day2 ≡ 0) where
   century : Within 20 (centuryOf day1)
@@ -125,19 +125,19 @@ module _ (e : Edition) (day1 day2 : Float) (none : daysRefusal day1 day2 ≡ 0) 
   fk4-span : Within 41 (fk4Span day1 day2)
   fk4-span = fk4-span-within day1 day2 none
 
-  pub eq-turns-near : EqTurnsNear (eqTurnsOf e day1 day2)
-  unfolding eqTurnsOf eqAnglesOf
-  eq-turns-near =
+  pub eq-precession-near : EqPrecessionNear (eqPrecessionOf e day1 day2)
+  unfolding eqPrecessionOf eqAnglesOf
+  eq-precession-near =
       let c = centuryOf day1 in
       let t = spanOf day1 day2 in
-      turns-near (eqAnglesOf e day1 day2) (xi-within c t century span) (zeta-within c t century span e) (theta-within c t century span e)
+      precession-near (eqAnglesOf e day1 day2) (xi-within c t century span) (zeta-within c t century span e) (theta-within c t century span e)
 
-  pub fk4-turns-near : EqTurnsNear (fk4TurnsOf e day1 day2)
-  unfolding fk4TurnsOf fk4AnglesOf
-  fk4-turns-near =
+  pub fk4-precession-near : EqPrecessionNear (fk4PrecessionOf e day1 day2)
+  unfolding fk4PrecessionOf fk4AnglesOf
+  fk4-precession-near =
       let c = fk4Century day1 in
       let t = fk4Span day1 day2 in
-      turns-near (fk4AnglesOf e day1 day2)
+      precession-near (fk4AnglesOf e day1 day2)
       (fk4-xi-near c t fk4-century fk4-span e) (fk4-zeta-near c t fk4-century fk4-span e) (fk4-theta-near c t fk4-century fk4-span e)
 
   -- the third angle goes into a sine
@@ -151,57 +151,57 @@ module _ (e : Edition) (day1 day2 : Float) (none : daysRefusal day1 day2 ≡ 0) 
       near-far (fk4Angle e (fk4Theta (fk4Century day1) (fk4Span day1 day2)) .0)
       (fk4-theta-near (fk4Century day1) (fk4Span day1 day2) fk4-century fk4-span e)
 
--- ---- a place after the turns
+-- ---- a place after precession
 
-module _ (asc dec : Rad) (turns : EqTurns) (A : angleRefusal asc ≡ 0) (D : latitudeRefusal dec ≡ 0) (N : EqTurnsNear turns) where
+module _ (asc dec : Rad) (precession : EqPrecession) (A : angleRefusal asc ≡ 0) (D : latitudeRefusal dec ≡ 0) (N : EqPrecessionNear precession) where
   -- the right ascension with xi added goes into a sine
-  turned-within : Within 2048 (asc .0 ⊕ turns .xi .0)
+  argument-within : Within 2048 (asc .0 ⊕ precession .xi .0)
   unfolding isFinite le neg add ofBits round
-  turned-within = within 2048 (known (angle-between asc A) ⊞ known (N .xi)) tt
+  argument-within = within 2048 (known (angle-between asc A) ⊞ known (N .xi)) tt
 
-  pub turned-far : size (asc .0 ⊕ turns .xi .0) ≼ farthestAlone
-  turned-far = near-far (asc .0 ⊕ turns .xi .0) turned-within
+  pub precessed-far : size (asc .0 ⊕ precession .xi .0) ≼ farthestAlone
+  precessed-far = near-far (asc .0 ⊕ precession .xi .0) argument-within
 
-  pub turned-outcome : Outcome IsPlace SevenOrFourteen (turnedIn asc dec turns)
-  unfolding turnedIn directionOf placed arcsOf plus isFinite le neg add sub mul ofBits round
-  turned-outcome =
-      let a = rad (asc .0 ⊕ turns .xi .0) in
-      let sa = known (near-sine a turned-within) in
-      let ca = known (near-cosine a turned-within) in
+  pub precessed-outcome : Outcome IsPlace SevenOrFourteen (precessedIn asc dec precession)
+  unfolding precessedIn directionOf precessedFrom arcsOf plus isFinite le neg add sub mul ofBits round
+  precessed-outcome =
+      let a = rad (asc .0 ⊕ precession .xi .0) in
+      let sa = known (near-sine a argument-within) in
+      let ca = known (near-cosine a argument-within) in
       let sd = known (latitude-sine dec D) in
       let cd = known (latitude-cosine dec D) in
-      let y = upOf asc dec turns in
-      let x = acrossOf asc dec turns in
-      let s = turns .sine ⊗ cosineOf dec ⊗ cosineOf a ⊕ turns .cosine ⊗ sineOf dec in
-      outcome-both (Within 64) (Between (neg HALF) HALF) (plus (arctangentIn y x) (turns .zeta)) (arcsineIn s)
-      (outcome-with (λ (v : Rad). rad (v .0 ⊕ turns .zeta .0)) (λ v i. within 64 (known i ⊞ known (N .zeta)) tt) (arctangentIn y x)
+      let y = upOf asc dec precession in
+      let x = acrossOf asc dec precession in
+      let s = precession .sine ⊗ cosineOf dec ⊗ cosineOf a ⊕ precession .cosine ⊗ sineOf dec in
+      outcome-both (Within 64) (Between (neg HALF) HALF) (plus (arctangentIn y x) (precession .zeta)) (arcsineIn s)
+      (outcome-with (λ (v : Rad). rad (v .0 ⊕ precession .zeta .0)) (λ v i. within 64 (known i ⊞ known (N .zeta)) tt) (arctangentIn y x)
       (arctangent-outcome (inr refl) y x (within 2 (cd ⊠ sa) tt .finite) (within 4 (known (N .cosine) ⊠ cd ⊠ ca ⊟ known (N .sine) ⊠ sd) tt .finite)))
       (arcsine-outcome (inl refl) s (within 4 (known (N .sine) ⊠ cd ⊠ ca ⊞ known (N .cosine) ⊠ sd) tt .finite))
 
-turned-fourteen : (asc dec : Rad) (turns : EqTurns) → turnedIn asc dec turns ≡ refused 14 ↔ T (noDirection asc dec turns)
-unfolding turnedIn directionOf placed arcsOf plus both then
-turned-fourteen asc dec turns =
-    let s = turns .sine ⊗ cosineOf dec ⊗ cosineOf (rad (asc .0 ⊕ turns .xi .0)) ⊕ turns .cosine ⊗ sineOf dec in
-    fourteen-of-zeros (upOf asc dec turns) (acrossOf asc dec turns) (λ (a : Answer Rad). both (plus a (turns .zeta)) (arcsineIn s)) refl
+precessed-fourteen : (asc dec : Rad) (precession : EqPrecession) → precessedIn asc dec precession ≡ refused 14 ↔ T (noDirection asc dec precession)
+unfolding precessedIn directionOf precessedFrom arcsOf plus both then
+precessed-fourteen asc dec precession =
+    let s = precession .sine ⊗ cosineOf dec ⊗ cosineOf (rad (asc .0 ⊕ precession .xi .0)) ⊕ precession .cosine ⊗ sineOf dec in
+    fourteen-of-zeros (upOf asc dec precession) (acrossOf asc dec precession) (λ (a : Answer Rad). both (plus a (precession .zeta)) (arcsineIn s)) refl
     (λ v e.
     arcsine-never-meets-fourteen s
-    (with-refused (arcsineIn s) (λ (y : Rad). pair (v .0 ⊕ turns .zeta .0) (y .0)) 14 e))
+    (with-refused (arcsineIn s) (λ (y : Rad). pair (v .0 ⊕ precession .zeta .0) (y .0)) 14 e))
 
 -- ---- the two functions
 
 module _ (edition : Edition) (asc dec : Rad) (day1 day2 : Float) where
-  eq-outcome : placeRefusal asc dec day1 day2 ≡ 0 → Outcome IsPlace SevenOrFourteen (turnedIn asc dec (eqTurnsOf edition day1 day2))
+  eq-outcome : placeRefusal asc dec day1 day2 ≡ 0 → Outcome IsPlace SevenOrFourteen (precessedIn asc dec (eqPrecessionOf edition day1 day2))
   eq-outcome e =
       let n = place-accepted asc dec day1 day2 e in
-      turned-outcome asc dec (eqTurnsOf edition day1 day2) (n .0) (n .1) (eq-turns-near edition day1 day2 (n .2))
+      precessed-outcome asc dec (eqPrecessionOf edition day1 day2) (n .0) (n .1) (eq-precession-near edition day1 day2 (n .2))
 
-  fk4-outcome : placeRefusal asc dec day1 day2 ≡ 0 → Outcome IsPlace SevenOrFourteen (turnedIn asc dec (fk4TurnsOf edition day1 day2))
+  fk4-outcome : placeRefusal asc dec day1 day2 ≡ 0 → Outcome IsPlace SevenOrFourteen (precessedIn asc dec (fk4PrecessionOf edition day1 day2))
   fk4-outcome e =
       let n = place-accepted asc dec day1 day2 e in
-      turned-outcome asc dec (fk4TurnsOf edition day1 day2) (n .0) (n .1) (fk4-turns-near edition day1 day2 (n .2))
+      precessed-outcome asc dec (fk4PrecessionOf edition day1 day2) (n .0) (n .1) (fk4-precession-near edition day1 day2 (n .2))
 
   pub precess-eq-coords-answers : (p : Pair) → precessEqCoordsRule edition asc dec day1 day2 ≡ answered p → IsPlace p
-  precess-eq-coords-answers = rule-answers (placeRefusal asc dec day1 day2) (turnedIn asc dec (eqTurnsOf edition day1 day2)) eq-outcome
+  precess-eq-coords-answers = rule-answers (placeRefusal asc dec day1 day2) (precessedIn asc dec (eqPrecessionOf edition day1 day2)) eq-outcome
 
   pub precess-eq-coords-finite : (p : Pair) → precessEqCoordsRule edition asc dec day1 day2 ≡ answered p → BothFinite p
   precess-eq-coords-finite p e =
@@ -209,16 +209,16 @@ module _ (edition : Edition) (asc dec : Rad) (day1 day2 : Float) where
       (i .0 .finite, i .1 .finite)
 
   pub precess-eq-coords-refuses : placeRefusal asc dec day1 day2 ≡ 0 → (n : ℕ) → precessEqCoordsRule edition asc dec day1 day2 ≡ refused n → SevenOrFourteen n
-  precess-eq-coords-refuses = rule-refuses (placeRefusal asc dec day1 day2) (turnedIn asc dec (eqTurnsOf edition day1 day2)) eq-outcome
+  precess-eq-coords-refuses = rule-refuses (placeRefusal asc dec day1 day2) (precessedIn asc dec (eqPrecessionOf edition day1 day2)) eq-outcome
 
   pub precess-eq-coords-fourteen : placeRefusal asc dec day1 day2 ≡ 0
-      → precessEqCoordsRule edition asc dec day1 day2 ≡ refused 14 ↔ T (noDirection asc dec (eqTurnsOf edition day1 day2))
+      → precessEqCoordsRule edition asc dec day1 day2 ≡ refused 14 ↔ T (noDirection asc dec (eqPrecessionOf edition day1 day2))
   precess-eq-coords-fourteen =
-      let turns = eqTurnsOf edition day1 day2 in
-      fourteen-accepted (placeRefusal asc dec day1 day2) (turnedIn asc dec turns) (turned-fourteen asc dec turns)
+      let precession = eqPrecessionOf edition day1 day2 in
+      fourteen-accepted (placeRefusal asc dec day1 day2) (precessedIn asc dec precession) (precessed-fourteen asc dec precession)
 
   pub precess-eq-coords-fk5-answers : (p : Pair) → precessEqCoordsFK5Rule edition asc dec day1 day2 ≡ answered p → IsPlace p
-  precess-eq-coords-fk5-answers = rule-answers (placeRefusal asc dec day1 day2) (turnedIn asc dec (fk4TurnsOf edition day1 day2)) fk4-outcome
+  precess-eq-coords-fk5-answers = rule-answers (placeRefusal asc dec day1 day2) (precessedIn asc dec (fk4PrecessionOf edition day1 day2)) fk4-outcome
 
   pub precess-eq-coords-fk5-finite : (p : Pair) → precessEqCoordsFK5Rule edition asc dec day1 day2 ≡ answered p → BothFinite p
   precess-eq-coords-fk5-finite p e =
@@ -227,10 +227,10 @@ module _ (edition : Edition) (asc dec : Rad) (day1 day2 : Float) where
 
   pub precess-eq-coords-fk5-refuses : placeRefusal asc dec day1 day2 ≡ 0 → (n : ℕ)
       → precessEqCoordsFK5Rule edition asc dec day1 day2 ≡ refused n → SevenOrFourteen n
-  precess-eq-coords-fk5-refuses = rule-refuses (placeRefusal asc dec day1 day2) (turnedIn asc dec (fk4TurnsOf edition day1 day2)) fk4-outcome
+  precess-eq-coords-fk5-refuses = rule-refuses (placeRefusal asc dec day1 day2) (precessedIn asc dec (fk4PrecessionOf edition day1 day2)) fk4-outcome
 
   pub precess-eq-coords-fk5-fourteen : placeRefusal asc dec day1 day2 ≡ 0
-      → precessEqCoordsFK5Rule edition asc dec day1 day2 ≡ refused 14 ↔ T (noDirection asc dec (fk4TurnsOf edition day1 day2))
+      → precessEqCoordsFK5Rule edition asc dec day1 day2 ≡ refused 14 ↔ T (noDirection asc dec (fk4PrecessionOf edition day1 day2))
   precess-eq-coords-fk5-fourteen =
-      let turns = fk4TurnsOf edition day1 day2 in
-      fourteen-accepted (placeRefusal asc dec day1 day2) (turnedIn asc dec turns) (turned-fourteen asc dec turns)
+      let precession = fk4PrecessionOf edition day1 day2 in
+      fourteen-accepted (placeRefusal asc dec day1 day2) (precessedIn asc dec precession) (precessed-fourteen asc dec precession)

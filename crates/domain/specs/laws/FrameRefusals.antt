@@ -16,7 +16,7 @@ use Rattle.quantity.specs.rules.Answer.{refused, unless, addedTo, takenFrom}
 use Rattle.quantity.specs.rules.Refusal.{angleRefusal, steepRefusal}
 use Rattle.quantity.specs.laws.Steps.{with-refused}
 use Rattle.edition.specs.declared.Edition.{Edition}
-use Rattle.edition.specs.rules.Edition.{chosen}
+use Rattle.edition.specs.rules.Edition.{byEdition}
 use Rattle.elementary.specs.declared.Folded.{Folded}
 use Rattle.elementary.specs.rules.Fold.{fold}
 use Rattle.elementary.specs.rules.Sine.{foldedSine, foldedCosine, foldedTangent, sineOf, cosineOf, tangentOf}
@@ -85,7 +85,7 @@ module _ (z a p : Rad) where
   pub dec-frm-hz-never-meets-fourteen : (e : Edition) → skyRefusal z a p ≡ 0 → decFrmHzRule e z a p ≢ refused 14
   unfolding decFrmHzIn
   dec-frm-hz-never-meets-fourteen e =
-      by-arcsine (skyRefusal z a p) (sineOf p ⊗ sineOf a ⊖ cosineOf p ⊗ chosen e (cosineOf z) (cosineOf a) ⊗ cosineOf z)
+      by-arcsine (skyRefusal z a p) (sineOf p ⊗ sineOf a ⊖ cosineOf p ⊗ byEdition e (cosineOf z) (cosineOf a) ⊗ cosineOf z)
 
 -- ---- right ascension and declination from ecliptic coordinates
 

@@ -14,7 +14,7 @@ use Rattle.quantity.specs.rules.Answer.{answered, unless, addedTo, takenFrom}
 use Rattle.quantity.specs.rules.Refusal.{angleRefusal, latitudeRefusal, steepRefusal}
 use Rattle.edition.specs.declared.Edition.{Edition}
 use Rattle.edition.specs.declared.Edition.the-variants.{Crate, Published}
-use Rattle.edition.specs.rules.Edition.{chosen}
+use Rattle.edition.specs.rules.Edition.{byEdition}
 use Rattle.elementary.specs.rules.Fold.{fold}
 use Rattle.elementary.specs.rules.Sine.{sineOf, cosineOf, tangentOf, farthestAlone}
 use Rattle.elementary_arc.specs.rules.Arctangent.{arctangentIn}
@@ -127,14 +127,14 @@ hr-angl-frm-hz-finite z a p v answer =
 
 -- the cosine that the editions have otherwise
 either-cosine : (e : Edition) (z a : Rad) → angleRefusal z ≡ 0 → latitudeRefusal a ≡ 0
-    → Between (neg one) one (chosen e (cosineOf z) (cosineOf a))
+    → Between (neg one) one (byEdition e (cosineOf z) (cosineOf a))
 either-cosine Crate z a Z A = angle-cosine z Z
 either-cosine Published z a Z A = latitude-cosine a A
 
 pub dec-frm-hz-at-most-quarter-turn : (e : Edition) (z a p v : Rad) → decFrmHzRule e z a p ≡ answered v → size (v .0) ≼ HALF
 unfolding decFrmHzIn isFinite le neg add sub mul ofBits round
 dec-frm-hz-at-most-quarter-turn e z a p v answer =
-    of-arcsine (skyRefusal z a p) (sineOf p ⊗ sineOf a ⊖ cosineOf p ⊗ chosen e (cosineOf z) (cosineOf a) ⊗ cosineOf z) v answer
+    of-arcsine (skyRefusal z a p) (sineOf p ⊗ sineOf a ⊖ cosineOf p ⊗ byEdition e (cosineOf z) (cosineOf a) ⊗ cosineOf z) v answer
     (λ none.
     let n = none-of-three (angleRefusal z) (latitudeRefusal a) (latitudeRefusal p) none in
     within 32768 (known (latitude-sine p (n .2)) ⊠ known (latitude-sine a (n .1)) ⊟ known (latitude-cosine p (n .2)) ⊠ known (either-cosine e z a (n .0) (n .1)) ⊠ known (angle-cosine z (n .0))) tt .finite)

@@ -25,20 +25,20 @@ use Rattle.elementary_arc.specs.rules.Arctangent.{bothZero, arctangentIn}
 use Rattle.elementary_arc.specs.rules.Arcsine.{arcsineIn}
 use Rattle.elementary_arc.specs.notions.Computed as arc
 use Rattle.elementary.specs.laws.Accepted.{lower-none}
-use Rattle.precess_ecl.specs.declared.EclTurns.{EclTurns}
+use Rattle.precess_ecl.specs.declared.EclPrecession.{EclPrecession}
 use Rattle.precess_angles.specs.rules.Days.{daysRefusal}
-use Rattle.precess_ecl.specs.rules.Ecliptic.{eclTurnsOf}
+use Rattle.precess_ecl.specs.rules.Ecliptic.{eclPrecessionOf}
 use Rattle.precess_ecl.specs.rules.Orbit.{leanedOf, newInclination, newNode, nodeAndPerihelion, orbitFrom, orbitIn, orbitRefusal, precessOrbElementsRule}
 use Rattle.domain_accepted.specs.laws.Accepted.{none-of-three, angle-between, angle-sine, angle-cosine}
 use Rattle.domain_accepted.specs.notions.Outcome.{Outcome, SixOrSeven}
 use Rattle.domain_accepted.specs.notions.Within.{Angle, Within, AllFinite}
-use Rattle.domain.specs.notions.Turns.{EclTurnsNear}
-use Rattle.domain_accepted.specs.laws.Outcome.{outcome-answered, outcome-refused, outcome-cond, outcome-wider, outcome-kept, outcome-with}
+use Rattle.domain.specs.notions.Precession.{EclPrecessionNear}
+use Rattle.domain_accepted.specs.laws.Outcome.{outcome-answered, outcome-refused, outcome-cond, outcome-wider, outcome-with-answer, outcome-with}
 use Rattle.domain_accepted.specs.laws.Outcome.{outcome-then, outcome-both, rule-answers, rule-refuses}
 use Rattle.domain_accepted.specs.laws.Elementary.{arctangent-outcome-of, square-of-zero, arcsine-outcome, arcsine-number-outcome, quotient-not-nan}
 use Rattle.domain_accepted.specs.laws.Elementary.{root-outcome}
 use Rattle.domain_accepted.specs.laws.Near.{within, near-far, near-sine, near-cosine}
-use Rattle.domain.specs.laws.Ecliptic.{ecl-turns-near}
+use Rattle.domain.specs.laws.Ecliptic.{ecl-precession-near}
 
 -- ---- no inclination
 
@@ -53,11 +53,11 @@ sine-of-zero : T (isZero (sineOf (rad zero)))
 unfolding arc.computed
 sine-of-zero = tt
 
-module _ (inc perih node : Rad) (turns : EclTurns) (I : angleRefusal inc ≡ 0) (P : angleRefusal perih ≡ 0) (O : angleRefusal node ≡ 0) (N : EclTurnsNear turns) where
+module _ (inc perih node : Rad) (precession : EclPrecession) (I : angleRefusal inc ≡ 0) (P : angleRefusal perih ≡ 0) (O : angleRefusal node ≡ 0) (N : EclPrecessionNear precession) where
   -- ---- the node less Pi
 
   abbrev fromPi : Rad
-  fromPi = rad (node .0 ⊖ turns .pi .0)
+  fromPi = rad (node .0 ⊖ precession .pi .0)
 
   from-pi-within : Within 2048 (fromPi .0)
   unfolding isFinite le neg add sub ofBits round
@@ -72,7 +72,7 @@ module _ (inc perih node : Rad) (turns : EclTurns) (I : angleRefusal inc ≡ 0) 
   A = sineOf inc ⊗ sineOf fromPi
 
   abbrev B : Float
-  B = neg (turns .sine) ⊗ cosineOf inc ⊕ turns .cosine ⊗ sineOf inc ⊗ cosineOf fromPi
+  B = neg (precession .sine) ⊗ cosineOf inc ⊕ precession .cosine ⊗ sineOf inc ⊗ cosineOf fromPi
 
   a-within : Within 2 A
   unfolding isFinite le neg mul ofBits round
@@ -86,34 +86,34 @@ module _ (inc perih node : Rad) (turns : EclTurns) (I : angleRefusal inc ≡ 0) 
 
   -- ---- the new inclination, which goes into a sine, and the new node
 
-  inclination-outcome : Outcome (Angle (Within 1024)) SixOrSeven (newInclination inc (leanedOf (fold inc) (fold fromPi) turns) turns)
+  inclination-outcome : Outcome (Angle (Within 1024)) SixOrSeven (newInclination inc (leanedOf (fold inc) (fold fromPi) precession) precession)
   unfolding newInclination leanedOf isFinite le neg add mul ofBits round
   inclination-outcome =
       let a = known a-within in
       let b = known b-within in
       let x = A ⊗ A ⊕ B ⊗ B in
-      outcome-cond (eq (inc .0) zero) (answered (turns .nu)) (then (rootRule x) arcsineIn) (outcome-answered (turns .nu) (N .nu))
+      outcome-cond (eq (inc .0) zero) (answered (precession .nu)) (then (rootRule x) arcsineIn) (outcome-answered (precession .nu) (N .nu))
       (λ t.
       outcome-then {R = Angle (Within 1024)} arcsineIn (λ r F. outcome-wider (λ v i. within 1024 (known i) tt) (arcsine-outcome (inr refl) r F)) (rootRule x)
       (root-outcome A B (a-within .finite) (b-within .finite) (within 4 (a ⊠ a) tt .finite) (within 4 (b ⊠ b) tt .finite) (within 8 (a ⊠ a ⊞ b ⊠ b) tt .finite)))
 
-  pub inclination-far : (i : Rad) → newInclination inc (leanedOf (fold inc) (fold fromPi) turns) turns ≡ answered i
+  pub inclination-far : (i : Rad) → newInclination inc (leanedOf (fold inc) (fold fromPi) precession) precession ≡ answered i
       → size (i .0) ≼ farthestAlone
   unfolding isFinite le neg round
   inclination-far i e = near-far (i .0) (within 2048 (known (inclination-outcome .answers i e)) tt)
 
   -- where A and B are both zero, so is the new inclination, whose sine is tested first: 14 is never met
   inclination-of-zeros : T (not (eq (inc .0) zero)) → T (bothZero A B)
-      → newInclination inc (leanedOf (fold inc) (fold fromPi) turns) turns ≡ answered (rad zero)
+      → newInclination inc (leanedOf (fold inc) (fold fromPi) precession) precession ≡ answered (rad zero)
   unfolding newInclination leanedOf
   inclination-of-zeros t z =
       rw (is-false (eq (inc .0) zero) t) (zeros-lean A B (and-l (isZero A) (isZero B) z) (and-r (isZero A) (isZero B) z))
 
-  zeros-six : T (not (eq (inc .0) zero)) → T (bothZero A B) → orbitIn inc perih node turns ≡ refused 6
+  zeros-six : T (not (eq (inc .0) zero)) → T (bothZero A B) → orbitIn inc perih node precession ≡ refused 6
   unfolding orbitIn orbitFrom then
   zeros-six t z = rw (inclination-of-zeros t z, is-true (isZero (sineOf (rad zero))) sine-of-zero)
 
-  not-both-zero : (i : Rad) → newInclination inc (leanedOf (fold inc) (fold fromPi) turns) turns ≡ answered i → NonZero (sineOf i)
+  not-both-zero : (i : Rad) → newInclination inc (leanedOf (fold inc) (fold fromPi) precession) precession ≡ answered i → NonZero (sineOf i)
       → T (not (eq (inc .0) zero)) → T (not (bothZero A B))
   not-both-zero i e some t = not-T (bothZero A B) (λ (z : T (bothZero A B)). T-not (isZero (sineOf i)) some (at-zero z))
     where
@@ -121,10 +121,10 @@ module _ (inc perih node : Rad) (turns : EclTurns) (I : angleRefusal inc ≡ 0) 
       at-zero z = rw (same-value (sym e ∙ inclination-of-zeros t z)) sine-of-zero
 
   node-outcome : (T (not (eq (inc .0) zero)) → T (not (bothZero A B)))
-      → Outcome (Angle Finite) SixOrSeven (newNode inc (leanedOf (fold inc) (fold fromPi) turns) turns)
+      → Outcome (Angle Finite) SixOrSeven (newNode inc (leanedOf (fold inc) (fold fromPi) precession) precession)
   unfolding newNode leanedOf addedTo isFinite le neg add ofBits round
   node-outcome some =
-      let phi = turns .pi .0 ⊕ turns .rho .0 in
+      let phi = precession .pi .0 ⊕ precession .rho .0 in
       let F = known (N .pi) ⊞ known (N .rho) in
       let v = arctangentIn A B in
       outcome-cond (eq (inc .0) zero) (answered (rad (phi ⊕ PI))) (addedTo (rad phi) v)
@@ -135,65 +135,65 @@ module _ (inc perih node : Rad) (turns : EclTurns) (I : angleRefusal inc ≡ 0) 
 
   -- ---- the three elements, by the sine of the new inclination, where that is not zero
 
-  from-outcome : (i : Rad) → Within 1024 (i .0) × (newInclination inc (leanedOf (fold inc) (fold fromPi) turns) turns ≡ answered i)
-      → Outcome AllFinite SixOrSeven (orbitFrom i (newNode inc (leanedOf (fold inc) (fold fromPi) turns) turns) perih (fold fromPi) turns)
+  from-outcome : (i : Rad) → Within 1024 (i .0) × (newInclination inc (leanedOf (fold inc) (fold fromPi) precession) precession ≡ answered i)
+      → Outcome AllFinite SixOrSeven (orbitFrom i (newNode inc (leanedOf (fold inc) (fold fromPi) precession) precession) perih (fold fromPi) precession)
   unfolding orbitFrom nodeAndPerihelion addedTo isFinite le neg add mul ofBits round
   from-outcome i known-i =
       let J = known-i .0 in
       let s = sineOf i in
       let S = near-sine i (within 2048 (known J) tt) in
-      let top = neg (turns .sine) ⊗ sineOf fromPi in
+      let top = neg (precession .sine) ⊗ sineOf fromPi in
       let T = within 2 (known (between-neg (N .sine)) ⊠ known (near-sine fromPi from-pi-within)) tt in
-      let new = newNode inc (leanedOf (fold inc) (fold fromPi) turns) turns in
+      let new = newNode inc (leanedOf (fold inc) (fold fromPi) precession) precession in
       outcome-cond (eq s zero) (refused 6)
-      (then (nodeAndPerihelion s new perih (fold fromPi) turns) (λ (p : Pair). answered (triple (i .0) (second p) (first p))))
+      (then (nodeAndPerihelion s new perih (fold fromPi) precession) (λ (p : Pair). answered (triple (i .0) (second p) (first p))))
       (outcome-refused 6 (inl refl))
       (λ not-zero.
       outcome-then (λ (p : Pair). answered (triple (i .0) (second p) (first p)))
       (λ p q. outcome-answered (triple (i .0) (second p) (first p)) (J .finite, q .1, q .0))
-      (nodeAndPerihelion s new perih (fold fromPi) turns)
+      (nodeAndPerihelion s new perih (fold fromPi) precession)
       (outcome-both Finite Finite new (addedTo perih (arcsineIn (top ⊘ s))) (node-outcome (not-both-zero i (known-i .1) not-zero))
       (outcome-with (λ (x : Rad). rad (perih .0 ⊕ x .0)) (λ x j. within 2048 (known (angle-between perih P) ⊞ known j) tt .finite) (arcsineIn (top ⊘ s))
       (arcsine-number-outcome (inr refl) (top ⊘ s) (quotient-not-nan top s (T .finite) (S .finite) not-zero)))))
 
-  orbit-outcome : Outcome AllFinite SixOrSeven (orbitIn inc perih node turns)
+  orbit-outcome : Outcome AllFinite SixOrSeven (orbitIn inc perih node precession)
   unfolding orbitIn
   orbit-outcome =
       outcome-then
-      (λ (i : Rad). orbitFrom i (newNode inc (leanedOf (fold inc) (fold fromPi) turns) turns) perih (fold fromPi) turns)
+      (λ (i : Rad). orbitFrom i (newNode inc (leanedOf (fold inc) (fold fromPi) precession) precession) perih (fold fromPi) precession)
       from-outcome
-      (newInclination inc (leanedOf (fold inc) (fold fromPi) turns) turns) (outcome-kept inclination-outcome)
+      (newInclination inc (leanedOf (fold inc) (fold fromPi) precession) precession) (outcome-with-answer inclination-outcome)
 
 -- ---- the function
 
 module _ (inc perih node : Rad) (day1 day2 : Float) where
   accepted : orbitRefusal inc perih node day1 day2 ≡ 0
-      → (angleRefusal inc ≡ 0) × (angleRefusal perih ≡ 0) × (angleRefusal node ≡ 0) × EclTurnsNear (eclTurnsOf day1 day2)
+      → (angleRefusal inc ≡ 0) × (angleRefusal perih ≡ 0) × (angleRefusal node ≡ 0) × EclPrecessionNear (eclPrecessionOf day1 day2)
   accepted e =
       let n = lower-none (lower (angleRefusal inc) (lower (angleRefusal perih) (angleRefusal node))) (daysRefusal day1 day2) e in
       let m = none-of-three (angleRefusal inc) (angleRefusal perih) (angleRefusal node) (n .0) in
-      (m .0, m .1, m .2, ecl-turns-near day1 day2 (n .1))
+      (m .0, m .1, m .2, ecl-precession-near day1 day2 (n .1))
 
-  outcome : orbitRefusal inc perih node day1 day2 ≡ 0 → Outcome AllFinite SixOrSeven (orbitIn inc perih node (eclTurnsOf day1 day2))
+  outcome : orbitRefusal inc perih node day1 day2 ≡ 0 → Outcome AllFinite SixOrSeven (orbitIn inc perih node (eclPrecessionOf day1 day2))
   outcome e =
       let n = accepted e in
-      orbit-outcome inc perih node (eclTurnsOf day1 day2) (n .0) (n .1) (n .2) (n .3)
+      orbit-outcome inc perih node (eclPrecessionOf day1 day2) (n .0) (n .1) (n .2) (n .3)
 
   pub precess-orb-elements-finite : (t : Triple) → precessOrbElementsRule inc perih node day1 day2 ≡ answered t → AllFinite t
   precess-orb-elements-finite =
-      rule-answers (orbitRefusal inc perih node day1 day2) (orbitIn inc perih node (eclTurnsOf day1 day2)) outcome
+      rule-answers (orbitRefusal inc perih node day1 day2) (orbitIn inc perih node (eclPrecessionOf day1 day2)) outcome
 
   pub precess-orb-elements-refuses : orbitRefusal inc perih node day1 day2 ≡ 0 → (n : ℕ)
       → precessOrbElementsRule inc perih node day1 day2 ≡ refused n → SixOrSeven n
   precess-orb-elements-refuses =
-      rule-refuses (orbitRefusal inc perih node day1 day2) (orbitIn inc perih node (eclTurnsOf day1 day2)) outcome
+      rule-refuses (orbitRefusal inc perih node day1 day2) (orbitIn inc perih node (eclPrecessionOf day1 day2)) outcome
 
   -- 6 is tested before the node's arctangent: where both arguments of that are zero, 6 and not 14
   pub precess-orb-elements-of-zeros : orbitRefusal inc perih node day1 day2 ≡ 0 → T (not (eq (inc .0) zero))
-      → let turns = eclTurnsOf day1 day2 in
-      let l = leanedOf (fold inc) (fold (rad (node .0 ⊖ turns .pi .0))) turns in
+      → let precession = eclPrecessionOf day1 day2 in
+      let l = leanedOf (fold inc) (fold (rad (node .0 ⊖ precession .pi .0))) precession in
       T (bothZero (l .a) (l .b)) → precessOrbElementsRule inc perih node day1 day2 ≡ refused 6
   unfolding leanedOf
   precess-orb-elements-of-zeros e t z =
       let n = accepted e in
-      rw e (zeros-six inc perih node (eclTurnsOf day1 day2) (n .0) (n .1) (n .2) (n .3) t z)
+      rw e (zeros-six inc perih node (eclPrecessionOf day1 day2) (n .0) (n .1) (n .2) (n .3) t z)

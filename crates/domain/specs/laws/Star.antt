@@ -13,7 +13,7 @@ use Rattle.quantity.specs.rules.Answer.{Answer, answered, refused, Pair, status
 use Rattle.quantity.specs.laws.Steps.{refused-not-answered, same-number}
 use Rattle.edition.specs.declared.Edition.{Edition}
 use Rattle.precess_angles.specs.rules.Days.{daysRefusal}
-use Rattle.precess_angles.specs.rules.Equatorial.{eqTurnsOf}
+use Rattle.precess_angles.specs.rules.Equatorial.{eqPrecessionOf}
 use Rattle.chain.specs.rules.Chain.{chainRule}
 use Rattle.list.specs.declared.Star.{Star}
 use Rattle.list.specs.rules.Record.{inRange}
@@ -23,7 +23,7 @@ use Rattle.domain_accepted.specs.notions.Outcome.{FourSevenOrFourteen}
 use Rattle.domain_accepted.specs.notions.Within.{BothFinite}
 use Rattle.domain.specs.laws.Chain.{chain-refuses, chain-fourteen, chain-finite}
 use Rattle.domain.specs.notions.Star.{OfAStar}
-use Rattle.domain.specs.notions.Turns.{noDirection}
+use Rattle.domain.specs.notions.Precession.{noDirection}
 
 of-an-answer : (a : Answer Pair) → ((n : ℕ) → a ≡ refused n → FourSevenOrFourteen n) → OfAStar (statusOf a)
 of-an-answer (answered v) h = inl refl
@@ -59,7 +59,7 @@ module _ (edition : Edition) (star : Star) (day1 day2 : Float) (days : daysRefus
       by-range false r = inr (inr (inr (inl refl)))
 
   pub star-fourteen : starRule edition star day1 day2 ≡ refused 14
-      ↔ T (inRange star && noDirection (ascOf star) (decOf star) (eqTurnsOf edition day1 day2))
+      ↔ T (inRange star && noDirection (ascOf star) (decOf star) (eqPrecessionOf edition day1 day2))
   unfolding starRule
   star-fourteen = by-range (inRange star) (λ e. e)
     where
@@ -68,6 +68,6 @@ module _ (edition : Edition) (star : Star) (day1 day2 : Float) (days : daysRefus
 
       by-range : (b : Bool) → (b ≡ true → inRange star ≡ true)
           → cond b (chainRule edition (ascOf star) (decOf star) day1 day2) (refused 9) ≡ refused 14
-          ↔ T (b && noDirection (ascOf star) (decOf star) (eqTurnsOf edition day1 day2))
+          ↔ T (b && noDirection (ascOf star) (decOf star) (eqPrecessionOf edition day1 day2))
       by-range true r = chain-fourteen edition (ascOf star) (decOf star) day1 day2 (place-taken star day1 day2 days (r refl))
       by-range false r = (λ e. absurd (not-nine (same-number e)), λ t. absurd t)

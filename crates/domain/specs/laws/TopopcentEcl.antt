@@ -29,7 +29,7 @@ use Rattle.edition.specs.declared.Edition.{Edition}
 use Rattle.edition.specs.declared.Edition.the-variants.{Crate, Published}
 use Rattle.elementary.specs.rules.Fold.{fold}
 use Rattle.elementary.specs.rules.Sine.{sineOf, cosineOf, farthestAlone}
-use Rattle.elementary_arc.specs.rules.Arctangent.{base, turned, arctangentOf, arctangentIn}
+use Rattle.elementary_arc.specs.rules.Arctangent.{base, supplementIf, arctangentOf, arctangentIn}
 use Rattle.elementary_arc.specs.rules.Arcsine.{arcsineIn}
 use Rattle.elementary.specs.laws.Accepted.{lower-none, answered-unless}
 use Rattle.elementary_arc.specs.laws.Arctangent.{arctangent-size, arctangent-answered, arctangent-in-at-most-half, arctangent-in-at-least-half}
@@ -158,7 +158,7 @@ module _ (rs rc : Float) (p l b s e m : Rad) (RS : Within 2 rs) (RC : Within 2 r
             let long-size : size (long .0) ≡ PI ⊖ base (size eastward) (size n) =
             ap (λ (v : Rad). size (v .0)) is
             ∙ arctangent-size eastward n (eastward-within .finite) (n-within .finite) some
-            ∙ ap (λ (u : Bool). turned u (base (size eastward) (size n))) h in
+            ∙ ap (λ (u : Bool). supplementIf u (base (size eastward) (size n))) h in
             elim
             (beside-half (size (long .0)) (subst (λ (x : Float). T (fits binary64 x)) (sym long-size) (sub-fits binary64 PI (base (size eastward) (size n))))
             (rw (finite-size (long .0)) (long-outcome not-zero .answers long top .finite))) [

@@ -38,7 +38,7 @@ use Rattle.chain.specs.notions.Computed.{computed}
 use Rattle.chain.specs.notions.Still.{still}
 use Rattle.list.specs.declared.Star.{Star}
 use Rattle.list.specs.rules.Record.{quarter, inRange}
-use Rattle.batch.specs.rules.Star.{reduceStar}
+use Rattle.batch.specs.rules.Star.{starUnder}
 use Rattle.domain_accepted.specs.notions.Within.{Within}
 use Rattle.domain.specs.notions.Nutation.{Moon, MoonNear}
 use Rattle.domain.specs.notions.Wrong.{StatusFiveForFour}
@@ -104,8 +104,8 @@ nutation-sums-are-zero-excluded wrong =
 abbrev pole : Star
 pole = record { number = 0; asc = 0; dec = pos quarter }
 
-pub status-five-for-four-excluded : ¬ StatusFiveForFour (statusOf (reduceStar pole (still 0)))
-unfolding computed reduceStar inRange
+pub status-five-for-four-excluded : ¬ StatusFiveForFour (statusOf (starUnder pole (still 0)))
+unfolding computed starUnder inRange
 status-five-for-four-excluded (inl e) = apart ofNumber refl e
 status-five-for-four-excluded (inr (inl e)) = apart ofNumber refl e
 status-five-for-four-excluded (inr (inr (inl e))) = apart ofNumber refl e

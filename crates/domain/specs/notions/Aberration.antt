@@ -50,22 +50,22 @@ century = neg (over 20 1) to over 20 1
 
 module _ (part : Range) where
   -- a + b·t
-  abbrev pub turning : Float → Float → Range
-  turning a b = addRange binary64 (constant a) (mulRange binary64 (constant b) part)
+  abbrev pub drifting : Float → Float → Range
+  drifting a b = addRange binary64 (constant a) (mulRange binary64 (constant b) part)
 
   -- each angle by its number
   abbrev pub angleRange : ℕ → Range
   angleRange n =
-      cond (eqb n 1) (turning n3·8103444 n8399·6847337)
-      (cond (eqb n 2) (turning n3·1761467 n1021·3285546)
-      (cond (eqb n 3) (turning n1·7534703 n628·3075849)
-      (cond (eqb n 4) (turning n6·2034809 n334·0612431)
-      (cond (eqb n 5) (turning n0·5995465 n52·9690965)
-      (cond (eqb n 6) (turning n0·8740168 n21·3299095)
-      (cond (eqb n 7) (turning n5·4812939 n7·4781599)
-      (cond (eqb n 8) (turning n5·3118863 n3·8133036)
-      (cond (eqb n 9) (turning n5·1984667 n7771·3771486)
-      (cond (eqb n 10) (turning n2·3555559 n8328·6914289) (turning n1·6279052 n8433·4661601))))))))))
+      cond (eqb n 1) (drifting n3·8103444 n8399·6847337)
+      (cond (eqb n 2) (drifting n3·1761467 n1021·3285546)
+      (cond (eqb n 3) (drifting n1·7534703 n628·3075849)
+      (cond (eqb n 4) (drifting n6·2034809 n334·0612431)
+      (cond (eqb n 5) (drifting n0·5995465 n52·9690965)
+      (cond (eqb n 6) (drifting n0·8740168 n21·3299095)
+      (cond (eqb n 7) (drifting n5·4812939 n7·4781599)
+      (cond (eqb n 8) (drifting n5·3118863 n3·8133036)
+      (cond (eqb n 9) (drifting n5·1984667 n7771·3771486)
+      (cond (eqb n 10) (drifting n2·3555559 n8328·6914289) (drifting n1·6279052 n8433·4661601))))))))))
 
 -- k·w, and p + k·w, as the rows write them
 abbrev pub timesRange : Float → Range → Range
@@ -82,7 +82,7 @@ argumentRange part x =
     let a = angleRange part (x .1) in
     let b = angleRange part (x .3) in
     let c = angleRange part (x .5) in
-    cond (m .kept) (mulRange binary64 (constant (m .first)) (subRange binary64 a b))
+    cond (m .bracketed) (mulRange binary64 (constant (m .first)) (subRange binary64 a b))
     (plusRange (plusRange (timesRange (m .first) a) (m .second) b) (m .third) c)
 
 -- the argument is up to 400000.0 in size over a part
@@ -130,7 +130,7 @@ withTermRange p k d =
 -- a sum in r, with a row's terms
 abbrev pub shareRange : Terms → Range → Range
 shareRange e r =
-    cond (e .kept) (addRange binary64 r (groupedRange e))
+    cond (e .bracketed) (addRange binary64 r (groupedRange e))
     (cond (e .moving) (addRange binary64 r (withTermRange (termRange (e .sine) (e .«sine_t»)) (e .cosine) (e .«cosine_t»)))
     (cond (eq (e .sine) zero) (cond (eq (e .cosine) zero) r (addRange binary64 r (timesRange (e .cosine) turn)))
     (addRange binary64 r (plusRange (timesRange (e .sine) turn) (e .cosine) turn))))

@@ -255,9 +255,9 @@ cosine-behind x g h =
     (whole-part-mono (over 5 4) (a ⊗ I ⊕ half) (s .start) (s .finite) (plus-of-positive (over 5 4) (a ⊗ I ⊕ half) tt (s .from)) (s .from)) in
     let c = behind-at (quarters a) a m k i (rest-at-most-one (x .0) (le-trans a PI farthestAlone h tt)) in
     let up = rw (neg-neg away) at (neg-le (cosineOf x) (neg away) (c .to)) in
-    turned (bearsMinus (cosineOf x))
+    is-true (bearsMinus (cosineOf x))
     (sym (minus-neg (cosineOf x) (c .finite)) ∙ no-minus-of-plus (neg (cosineOf x)) (plus-of-positive away (neg (cosineOf x)) tt up))
   where
-    turned : (b : Bool) → not b ≡ false → b ≡ true
-    turned true e = refl
-    turned false e = sym e
+    is-true : (b : Bool) → not b ≡ false → b ≡ true
+    is-true true e = refl
+    is-true false e = sym e

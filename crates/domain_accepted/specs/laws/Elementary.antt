@@ -28,7 +28,7 @@ use Rattle.quantity.specs.laws.Steps.{same-value}
 use Rattle.double.specs.rules.Count.{IsFromZero}
 use Rattle.root.specs.rules.Root.{rootOf, rootRule}
 use Rattle.root.specs.laws.Root.{root-from-zero, root-answered}
-use Rattle.elementary_arc.specs.rules.Arctangent.{turned, bothZero, arctangentOf, arctangentIn}
+use Rattle.elementary_arc.specs.rules.Arctangent.{supplementIf, bothZero, arctangentOf, arctangentIn}
 use Rattle.elementary_arc.specs.rules.Arcsine.{arcsineIn}
 use Rattle.elementary_arc.specs.laws.Arctangent.{arctangent-in-at-most-half, arctangent-in-at-most-pi, arctangent-refuses-fourteen, arctangent-answered}
 use Rattle.elementary_arc.specs.laws.Arcsine.{arcsine-at-most-half, arcsine-refuses-seven}
@@ -63,7 +63,7 @@ pub second-not-zero : (y x : Float) → NonZero x → T (not (bothZero y x))
 second-not-zero y x z = not-T (bothZero y x) (λ (t : T (bothZero y x)). T-not (isZero x) z (and-r (isZero y) (isZero x) t))
 
 -- the second number may be an infinity: the angle is then zero or half a turn in size
-zero-or-pi : (s t : Bool) → Between (neg PI) PI (negatedIf s (size (turned t zero)))
+zero-or-pi : (s t : Bool) → Between (neg PI) PI (negatedIf s (size (supplementIf t zero)))
 unfolding size neg isFinite le sub ofBits round
 zero-or-pi true true = size→between PI _ tt tt
 zero-or-pi true false = size→between PI _ tt tt
@@ -183,7 +183,7 @@ quotient-not-zero (fin s m e) nan F p X Y h = absurd (unfold le in h)
 quotient-not-zero (fin s m e) (inf t) F p X Y h = absurd (unfold le in h)
 quotient-not-zero (fin s ℕ.zero e) (fin t n d) F p X Y h = absurd (T-not (isZero (fin s 0 e)) X (zero-is-zero s e))
 quotient-not-zero (fin s (suc m) e) (fin t ℕ.zero d) F p X Y h = absurd (T-not (isZero (fin t 0 d)) Y (zero-is-zero t d))
-quotient-not-zero (fin s (suc m) e) (fin t (suc n) d) F p X Y h = rw (eqb·suc-zero n) (signed (unlike s t))
+quotient-not-zero (fin s (suc m) e) (fin t (suc n) d) F p X Y h = rw (eqb·suc-zero n) (by-sign (unlike s t))
   where
     flat : (a c : ℕ) → a * 1 + 0 * c ≤ 1 * c + 0 * 1 → a ≤ c
     flat a c h = omega arith
@@ -201,9 +201,9 @@ quotient-not-zero (fin s (suc m) e) (fin t (suc n) d) F p X Y h = rw (eqb·suc-z
         (round-mono binary64 (suc m * up e) (down e) (suc m * up e * down d) (suc n * up d * down e) (down-pos e)
         (mul-pos (mul-pos (zero-lt-suc n) (up-pos d)) (down-pos e)) (wider (suc m * up e) (suc n * up d) (down d) (down e) most)))
 
-    signed : (u : Bool) → NonZero (round binary64 u (suc m * up e * down d) (suc n * up d * down e))
-    signed false = plain
-    signed true =
+    by-sign : (u : Bool) → NonZero (round binary64 u (suc m * up e * down d) (suc n * up d * down e))
+    by-sign false = plain
+    by-sign true =
         let z = round binary64 false (suc m * up e * down d) (suc n * up d * down e) in
         rw (round-neg binary64 false (suc m * up e * down d) (suc n * up d * down e), zero-neg z) plain
 

@@ -31,9 +31,9 @@ pub outcome-wider : {A : Type 0} {P R : A → Type 0} {Q : ℕ → Type 0} → (
 outcome-wider h o = record { answers = λ v e. h v (o .answers v e); refuses = o .refuses }
 
 -- with the equation itself
-pub outcome-kept : {A : Type 0} {P : A → Type 0} {Q : ℕ → Type 0} {a : Answer A} → Outcome P Q a
+pub outcome-with-answer : {A : Type 0} {P : A → Type 0} {Q : ℕ → Type 0} {a : Answer A} → Outcome P Q a
     → Outcome (λ (v : A). P v × (a ≡ answered v)) Q a
-outcome-kept o = record { answers = λ v e. (o .answers v e, e); refuses = o .refuses }
+outcome-with-answer o = record { answers = λ v e. (o .answers v e, e); refuses = o .refuses }
 
 -- ---- through the work
 

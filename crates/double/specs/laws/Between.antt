@@ -45,12 +45,12 @@ pub between-cut : {a b z : Float} (c : Float) → Finite c → Between a b z →
 between-cut {z = z} c p i =
     elim (le-total z c (i .finite) p) [ inl h ↦ inl (between (i .start) p (i .from) h) | inr h ↦ inr (between p (i .end) h (i .to)) ]
 
-finite-turned : (x : Float) → Finite x → Finite (neg x)
-finite-turned x p = rw (finite-neg x) p
+finite-negated : (x : Float) → Finite x → Finite (neg x)
+finite-negated x p = rw (finite-neg x) p
 
 pub between-neg : {a b z : Float} → Between a b z → Between (neg b) (neg a) (neg z)
 between-neg {a} {b} {z} i =
-    between (finite-turned b (i .end)) (finite-turned a (i .start)) (neg-le z b (i .to)) (neg-le a z (i .from))
+    between (finite-negated b (i .end)) (finite-negated a (i .start)) (neg-le z b (i .to)) (neg-le a z (i .from))
 
 -- ---- no minus sign is from zero on
 
@@ -139,8 +139,8 @@ size→between b nan p h = absurd (le-nan b h)
     le-nan b h = unfold le in h
 size→between b (inf s) p h = absurd (finite-of-size (inf s) b p (unfold size in h))
 size→between b (fin false m e) p h =
-    between (finite-turned b p) p
+    between (finite-negated b p) p
     (le-trans (neg b) (fin true m e) (fin false m e) (neg-le (fin false m e) b h) (minus-le-plus (fin false m e) (fin false m e) tt tt)) h
 size→between b (fin true m e) p h =
-    between (finite-turned b p) p (neg-le (fin false m e) b h)
+    between (finite-negated b p) p (neg-le (fin false m e) b h)
     (le-trans (fin true m e) (fin false m e) b (minus-le-plus (fin false m e) (fin false m e) tt tt) h)

@@ -41,11 +41,11 @@ place l m (negsuc a) h =
     let le : suc a ≤ l = pow-le-back (suc a) l h in
     (l - suc a, rw (mul-one, mul-assoc m (2 ^ (l - suc a)) (2 ^ suc a), ← pow-add 2 (l - suc a) (suc a), back l (suc a) le))
 
-fits-place : (s : Bool) (m : ℕ) (e : ℤ) → T (fits binary64 (fin s m e))
+fits-digit : (s : Bool) (m : ℕ) (e : ℤ) → T (fits binary64 (fin s m e))
     → (j : ℕ) × (m < 2 ^ 53) × (m * up e * 2 ^ 1074 ≡ m * 2 ^ j * down e)
 unfolding fits
-fits-place s zero e h = (0, pow-pos 53, simp zero-mul)
-fits-place s (suc m) e h =
+fits-digit s zero e h = (0, pow-pos 53, simp zero-mul)
+fits-digit s (suc m) e h =
     let A = eqb (suc m % 2) 1 in
     let B = ltb (suc m) (2 ^ 53) in
     let C = leb (down e) (2 ^ 1074) in
@@ -53,23 +53,23 @@ fits-place s (suc m) e h =
     let p = place 1074 (suc m) e (leb→le (down e) (2 ^ 1074) (and-r (A && B) C (and-l (A && B && C) D h))) in
     (p .0, ltb→lt (suc m) (2 ^ 53) (and-r A B (and-l (A && B) C (and-l (A && B && C) D h))), p .1)
 
-fin-count : (s : Bool) (m : ℕ) (e : ℤ) (f : T (fits binary64 (fin s m e))) → count (fin s m e) ≡ m * 2 ^ fits-place s m e f .0
+fin-count : (s : Bool) (m : ℕ) (e : ℤ) (f : T (fits binary64 (fin s m e))) → count (fin s m e) ≡ m * 2 ^ fits-digit s m e f .0
 unfolding count
 fin-count s m e f =
-    let p = fits-place s m e f in
+    let p = fits-digit s m e f in
     ap (λ (x : ℕ). x / down e) (p .2) ∙ mul-div-cancel (m * 2 ^ p .0) (down-pos e)
 
 pub double-short : (x : Float) → T (fits binary64 x) → Short (count x)
 unfolding count
 double-short nan f = (0, 0, pow-pos 53, refl)
 double-short (inf s) f = (0, 0, pow-pos 53, refl)
-double-short (fin s m e) f = (m, fits-place s m e f .0, fits-place s m e f .1, fin-count s m e f)
+double-short (fin s m e) f = (m, fits-digit s m e f .0, fits-digit s m e f .1, fin-count s m e f)
 
 pub count-exact : (x : Float) → T (fits binary64 x) → isFinite x ≡ true → HasValue x (bearsMinus x) (count x) (2 ^ 1074)
 unfolding isFinite bearsMinus
 count-exact nan f i = absurd (true≢false (sym i))
 count-exact (inf s) f i = absurd (true≢false (sym i))
-count-exact (fin s m e) f i = (refl, fits-place s m e f .2 ∙ ap (λ (x : ℕ). x * down e) (sym (fin-count s m e f)))
+count-exact (fin s m e) f i = (refl, fits-digit s m e f .2 ∙ ap (λ (x : ℕ). x * down e) (sym (fin-count s m e f)))
 
 -- ---- a double from zero on is fixed by its count
 

@@ -66,8 +66,8 @@ across a b = go (ltb 0 (a + b)) (nltb→le 0 (a + b))
     go true k = tt
     go false k = of-none a b (k tt)
 
-turn : (a b : ℕ) → a + b ≤ 0 → b + a ≤ 0
-turn a b h = omega arith
+swapped : (a b : ℕ) → a + b ≤ 0 → b + a ≤ 0
+swapped a b h = omega arith
 
 -- ---- so the order is that of the fractions
 
@@ -225,7 +225,7 @@ neg-le (fin s m e) (inf false) h = tt
 neg-le (fin false m e) (fin false n d) h = of-ge (n * up d * down e) (m * up e * down d) (le-of (m * up e * down d) (n * up d * down e) h)
 neg-le (fin false m e) (fin true n d) h =
     of-none (n * up d * down e) (m * up e * down d)
-    (turn (m * up e * down d) (n * up d * down e) (none-of (m * up e * down d) (n * up d * down e) h))
+    (swapped (m * up e * down d) (n * up d * down e) (none-of (m * up e * down d) (n * up d * down e) h))
 neg-le (fin true m e) (fin false n d) h = across (n * up d * down e) (m * up e * down d)
 neg-le (fin true m e) (fin true n d) h = of-le (n * up d * down e) (m * up e * down d) (ge-of (m * up e * down d) (n * up d * down e) h)
 

@@ -12,7 +12,7 @@ use Rattle.double.specs.rules.Whole.{wholePart, fromWhole}
 use Rattle.double.specs.rules.Pattern.{patternOf}
 use Rattle.double.specs.notions.Computed.{computed}
 use Rattle.double.specs.notions.Greatest.{greatest}
-use Rattle.double.specs.notions.Wrong.{bearsMinusBelowZero, negatedUnless, eitherTurned, sizeOfBelowZero, sizeBelowZero, finiteToInfinity}
+use Rattle.double.specs.notions.Wrong.{bearsMinusBelowZero, negatedUnless, eitherSwapped, sizeOfBelowZero, sizeBelowZero, finiteToInfinity}
 use Rattle.double.specs.notions.Wrong.{wholePartCapped, wholePartOfWritten, fromLowBits, patternOfSize, bitsOfSize, belowGreatest}
 use Rattle.double.specs.notions.Stated.{minusZero}
 use Rattle.double.specs.notions.Code.{ofFlag, ofFloat, ofNumber}
@@ -26,9 +26,9 @@ pub negated-unless-excluded : negatedUnless true one ≢ negatedIf true one
 unfolding computed
 negated-unless-excluded = apart ofFloat refl
 
-pub either-turned-excluded : eitherTurned true one zero ≢ cond true one zero
+pub either-swapped-excluded : eitherSwapped true one zero ≢ cond true one zero
 unfolding computed
-either-turned-excluded = apart ofFloat refl
+either-swapped-excluded = apart ofFloat refl
 
 pub size-of-minus-zero-excluded : sizeOfBelowZero minusZero ≢ size minusZero
 unfolding computed

@@ -14,8 +14,8 @@ bearsMinusBelowZero x = lt x zero
 abbrev pub negatedUnless : Bool → Float → Float
 negatedUnless flag x = cond flag x (neg x)
 
-abbrev pub eitherTurned : Bool → Float → Float → Float
-eitherTurned flag a b = cond flag b a
+abbrev pub eitherSwapped : Bool → Float → Float → Float
+eitherSwapped flag a b = cond flag b a
 
 -- −0 kept
 abbrev pub sizeOfBelowZero : Float → Float

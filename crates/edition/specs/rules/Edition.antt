@@ -2,6 +2,6 @@
 use Rattle.edition.specs.declared.Edition.{Edition}
 use Rattle.edition.specs.declared.Edition.the-variants.{Crate, Published}
 
-abbrev pub chosen : {A : Type 0} → Edition → A → A → A
-chosen Crate a b = a
-chosen Published a b = b
+abbrev pub byEdition : {A : Type 0} → Edition → A → A → A
+byEdition Crate a b = a
+byEdition Published a b = b

@@ -8,16 +8,16 @@ use Rattle.quantity.specs.declared.EqPoint.{EqPoint}
 use Rattle.quantity.specs.rules.Angle.{PI, rad}
 use Rattle.quantity.specs.notions.Code.{ofFloat, ofAnswer}
 use Rattle.quantity.specs.notions.Varies.{Varies}
-use Rattle.elementary.specs.declared.Turn.{Turn}
-use Rattle.elementary.specs.declared.Turns.{Turns}
+use Rattle.elementary.specs.declared.SinCos.{SinCos}
+use Rattle.elementary.specs.declared.TwoSinCos.{TwoSinCos}
 use Rattle.elementary.specs.declared.Direction.{Direction}
 use Rattle.elementary.specs.declared.Directions.{Directions}
-use Rattle.elementary.specs.rules.Sine.{turnOf, turnsOf, sineRule, cosineRule, tangentRule}
+use Rattle.elementary.specs.rules.Sine.{sinCosOf, twoSinCosOf, sineRule, cosineRule, tangentRule}
 use Rattle.elementary.specs.rules.Direction.{directionOf, directionsOf}
 use Rattle.elementary.specs.notions.Computed.{computed}
 use Rattle.elementary.specs.notions.Wrong.{aloneLimitOffByOneDouble, foldWithoutP3, sineRegrouped, cosineAnswersSine, cosineOfTheOppositeRest}
-use Rattle.elementary.specs.notions.Wrong.{tangentNotSteep, tangentUpsideDown, turnTheOtherWay, directionTraded, turnsTraded, directionsTraded}
-use Rattle.elementary.specs.notions.Wrong.{firstTurnTwice}
+use Rattle.elementary.specs.notions.Wrong.{tangentNotSteep, tangentUpsideDown, sinCosTheOtherWay, directionTraded, twoSinCosTraded, directionsTraded}
+use Rattle.elementary.specs.notions.Wrong.{firstSinCosTwice}
 
 -- ---- sine
 
@@ -70,9 +70,9 @@ tangent-upside-down-excluded = apart (ofAnswer ofFloat) refl
 
 -- ---- both at once, and a point's direction
 
-pub turn-the-other-way-excluded : turnTheOtherWay (rad two) ≢ turnOf (rad two)
+pub sin-cos-the-other-way-excluded : sinCosTheOtherWay (rad two) ≢ sinCosOf (rad two)
 unfolding computed
-turn-the-other-way-excluded = apart (λ (t : Turn). ofFloat (t .cosine)) refl
+sin-cos-the-other-way-excluded = apart (λ (t : SinCos). ofFloat (t .cosine)) refl
 
 abbrev point : EqPoint
 point = record { asc = zero; dec = zero }
@@ -83,13 +83,13 @@ direction-traded-excluded = apart (λ (d : Direction). ofFloat (d .«sin_dec»))
 
 -- ---- two side by side
 
-pub turns-traded-excluded : turnsTraded (rad one) (rad zero) ≢ turnsOf (rad one) (rad zero)
+pub two-sin-cos-traded-excluded : twoSinCosTraded (rad one) (rad zero) ≢ twoSinCosOf (rad one) (rad zero)
 unfolding computed
-turns-traded-excluded = apart (λ (t : Turns). ofFloat (t .«first_sine»)) refl
+two-sin-cos-traded-excluded = apart (λ (t : TwoSinCos). ofFloat (t .«first_sine»)) refl
 
-pub first-turn-twice-excluded : firstTurnTwice (rad one) (rad zero) ≢ turnsOf (rad one) (rad zero)
+pub first-sin-cos-twice-excluded : firstSinCosTwice (rad one) (rad zero) ≢ twoSinCosOf (rad one) (rad zero)
 unfolding computed
-first-turn-twice-excluded = apart (λ (t : Turns). ofFloat (t .«second_cosine»)) refl
+first-sin-cos-twice-excluded = apart (λ (t : TwoSinCos). ofFloat (t .«second_cosine»)) refl
 
 abbrev beside : EqPoint
 beside = record { asc = one; dec = zero }

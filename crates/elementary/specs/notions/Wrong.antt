@@ -10,13 +10,13 @@ use Rattle.quantity.specs.declared.EqPoint.{EqPoint}
 use Rattle.quantity.specs.rules.Answer.{Answer, answered, unless}
 use Rattle.quantity.specs.rules.Refusal.{past, lower}
 use Rattle.elementary.specs.declared.Folded.{Folded}
-use Rattle.elementary.specs.declared.Turn.{Turn}
-use Rattle.elementary.specs.declared.Turns.{Turns}
+use Rattle.elementary.specs.declared.SinCos.{SinCos}
+use Rattle.elementary.specs.declared.TwoSinCos.{TwoSinCos}
 use Rattle.elementary.specs.declared.Direction.{Direction}
 use Rattle.elementary.specs.declared.Directions.{Directions}
 use Rattle.elementary.specs.rules.Fold.{P1, P2, quarters, fold}
 use Rattle.elementary.specs.rules.Series.{horner, sineLast, sineEntries}
-use Rattle.elementary.specs.rules.Sine.{cosineQuarter, foldedSine, sineOf, cosineOf, tangentOf, turnsOf, farthestAlone, aloneRefusal, tangentRefusal}
+use Rattle.elementary.specs.rules.Sine.{cosineQuarter, foldedSine, sineOf, cosineOf, tangentOf, twoSinCosOf, farthestAlone, aloneRefusal, tangentRefusal}
 use Rattle.elementary.specs.rules.Direction.{directionOf, directionsOf}
 
 -- called alone, with another value
@@ -58,8 +58,8 @@ abbrev pub tangentUpsideDown : Rad → Answer Float
 tangentUpsideDown x = unless (tangentRefusal x) (answered (one ⊘ tangentOf x))
 
 -- the cosine of the second quarter
-abbrev pub turnTheOtherWay : Rad → Turn
-turnTheOtherWay x =
+abbrev pub sinCosTheOtherWay : Rad → SinCos
+sinCosTheOtherWay x =
     record { sine = sineOf x; cosine = cond (eqb (fold x .quarter) 1) (neg (cosineOf x)) (cosineOf x) }
 
 -- the declination's cosine for its sine
@@ -69,12 +69,12 @@ directionTraded p =
     record { «sin_asc» = d .«sin_asc»; «cos_asc» = d .«cos_asc»; «sin_dec» = d .«cos_dec»; «cos_dec» = d .«cos_dec» }
 
 -- two angles, or two points, each in the other's lane
-abbrev pub turnsTraded : Rad → Rad → Turns
-turnsTraded x y = turnsOf y x
+abbrev pub twoSinCosTraded : Rad → Rad → TwoSinCos
+twoSinCosTraded x y = twoSinCosOf y x
 
 abbrev pub directionsTraded : EqPoint → EqPoint → Directions
 directionsTraded p q = directionsOf q p
 
 -- the first in both
-abbrev pub firstTurnTwice : Rad → Rad → Turns
-firstTurnTwice x y = turnsOf x x
+abbrev pub firstSinCosTwice : Rad → Rad → TwoSinCos
+firstSinCosTwice x y = twoSinCosOf x x

@@ -12,7 +12,7 @@ returns c =
     let c1 = c .before in
     let c2 = c1 .before in
     let c3 = c2 .before in
-    ap rad (rw (c1 .base .ensures, c2 .size2 .ensures, c3 .size .ensures) at (c .signed .ensures))
+    ap rad (rw (c1 .base .ensures, c2 .size2 .ensures, c3 .size .ensures) at (c .arc-by-signs .ensures))
 
 pub arctangent-of-spec : {M : Type 1} → statement M
 arctangent-of-spec = tie.close (tie.spec asks-nothing asks-nothing asks-nothing asks-nothing returns)

@@ -23,8 +23,8 @@ returns c =
     let c12 = c11 .before in
     let c13 = c12 .before in
     let a = c13 .before .args in
-    let one = level-arctangent (a .y) (a .x) (c13 .size .ensures) (c12 .size2 .ensures) (c9 .lesser-over .ensures) (c7 .reduced .ensures) (c6 .arctangent-series .ensures) (c3 .base-from .ensures) (c2 .signed .ensures) in
-    let two = level-arctangent (a .z) (a .w) (c11 .size3 .ensures) (c10 .size4 .ensures) (c8 .lesser-over2 .ensures) (c5 .reduced2 .ensures) (c4 .arctangent-series2 .ensures) (c1 .base-from2 .ensures) (c .signed2 .ensures) in
+    let one = level-arctangent (a .y) (a .x) (c13 .size .ensures) (c12 .size2 .ensures) (c9 .lesser-over .ensures) (c7 .reduced .ensures) (c6 .arctangent-series .ensures) (c3 .base-from .ensures) (c2 .arc-by-signs .ensures) in
+    let two = level-arctangent (a .z) (a .w) (c11 .size3 .ensures) (c10 .size4 .ensures) (c8 .lesser-over2 .ensures) (c5 .reduced2 .ensures) (c4 .arctangent-series2 .ensures) (c1 .base-from2 .ensures) (c .arc-by-signs2 .ensures) in
     λ i. record { first = rad (one i); second = rad (two i) }
 
 pub arctangents-of-spec : {M : Type 1} → statement M

@@ -31,7 +31,7 @@ use Rattle.quantity.specs.rules.Answer.{answered, refused}
 use Rattle.quantity.specs.laws.Steps.{refused-not-answered, same-value, same-number}
 use Rattle.elementary.specs.rules.Series.{horner}
 use Rattle.elementary_arc.specs.rules.Series.{arctangentLast, arctangentEntries, arctangentSeries}
-use Rattle.elementary_arc.specs.rules.Arctangent.{near, atn, base, turned, arctangentOf, bothZero, arctangentIn}
+use Rattle.elementary_arc.specs.rules.Arctangent.{near, atn, base, supplementIf, arctangentOf, bothZero, arctangentIn}
 use Rattle.elementary_arc.specs.laws.Mirror.{base-nan}
 use Rattle.elementary_arc.specs.notions.UpToHalf.{UpToHalf}
 
@@ -167,37 +167,37 @@ behind : (b : Float) → UpToHalf b → Between HALF PI (PI ⊖ b)
 unfolding isFinite le neg add sub ofBits
 behind b i = bounded binary64 HALF PI (con PI ⊟ known (i .place)) tt
 
-turned-plus : (s : Bool) (b : Float) → UpToHalf b → Plus (turned s b)
-turned-plus true b i = plus-of-positive HALF (PI ⊖ b) (unfold ofBits in tt) (behind b i .from)
-turned-plus false b i = i .plus
+supplement-plus : (s : Bool) (b : Float) → UpToHalf b → Plus (supplementIf s b)
+supplement-plus true b i = plus-of-positive HALF (PI ⊖ b) (unfold ofBits in tt) (behind b i .from)
+supplement-plus false b i = i .plus
 
 module _ (y x : Float) (p : Finite y) (q : Finite x) (n : T (not (bothZero y x))) where
-  turned-size : size (turned (bearsMinus x) (base (size y) (size x))) ≡ turned (bearsMinus x) (base (size y) (size x))
-  turned-size =
-      size-plus (turned (bearsMinus x) (base (size y) (size x)))
-      (turned-plus (bearsMinus x) (base (size y) (size x)) (base-of y x p q n))
+  supplement-size : size (supplementIf (bearsMinus x) (base (size y) (size x))) ≡ supplementIf (bearsMinus x) (base (size y) (size x))
+  supplement-size =
+      size-plus (supplementIf (bearsMinus x) (base (size y) (size x)))
+      (supplement-plus (bearsMinus x) (base (size y) (size x)) (base-of y x p q n))
 
-  -- its size is base, turned where x bears a minus sign
-  pub arctangent-size : size (arctangentOf y x .0) ≡ turned (bearsMinus x) (base (size y) (size x))
+  -- its size is base, or its supplement where x bears a minus sign
+  pub arctangent-size : size (arctangentOf y x .0) ≡ supplementIf (bearsMinus x) (base (size y) (size x))
   unfolding arctangentOf
-  arctangent-size = rw (turned-size) (size-negated (bearsMinus y) (turned (bearsMinus x) (base (size y) (size x))) ∙ turned-size)
+  arctangent-size = rw (supplement-size) (size-negated (bearsMinus y) (supplementIf (bearsMinus x) (base (size y) (size x))) ∙ supplement-size)
 
   -- it bears y's sign
   pub arctangent-sign : bearsMinus (arctangentOf y x .0) ≡ bearsMinus y
   unfolding arctangentOf
   arctangent-sign =
-      rw (turned-size)
-      (minus-negated (bearsMinus y) (turned (bearsMinus x) (base (size y) (size x))) (turned-plus (bearsMinus x) (base (size y) (size x)) (base-of y x p q n)))
+      rw (supplement-size)
+      (minus-negated (bearsMinus y) (supplementIf (bearsMinus x) (base (size y) (size x))) (supplement-plus (bearsMinus x) (base (size y) (size x)) (base-of y x p q n)))
 
   -- base with y's sign, where x bears no minus sign
   pub arctangent-ahead : bearsMinus x ≡ false → size x ≡ x → arctangentOf y x ≡ rad (negatedIf (bearsMinus y) (base (size y) x))
   unfolding arctangentOf
-  arctangent-ahead h same = rw (turned-size, h, same)
+  arctangent-ahead h same = rw (supplement-size, h, same)
 
   pub arctangent-finite : Finite (arctangentOf y x .0)
   arctangent-finite = rw (← finite-size (arctangentOf y x .0), arctangent-size) (by-sign (bearsMinus x))
     where
-      by-sign : (s : Bool) → Finite (turned s (base (size y) (size x)))
+      by-sign : (s : Bool) → Finite (supplementIf s (base (size y) (size x)))
       by-sign true = behind (base (size y) (size x)) (base-of y x p q n) .finite
       by-sign false = base-of y x p q n .place .finite
 
@@ -213,7 +213,7 @@ module _ (y x : Float) (p : Finite y) (q : Finite x) (n : T (not (bothZero y x))
   pub arctangent-at-most-pi : size (arctangentOf y x .0) ≼ PI
   arctangent-at-most-pi = rw arctangent-size (by-sign (bearsMinus x))
     where
-      by-sign : (s : Bool) → turned s (base (size y) (size x)) ≼ PI
+      by-sign : (s : Bool) → supplementIf s (base (size y) (size x)) ≼ PI
       by-sign true = behind (base (size y) (size x)) (base-of y x p q n) .to
       by-sign false = le-trans (base (size y) (size x)) HALF PI (base-of y x p q n .place .to) (unfold le ofBits in tt)
 
@@ -236,24 +236,24 @@ base-cases (fin s m e) nan k = inl (base-nan-r (fin s m e))
 base-cases (fin s m e) (inf t) k = inr (record { plus = tt; place = between tt tt tt tt })
 base-cases (fin s m e) (fin t n d) k = inr (base-of (fin s m e) (fin t n d) tt tt k)
 
-turned-less : (b : Float) → (b ≡ nan) ⊎ UpToHalf b → size (PI ⊖ b) ≡ PI ⊖ size b
-turned-less b (inl e) = rw (e, sub-nan binary64 PI) (unfold size in sym (sub-nan binary64 PI))
-turned-less b (inr i) = size-plus (PI ⊖ b) (turned-plus true b i) ∙ ap (λ (z : Float). PI ⊖ z) (sym (size-plus b (i .plus)))
+supplement-less : (b : Float) → (b ≡ nan) ⊎ UpToHalf b → size (PI ⊖ b) ≡ PI ⊖ size b
+supplement-less b (inl e) = rw (e, sub-nan binary64 PI) (unfold size in sym (sub-nan binary64 PI))
+supplement-less b (inr i) = size-plus (PI ⊖ b) (supplement-plus true b i) ∙ ap (λ (z : Float). PI ⊖ z) (sym (size-plus b (i .plus)))
 
-size-turned : (y x : Float) → size (arctangentOf y x .0) ≡ size (turned (bearsMinus x) (base (size y) (size x)))
+size-supplement : (y x : Float) → size (arctangentOf y x .0) ≡ size (supplementIf (bearsMinus x) (base (size y) (size x)))
 unfolding arctangentOf
-size-turned y x =
-    let t = turned (bearsMinus x) (base (size y) (size x)) in
+size-supplement y x =
+    let t = supplementIf (bearsMinus x) (base (size y) (size x)) in
     size-negated (bearsMinus y) (size t) ∙ size-size t
 
 size-nan : (y : Float) → size (arctangentOf y nan .0) ≡ nan
 unfolding size bearsMinus
-size-nan y = size-turned y nan ∙ ap size (base-nan-r y)
+size-nan y = size-supplement y nan ∙ ap size (base-nan-r y)
 
 opposite-signs : (y x : Float) → T (not (bothZero y x)) → bearsMinus x ≡ false → bearsMinus (neg x) ≡ true
     → size (arctangentOf y (neg x) .0) ≡ PI ⊖ size (arctangentOf y x .0)
 opposite-signs y x n h k =
-    rw (size-turned y (neg x), size-turned y x, size-neg x, h, k) (turned-less (base (size y) (size x)) (base-cases y x n))
+    rw (size-supplement y (neg x), size-supplement y x, size-neg x, h, k) (supplement-less (base (size y) (size x)) (base-cases y x n))
 
 -- where x bears no minus sign, the size at −x is PI less the size at x, rounded once
 pub arctangent-behind : (y x : Float) → T (not (bothZero y x)) → bearsMinus x ≡ false

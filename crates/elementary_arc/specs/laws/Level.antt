@@ -7,7 +7,7 @@ use Rattle.double.specs.rules.Sign.{size}
 use Rattle.quantity.specs.rules.Angle.{HALF, QUARTER}
 use Rattle.elementary_arc.specs.rules.Series.{arctangentSeries}
 use Rattle.elementary_arc.specs.rules.Arctangent.{near, atn, base, arctangentOf}
-use Rattle.elementary_arc.specs.rules.Level.{lesserOver, reduced, baseFrom, signed}
+use Rattle.elementary_arc.specs.rules.Level.{lesserOver, reduced, baseFrom, arcBySigns}
 
 level-atn : (v : Float) → cond (le v near) (arctangentSeries (reduced v)) (QUARTER ⊕ arctangentSeries (reduced v)) ≡ atn v
 level-atn v = by-case (le v near) v ((v ⊖ one) ⊘ (v ⊕ one))
@@ -27,11 +27,11 @@ level-base y x =
 
 -- a lane's work, step by step, is its arctangent
 pub level-arctangent : (y x : Float) {up across v u a b r : Float} → up ≡ size y → across ≡ size x → v ≡ lesserOver up across → u ≡ reduced v
-    → a ≡ arctangentSeries u → b ≡ baseFrom up across v a → r ≡ signed y x b → r ≡ arctangentOf y x .0
+    → a ≡ arctangentSeries u → b ≡ baseFrom up across v a → r ≡ arcBySigns y x b → r ≡ arctangentOf y x .0
 unfolding arctangentOf
 level-arctangent y x {up} {across} {v} e1 e2 e3 e4 e5 e6 e7 =
     e7
-    ∙ ap (λ (b : Float). signed y x b)
+    ∙ ap (λ (b : Float). arcBySigns y x b)
     (e6
     ∙ ap (λ (a : Float). baseFrom up across v a) (e5 ∙ ap (λ (u : Float). arctangentSeries u) e4)
     ∙ ap (λ (q : Float). baseFrom up across q (arctangentSeries (reduced q))) e3

@@ -10,7 +10,7 @@ use Rattle.double.specs.laws.Mirror.{mul-comm, sub-neg-r, add-neg-r, sub-nan, d
 use Rattle.quantity.specs.rules.Angle.{rad, PI, HALF, opposite}
 use Rattle.quantity.specs.rules.Answer.{Answer, answered, refused, with, then}
 use Rattle.root.specs.rules.Root.{rootRule}
-use Rattle.elementary_arc.specs.rules.Arctangent.{atn, base, turned, arctangentOf, bothZero, arctangentIn}
+use Rattle.elementary_arc.specs.rules.Arctangent.{atn, base, supplementIf, arctangentOf, bothZero, arctangentIn}
 use Rattle.elementary_arc.specs.rules.Arcsine.{arcsineIn}
 
 -- ---- a NaN has no sign, and each function answers one with one
@@ -23,9 +23,9 @@ pub base-nan : (x : Float) → base nan x ≡ nan
 unfolding le
 base-nan x = rw (div-nan binary64 x, atn-nan, sub-nan binary64 HALF)
 
-pub turned-nan : (s : Bool) → turned s nan ≡ nan
-turned-nan true = sub-nan binary64 PI
-turned-nan false = refl
+pub supplement-nan : (s : Bool) → supplementIf s nan ≡ nan
+supplement-nan true = sub-nan binary64 PI
+supplement-nan false = refl
 
 -- ---- the mirrors
 
@@ -33,8 +33,8 @@ pub arctangent-odd : (y x : Float) → arctangentOf (neg y) x ≡ opposite (arct
 unfolding arctangentOf size
 arctangent-odd y x =
     rw (size-neg y) (ap rad
-    (sign-neg y (size (turned (bearsMinus x) (base (size y) (size x))))
-    (λ e. rw (e, base-nan (size x), turned-nan (bearsMinus x)))))
+    (sign-neg y (size (supplementIf (bearsMinus x) (base (size y) (size x))))
+    (λ e. rw (e, base-nan (size x), supplement-nan (bearsMinus x)))))
 
 pub arctangent-in-odd : (y x : Float) → arctangentIn (neg y) x ≡ with opposite (arctangentIn y x)
 unfolding arctangentIn

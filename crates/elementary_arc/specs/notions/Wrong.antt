@@ -8,7 +8,7 @@ use Rattle.quantity.specs.rules.Angle.{rad, HALF}
 use Rattle.quantity.specs.rules.Answer.{Answer, answered, refused, unless, then}
 use Rattle.quantity.specs.rules.Refusal.{numberRefusal}
 use Rattle.root.specs.rules.Root.{rootRule}
-use Rattle.elementary_arc.specs.rules.Arctangent.{base, turned, arctangentOf, bothZero, arctangentIn, arctangentRefusal}
+use Rattle.elementary_arc.specs.rules.Arctangent.{base, supplementIf, arctangentOf, bothZero, arctangentIn, arctangentRefusal}
 use Rattle.elementary_arc.specs.declared.Arctangents.{Arctangents}
 use Rattle.elementary_arc.specs.rules.Level.{arctangentsOf}
 use Rattle.elementary_arc.specs.rules.Arcsine.{arcsineIn}
@@ -23,9 +23,9 @@ oneArgument = alone (λ (y x : Float). negatedIf (bearsMinus (y ⊘ x)) (base (s
 
 -- −0 taken as +0
 abbrev pub minusZeroIsPlus : Float → Float → Answer Rad
-minusZeroIsPlus = alone (λ (y x : Float). negatedIf (lt y zero) (size (turned (bearsMinus x) (base (size y) (size x)))))
+minusZeroIsPlus = alone (λ (y x : Float). negatedIf (lt y zero) (size (supplementIf (bearsMinus x) (base (size y) (size x)))))
 
--- not turned where x bears a minus sign
+-- no supplement where x bears a minus sign
 abbrev pub behindIsAhead : Float → Float → Answer Rad
 behindIsAhead = alone (λ (y x : Float). negatedIf (bearsMinus y) (base (size y) (size x)))
 
@@ -48,7 +48,7 @@ minusZeroNotSeen = refusedWhere (λ (y x : Float). eq y zero && isPlusZero x)
 abbrev pub zerosAnswered : Float → Float → Answer Rad
 zerosAnswered y x =
     unless (arctangentRefusal y x)
-    (cond (bothZero y x) (answered (rad (negatedIf (bearsMinus y) (turned (bearsMinus x) zero)))) (arctangentIn y x))
+    (cond (bothZero y x) (answered (rad (negatedIf (bearsMinus y) (supplementIf (bearsMinus x) zero)))) (arctangentIn y x))
 
 -- the second argument not tested
 abbrev pub arctangentLetsInfinityIn : Float → Float → Answer Rad

@@ -23,12 +23,12 @@ abbrev pub base : Float → Float → Float
 base y x = cond (le y x) (atn (y ⊘ x)) (HALF ⊖ atn (x ⊘ y))
 
 -- where x bears a minus sign, base becomes PI − base
-abbrev pub turned : Bool → Float → Float
-turned minus b = cond minus (PI ⊖ b) b
+abbrev pub supplementIf : Bool → Float → Float
+supplementIf minus b = cond minus (PI ⊖ b) b
 
 -- base's size and y's sign
 unfoldable pub arctangentOf : Float → Float → Rad
-arctangentOf y x = rad (negatedIf (bearsMinus y) (size (turned (bearsMinus x) (base (size y) (size x)))))
+arctangentOf y x = rad (negatedIf (bearsMinus y) (size (supplementIf (bearsMinus x) (base (size y) (size x)))))
 
 -- of either sign
 abbrev pub bothZero : Float → Float → Bool

@@ -6,7 +6,7 @@ use Rattle.double.specs.rules.Operations.{one, _⊕_, _⊖_, _⊘_}
 use Rattle.double.specs.rules.Sign.{bearsMinus, negatedIf, size}
 use Rattle.quantity.specs.rules.Angle.{HALF, QUARTER}
 use Rattle.elementary_arc.specs.declared.Arctangents.{Arctangents}
-use Rattle.elementary_arc.specs.rules.Arctangent.{near, turned, arctangentOf}
+use Rattle.elementary_arc.specs.rules.Arctangent.{near, supplementIf, arctangentOf}
 
 -- the lesser of two sizes over the greater
 abbrev pub lesserOver : Float → Float → Float
@@ -21,8 +21,8 @@ abbrev pub baseFrom : Float → Float → Float → Float → Float
 baseFrom y x v a = let t = cond (le v near) a (QUARTER ⊕ a) in cond (le y x) t (HALF ⊖ t)
 
 -- the answer, from the base
-abbrev pub signed : Float → Float → Float → Float
-signed y x b = negatedIf (bearsMinus y) (size (turned (bearsMinus x) b))
+abbrev pub arcBySigns : Float → Float → Float → Float
+arcBySigns y x b = negatedIf (bearsMinus y) (size (supplementIf (bearsMinus x) b))
 
 -- two arctangents side by side, each what it is alone
 unfoldable pub arctangentsOf : Float → Float → Float → Float → Arctangents

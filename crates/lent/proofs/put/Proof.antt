@@ -1,4 +1,4 @@
--- `lent::put` meets its contract: after i turns the first i bytes of src are written.
+-- `lent::put` meets its contract: after i passes the first i bytes of src are written.
 use borrow.Author.Needs.{needs}
 use mathlib.Core.Path.{_≡_}
 use mathlib.Core.List.{List, [], _∷_, _++_}
@@ -9,7 +9,7 @@ use lib.ListN.{length, take, getD}
 use lib.Seq.{take-suc, take-length}
 use Rattle.double.specs.laws.Calls.{asks-nothing}
 use Rattle.lent.specs.rules.Writing.{Wrote}
-use Rattle.lent.specs.laws.Writing.{after, same, nothing, kept}
+use Rattle.lent.specs.laws.Writing.{after, same, nothing, length-kept}
 use Rattle.lent.proofs.put.Statement.{statement}
 use Rattle.lent.proofs.put.Tie as tie
 
@@ -17,10 +17,10 @@ one-more : (s : List ℕ) (i : ℕ) → i < length s → take i s ++ (getD s i 0
 one-more s i h = rw (add-one, take-suc s i 0)
 
 abbrev Inv-loop : tie.InvT-loop
-Inv-loop out₀ at src place₀ i₀ out place i = (i ≤ length src) × Wrote out₀ at (take i src) out place
+Inv-loop out₀ at src offset₀ i₀ out offset i = (i ≤ length src) × Wrote out₀ at (take i src) out offset
 
 abbrev μ-loop : tie.MeasureT-loop
-μ-loop out₀ at src place₀ i₀ out place i = length src - i
+μ-loop out₀ at src offset₀ i₀ out offset i = length src - i
 
 loop-holds : tie.Need-loop-holds Inv-loop μ-loop
 loop-holds c = (search needs, nothing _ _ _ (c .within .ensures))
@@ -36,12 +36,12 @@ loop-less c = search needs
 
 loop-again : tie.Need-loop-again Inv-loop μ-loop
 loop-again c =
-    let turn = c .before .before .before .before .before .before in
-    let src = turn .before .before .before .before .args .src .now in
-    (search needs, same (one-more src (turn .loop .i) (omega arith)) (after (turn .loop .inv .1) (c .before .before .put-byte .ensures)))
+    let pass = c .before .before .before .before .before .before in
+    let src = pass .before .before .before .before .args .src .now in
+    (search needs, same (one-more src (pass .loop .i) (omega arith)) (after (pass .loop .inv .1) (c .before .before .put-byte .ensures)))
 
 same-length : tie.Need-same-length Inv-loop μ-loop
-same-length c = kept (c .before .loop .inv .1)
+same-length c = length-kept (c .before .loop .inv .1)
 
 returns : tie.Need-returns Inv-loop μ-loop
 returns c =

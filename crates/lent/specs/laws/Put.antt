@@ -10,10 +10,10 @@ use borrow.Author.Tests.{le-leb, lt-leb, leb-true, leb-false}
 use Rattle.quantity.specs.rules.Answer.{Answer, answered, refused}
 use Rattle.quantity.specs.laws.Answer.{unique}
 use Rattle.quantity.specs.laws.Steps.{same-value, refused-not-answered, stepped, changed}
-use Rattle.lent.specs.rules.Writing.{placeAfter, Wrote}
+use Rattle.lent.specs.rules.Writing.{offsetAfter, Wrote}
 use Rattle.lent.specs.rules.Put.{shownWritten, roomFor, laid, Put}
 use Rattle.lent.specs.notions.Put.{Stands}
-use Rattle.lent.specs.laws.Writing.{whole, kept}
+use Rattle.lent.specs.laws.Writing.{whole, length-kept}
 use Rattle.lent.specs.declared.Written.{Written}
 use Rattle.lent.specs.declared.Written.the-variants.{To, Refused}
 
@@ -33,7 +33,7 @@ module _ (text : Answer (List ℕ)) (old : List ℕ) (at : ℕ) where
         record {
           answer =
               rw (e, le-leb (at + length t) (length old) h)
-              (ap answered (let q : next ≡ at + length t = omega (arith, w .place) in q));
+              (ap answered (let q : next ≡ at + length t = omega (arith, w .offset) in q));
           slice = rw (e, le-leb (at + length t) (length old) h) (w .text ∙ whole old at t h);
         }
 
@@ -65,13 +65,13 @@ put-stands text old new at next p =
     fits true t u h = (sym (same-value h), refl)
     fits false t u h = absurd (refused-not-answered h)
 
--- the place after a text lies in the slice
-pub place-inside : (text : Answer (List ℕ)) {old new : List ℕ} {at next : ℕ} {r : Written} → Put text old at new r
+-- the offset after a text lies in the slice
+pub offset-inside : (text : Answer (List ℕ)) {old new : List ℕ} {at next : ℕ} {r : Written} → Put text old at new r
     → r ≡ To next → next ≤ length new
-place-inside text {old} {new} {at} {next} {r} p is =
+offset-inside text {old} {new} {at} {next} {r} p is =
     let s = put-stands text old new at next (subst (Put text old at new) is p) in
-    let w : Wrote old at (s .t) new (placeAfter old at (s .t)) = record { text = s .slice ∙ sym (whole old at (s .t) (s .room)); place = refl } in
-    omega (arith, kept w, s .room, s .after)
+    let w : Wrote old at (s .t) new (offsetAfter old at (s .t)) = record { text = s .slice ∙ sym (whole old at (s .t) (s .room)); offset = refl } in
+    omega (arith, length-kept w, s .room, s .after)
 
 -- 8 for a short slice comes last: any other refusal is given, however short the slice
 pub own-refusal-first : (old : List ℕ) (at k : ℕ) → roomFor old at (refused k) ≡ refused k

@@ -5,7 +5,7 @@ use Prim.Native.Nat.{ℕ, zero, suc, _+_, _≤_, _<_, min}
 use native.Mathlib.Omega.{arith}
 use lib.ListN.{length, take, drop, set, length-append}
 use lib.Seq.{take-nil, drop-nil}
-use Rattle.lent.specs.rules.Writing.{written, placeAfter, Wrote}
+use Rattle.lent.specs.rules.Writing.{written, offsetAfter, Wrote}
 
 module _ {A : Type 0} where
   -- the slice's length stays
@@ -16,7 +16,7 @@ module _ {A : Type 0} where
   length-written (x ∷ old) zero [] = refl
   length-written (x ∷ old) zero (b ∷ t) = ap suc (length-written old zero t)
 
-  joined : (old : List A) (at : ℕ) (t u : List A) (n : ℕ) → n ≡ placeAfter old at t
+  joined : (old : List A) (at : ℕ) (t u : List A) (n : ℕ) → n ≡ offsetAfter old at t
       → written (written old at t) n u ≡ written old at (t ++ u)
   unfolding written
   joined [] at t u n e = refl
@@ -30,8 +30,8 @@ module _ {A : Type 0} where
   pub after : {old t o u p : List A} {at n m : ℕ} → Wrote old at t o n → Wrote o n u p m → Wrote old at (t ++ u) p m
   after {old} {t} {o} {u} {p} {at} {n} {m} a b =
       record {
-        text = b .text ∙ ap (λ (l : List A). written l n u) (a .text) ∙ joined old at t u n (a .place);
-        place = omega (arith, a .place, b .place, length-append t u, ap length (a .text) ∙ length-written old at t);
+        text = b .text ∙ ap (λ (l : List A). written l n u) (a .text) ∙ joined old at t u n (a .offset);
+        offset = omega (arith, a .offset, b .offset, length-append t u, ap length (a .text) ∙ length-written old at t);
       }
 
   -- the same text, said otherwise
@@ -41,7 +41,7 @@ module _ {A : Type 0} where
   -- nothing written
   pub nothing : (old : List A) (at n : ℕ) → n ≡ min at (length old) → Wrote old at [] old n
   unfolding written
-  nothing old at n e = record { text = none old at; place = omega arith }
+  nothing old at n e = record { text = none old at; offset = omega arith }
     where
       none : (l : List A) (k : ℕ) → l ≡ written l k []
       none [] k = refl
@@ -51,7 +51,7 @@ module _ {A : Type 0} where
   -- one element written, and one that finds no place
   pub single : (old : List A) (at : ℕ) (b : A) → at < length old → Wrote old at (b ∷ []) (set old at b) (at + 1)
   unfolding written
-  single old at b h = record { text = one old at h; place = omega arith }
+  single old at b h = record { text = one old at h; offset = omega arith }
     where
       one : (l : List A) (k : ℕ) → k < length l → set l k b ≡ written l k (b ∷ [])
       one [] k h = absurd (omega arith)
@@ -61,19 +61,19 @@ module _ {A : Type 0} where
 
   pub beyond : (old : List A) (at : ℕ) (t : List A) → length old ≤ at → Wrote old at t old (length old)
   unfolding written
-  beyond old at t h = record { text = stays old at h; place = omega arith }
+  beyond old at t h = record { text = stays old at h; offset = omega arith }
     where
       stays : (l : List A) (k : ℕ) → length l ≤ k → l ≡ written l k t
       stays [] k h = refl
       stays (x ∷ l) (suc k) h = ap (λ (m : List A). x ∷ m) (stays l k (omega arith))
       stays (x ∷ l) zero h = absurd (omega arith)
 
-  pub kept : {old t new : List A} {at n : ℕ} → Wrote old at t new n → length new ≡ length old
-  kept {old} {t} {new} {at} w = ap length (w .text) ∙ length-written old at t
+  pub length-kept : {old t new : List A} {at n : ℕ} → Wrote old at t new n → length new ≡ length old
+  length-kept {old} {t} {new} {at} w = ap length (w .text) ∙ length-written old at t
 
-  -- the place after a text lies in the slice
+  -- the offset after a text lies in the slice
   pub inside : {old t new : List A} {at n : ℕ} → Wrote old at t new n → n ≤ length new
-  inside w = omega (arith, w .place, kept w)
+  inside w = omega (arith, w .offset, length-kept w)
 
   -- a text that has room
   pub whole : (old : List A) (at : ℕ) (t : List A) → at + length t ≤ length old
@@ -90,7 +90,7 @@ module _ {A : Type 0} where
       ap (λ (l : List A). b ∷ l) (whole old zero t (omega arith))
       ∙ ap (λ (n : ℕ). b ∷ (t ++ drop n (x ∷ old))) (let e : suc (0 + length t) ≡ 0 + suc (length t) = omega arith in e)
 
-  -- a writer's promise fixes what it leaves and the place that it answers
+  -- a writer's promise fixes what it leaves and the offset that it answers
   pub one-written : {old t new new′ : List A} {at next next′ : ℕ} → Wrote old at t new next → Wrote old at t new′ next′
       → (new ≡ new′) × (next ≡ next′)
-  one-written w v = (w .text ∙ sym (v .text), w .place ∙ sym (v .place))
+  one-written w v = (w .text ∙ sym (v .text), w .offset ∙ sym (v .offset))

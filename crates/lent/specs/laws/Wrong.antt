@@ -9,7 +9,7 @@ use Rattle.lent.specs.rules.Put.{roomFor, laid}
 use Rattle.lent.specs.notions.Code.{ofBytes}
 use Rattle.lent.specs.notions.Wrong.{roomFromTheStart, restCleared, refusedSliceCleared}
 
--- a text of one byte from place 1 on, in a slice of one byte
+-- a text of one byte from offset 1 on, in a slice of one byte
 pub room-from-the-start-excluded : roomFromTheStart (0 ∷ []) 1 (answered (7 ∷ [])) ≢ roomFor (0 ∷ []) 1 (answered (7 ∷ []))
 unfolding roomFor then
 room-from-the-start-excluded = apart (ofAnswer ofBytes) refl

@@ -6,7 +6,7 @@ use lib.Dec.{leb}
 use lib.ListN.{length, take, drop}
 use Rattle.quantity.specs.rules.Answer.{Answer, answered, refused, then}
 
--- the room of the whole slice, whatever the place
+-- the room of the whole slice, whatever the offset
 abbrev pub roomFromTheStart : List ℕ → ℕ → Answer (List ℕ) → Answer (List ℕ)
 roomFromTheStart old at text = then text (λ (t : List ℕ). cond (leb (length t) (length old)) (answered t) (refused 8))
 

@@ -1,4 +1,4 @@
--- A text put into a lent slice from a place on, whole or not at all. Its own refusal comes first, then 8 where it has no room; a refused call
+-- A text put into a lent slice from an offset on, whole or not at all. Its own refusal comes first, then 8 where it has no room; a refused call
 -- leaves the slice.
 use Prim.Native.Nat.{ℕ, _+_}
 use mathlib.Core.Path.{_≡_}
@@ -10,7 +10,7 @@ use Rattle.quantity.specs.rules.Answer.{Answer, answered, refused, with, then}
 use Rattle.lent.specs.declared.Written.{Written}
 use Rattle.lent.specs.declared.Written.the-variants.{To, Refused}
 
--- the place after the text
+-- the offset after the text
 abbrev pub shownWritten : Written → Answer ℕ
 shownWritten (To n) = answered n
 shownWritten (Refused n) = refused n

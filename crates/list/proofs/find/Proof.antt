@@ -8,7 +8,7 @@ use native.Mathlib.Omega.{arith}
 use lib.IntN.{ℤ}
 use Rattle.double.specs.laws.Calls.{asks-nothing}
 use Rattle.quantity.specs.rules.Answer.{answered, refused}
-use Rattle.list_words.specs.laws.Signed.{signed-word}
+use Rattle.signed.specs.laws.Signed.{signed-word}
 use Rattle.list.specs.rules.Stars.{isList, stars, countOf, nth}
 use Rattle.list.specs.laws.Stars.{length-stars}
 use Rattle.list.specs.rules.Find.{indexOf, entry, findRule}

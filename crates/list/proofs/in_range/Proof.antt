@@ -5,7 +5,7 @@ use lib.Dec.{leb}
 use lib.IntN.{natAbs}
 use borrow.Author.Tests.{lt-ltb, le-ltb}
 use Rattle.double.specs.laws.Calls.{asks-nothing}
-use Rattle.list_words.specs.laws.Signed.{signed-word}
+use Rattle.signed.specs.laws.Signed.{signed-word}
 use Rattle.list.specs.rules.Record.{quarter, inRange}
 use Rattle.list.proofs.in_range.Statement.{statement}
 use Rattle.list.proofs.in_range.Tie as tie

@@ -52,8 +52,8 @@ index c = omega arith
 
 returns : tie.Need-returns Inv-loop μ-loop
 returns c =
-    let turn = c .before .before in
-    omega (arith, turn .before .before .loop .inv .1 .1, hit _ _ _ (index (turn .before)) (turn .nth .result) (turn .nth .ensures) (c .if1 .taken))
+    let pass = c .before .before in
+    omega (arith, pass .before .before .loop .inv .1 .1, hit _ _ _ (index (pass .before)) (pass .nth .result) (pass .nth .ensures) (c .if1 .taken))
 
 add-i : tie.Need-add-i Inv-loop μ-loop
 add-i c = search needs
@@ -63,11 +63,11 @@ loop-less c = search needs
 
 loop-again : tie.Need-loop-again Inv-loop μ-loop
 loop-again c =
-    let turn = c .before .before in (
+    let pass = c .before .before in (
       omega arith,
       (
-        turn .before .before .loop .inv .1 .0,
-        omega (arith, turn .before .before .loop .inv .1 .1, miss _ _ _ (index (turn .before)) (turn .nth .result) (turn .nth .ensures) (c .if1 .left)),
+        pass .before .before .loop .inv .1 .0,
+        omega (arith, pass .before .before .loop .inv .1 .1, miss _ _ _ (index (pass .before)) (pass .nth .result) (pass .nth .ensures) (c .if1 .left)),
       ),
     )
 

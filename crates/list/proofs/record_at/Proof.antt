@@ -4,7 +4,7 @@ use mathlib.Core.Path.{ap, _∙_}
 use mir.Syntax.{w32}
 use mir.Facts.{toZ-ofZ}
 use Rattle.double.specs.laws.Calls.{asks-nothing}
-use Rattle.list_words.specs.rules.Signed.{signedOf}
+use Rattle.signed.specs.rules.Signed.{signedOf}
 use Rattle.list.specs.rules.Record.{starAt}
 use Rattle.list.proofs.record_at.Statement.{statement}
 use Rattle.list.proofs.record_at.Tie as tie

@@ -1,23 +1,23 @@
 -- What is shown of an answer loses nothing, so that each contract holds of one answer only.
 use mathlib.Core.Path.{_≡_, ap}
 use Rattle.quantity.specs.rules.Answer.{answered}
-use Rattle.list.specs.rules.Reader.{shownSight}
+use Rattle.list.specs.rules.Reader.{shownStored}
 use Rattle.list.specs.rules.Find.{Entry, shownFound}
-use Rattle.list.specs.declared.Shown.{Shown}
-use Rattle.list.specs.declared.Shown.the-variants as shown
+use Rattle.list.specs.declared.Stored.{Stored}
+use Rattle.list.specs.declared.Stored.the-variants as stored
 use Rattle.list.specs.declared.Found.{Found}
 use Rattle.list.specs.declared.Found.the-variants as found
 
-pub sight-loses-nothing : (r s : Shown) → shownSight r ≡ shownSight s → r ≡ s
-sight-loses-nothing (shown.Next a m) (shown.Next b n) e = cc
-sight-loses-nothing (shown.Next a m) shown.End e = cc
-sight-loses-nothing (shown.Next a m) (shown.Refused n) e = cc
-sight-loses-nothing shown.End (shown.Next b n) e = cc
-sight-loses-nothing shown.End shown.End e = cc
-sight-loses-nothing shown.End (shown.Refused n) e = cc
-sight-loses-nothing (shown.Refused m) (shown.Next b n) e = cc
-sight-loses-nothing (shown.Refused m) shown.End e = cc
-sight-loses-nothing (shown.Refused m) (shown.Refused n) e = cc
+pub stored-loses-nothing : (r s : Stored) → shownStored r ≡ shownStored s → r ≡ s
+stored-loses-nothing (stored.Next a m) (stored.Next b n) e = cc
+stored-loses-nothing (stored.Next a m) stored.End e = cc
+stored-loses-nothing (stored.Next a m) (stored.Refused n) e = cc
+stored-loses-nothing stored.End (stored.Next b n) e = cc
+stored-loses-nothing stored.End stored.End e = cc
+stored-loses-nothing stored.End (stored.Refused n) e = cc
+stored-loses-nothing (stored.Refused m) (stored.Next b n) e = cc
+stored-loses-nothing (stored.Refused m) stored.End e = cc
+stored-loses-nothing (stored.Refused m) (stored.Refused n) e = cc
 
 same-entry : (x y : Entry) → answered x ≡ answered y → x ≡ y
 same-entry x y e = cc

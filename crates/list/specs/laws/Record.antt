@@ -7,8 +7,8 @@ use native.Mathlib.Omega.{arith}
 use lib.ListN.{length, drop, getD}
 use lib.Seq.{getD-drop, drop-cons}
 use native.Mathlib.Numerals.{add-one}
-use Rattle.list_words.specs.rules.Signed.{wordOf, signedOf}
-use Rattle.list_words.specs.laws.Signed.{signed-word, word-signed, word-small, has-word}
+use Rattle.signed.specs.rules.Signed.{wordOf, signedOf}
+use Rattle.signed.specs.laws.Signed.{signed-word, word-signed, word-small, has-word}
 use Rattle.list.specs.rules.Record.{width, wordAt, starAt, wordBytes, wordsBytes, starBytes, Fitting}
 use Rattle.list.specs.rules.Stars.{Bytes}
 use Rattle.list.specs.declared.Star.{Star}

@@ -71,7 +71,7 @@ bytes-take (suc k) [] y i = omega arith
 bytes-take (suc k) (b ∷ s) y zero = y zero
 bytes-take (suc k) (b ∷ s) y (suc i) = bytes-take k s (λ (j : ℕ). y (suc j)) i
 
--- stars put one after the other from place 0 on are a list: each adds itself to those before it
+-- stars put one after the other from offset 0 on are a list: each adds itself to those before it
 pub put-adds-its-star : (old new : List ℕ) (at next : ℕ) (r : Star) → Bytes old → Fitting r → Put (recordText at r) old at new (To next)
     → Added old at r new next
 unfolding isList

@@ -13,14 +13,15 @@ use Rattle.quantity.specs.notions.Varies.{Varies}
 use Rattle.lent.specs.rules.Rows.{upto}
 use Rattle.lent.specs.notions.Code.{ofBytes}
 use Rattle.list.specs.declared.Star.{Star}
-use Rattle.list.specs.rules.Record.{width, turn, inRange}
+use Rattle.list.specs.rules.Record.{width, turn, inRange, wordBytes, starBytes}
 use Rattle.list.specs.rules.Stars.{mostStars, isList, countOf, nought}
 use Rattle.list.specs.rules.Reader.{readRule}
 use Rattle.list.specs.rules.Writer.{recordText}
 use Rattle.list.specs.rules.Find.{findRule}
-use Rattle.list.specs.notions.Code.{ofSight, ofEntry}
+use Rattle.list.specs.notions.Code.{ofItem, ofEntry}
 use Rattle.list.specs.notions.Computed.{computed}
-use Rattle.list.specs.notions.Wrong.{wholeTurnInRange, oneStarTooMany, partRecordsCounted, endRefused, bigEndianRead, outOfRangePut}
+use Rattle.list.specs.notions.Wrong.{wholeTurnInRange, oneStarTooMany, partRecordsCounted, endRefused, bigEndianRead, nextWithinRecord}
+use Rattle.list.specs.notions.Wrong.{bigEndianWritten, numberWrittenTwice, outOfRangePut}
 use Rattle.list.specs.notions.Wrong.{putWithinRecord, putPastTheLast, eightBeforeNine, lastNumberFound, nineBeforeTen}
 
 -- records of zeros, and the record of a star with the number 1
@@ -52,17 +53,29 @@ part-records-counted-excluded = apart ofNumber refl
 
 pub read-varies : Varies (readRule (zeros 2) 0) (readRule (zeros 2) width)
 unfolding computed
-read-varies = record { here = refl; there = refl; apart = apart (ofAnswer ofSight) refl }
+read-varies = record { here = refl; there = refl; apart = apart (ofAnswer ofItem) refl }
 
 pub end-refused-excluded : endRefused [] 0 ≢ readRule [] 0
 unfolding computed
-end-refused-excluded = apart (ofAnswer ofSight) refl
+end-refused-excluded = apart (ofAnswer ofItem) refl
 
 pub big-endian-read-excluded : bigEndianRead star1 0 ≢ readRule star1 0
 unfolding computed
-big-endian-read-excluded = apart (ofAnswer ofSight) refl
+big-endian-read-excluded = apart (ofAnswer ofItem) refl
+
+pub next-within-record-excluded : nextWithinRecord star1 0 ≢ readRule star1 0
+unfolding computed
+next-within-record-excluded = apart (ofAnswer ofItem) refl
 
 -- ---- the writer
+
+pub big-endian-written-excluded : bigEndianWritten 1 ≢ wordBytes 1
+unfolding computed
+big-endian-written-excluded = apart ofBytes refl
+
+pub number-written-twice-excluded : numberWrittenTwice (record { number = 7; asc = 0; dec = pos 0 }) ≢ starBytes (record { number = 7; asc = 0; dec = pos 0 })
+unfolding computed
+number-written-twice-excluded = apart ofBytes refl
 
 pub record-varies : Varies (recordText 0 nought) (recordText 0 (record { number = 7; asc = 0; dec = pos 0 }))
 unfolding computed

@@ -1,4 +1,4 @@
--- A star added: what stands before the place after it is a list, of the stars before it and the star.
+-- A star added: what stands before the offset after it is a list, of the stars before it and the star.
 use Prim.Native.Nat.{ℕ}
 use mathlib.Core.Path.{_≡_}
 use mathlib.Core.Bool.{true}

@@ -1,16 +1,16 @@
 -- Wrong variants of the stored list.
-use Prim.Native.Nat.{ℕ, suc, _+_, _*_, _%_}
+use Prim.Native.Nat.{ℕ, suc, _+_, _*_, _/_, _%_}
 use mathlib.Core.Bool.{Bool, cond, _&&_}
 use mathlib.Core.List.{List, [], _∷_}
 use lib.Dec.{eqb, leb, ltb}
 use lib.IntN.{natAbs}
 use lib.ListN.{length, getD}
 use Rattle.quantity.specs.rules.Answer.{Answer, answered, refused}
-use Rattle.list_words.specs.rules.Signed.{signedOf}
+use Rattle.signed.specs.rules.Signed.{wordOf, signedOf}
 use Rattle.list.specs.declared.Star.{Star}
-use Rattle.list.specs.rules.Record.{width, starAt, turn, quarter, inRange, starBytes}
+use Rattle.list.specs.rules.Record.{width, starAt, turn, quarter, inRange, wordsBytes, starBytes}
 use Rattle.list.specs.rules.Stars.{mostStars, isList, stars, nth}
-use Rattle.list.specs.rules.Reader.{Sight, sight, none, isPlace}
+use Rattle.list.specs.rules.Reader.{Item, item, none, isOffset}
 use Rattle.list.specs.rules.Writer.{isStart}
 use Rattle.list.specs.rules.Find.{Entry, indexOf, entry, entryAt}
 
@@ -29,32 +29,46 @@ partRecordsCounted s = length s % width
 
 -- ---- the reader
 
--- with another test of the place, and another star
-abbrev reading : (List ℕ → ℕ → Bool) → (List ℕ → ℕ → Star) → List ℕ → ℕ → Answer Sight
-reading accepts star s at =
+-- with another test of the offset, another star, and another width
+abbrev readingBy : (List ℕ → ℕ → Bool) → (List ℕ → ℕ → Star) → ℕ → List ℕ → ℕ → Answer Item
+readingBy accepts star size s at =
     cond (isList s && accepts s at)
-    (answered (cond (ltb at (length s)) (sight (star s at) (at + width)) none))
+    (answered (cond (ltb at (length s)) (item (star s at) (at + size)) none))
     (refused 8)
 
-abbrev pub endRefused : List ℕ → ℕ → Answer Sight
+abbrev reading : (List ℕ → ℕ → Bool) → (List ℕ → ℕ → Star) → List ℕ → ℕ → Answer Item
+reading accepts star = readingBy accepts star width
+
+-- on to the next word
+abbrev pub nextWithinRecord : List ℕ → ℕ → Answer Item
+nextWithinRecord = readingBy isOffset starAt 4
+
+abbrev pub endRefused : List ℕ → ℕ → Answer Item
 endRefused = reading (λ (s : List ℕ) (at : ℕ). ltb at (length s) && eqb (at % width) 0) starAt
 
 -- the high byte first
 abbrev bigEndian : List ℕ → ℕ → ℕ
 bigEndian s at = getD s (at + 3) 0 + 256 * getD s (at + 2) 0 + 65536 * getD s (at + 1) 0 + 16777216 * getD s at 0
 
-abbrev pub bigEndianRead : List ℕ → ℕ → Answer Sight
+abbrev pub bigEndianRead : List ℕ → ℕ → Answer Item
 bigEndianRead =
-    reading isPlace
+    reading isOffset
     (λ (s : List ℕ) (at : ℕ).
     record { number = bigEndian s at; asc = bigEndian s (at + 4); dec = signedOf (bigEndian s (at + 8)) })
 
 -- ---- the writer
 
+-- the high byte first
+abbrev pub bigEndianWritten : ℕ → List ℕ
+bigEndianWritten n = n / 16777216 ∷ n / 65536 % 256 ∷ n / 256 % 256 ∷ n % 256 ∷ []
+
+abbrev pub numberWrittenTwice : Star → List ℕ
+numberWrittenTwice r = wordsBytes (r .number ∷ r .number ∷ wordOf (r .dec) ∷ [])
+
 abbrev pub outOfRangePut : ℕ → Star → Answer (List ℕ)
 outOfRangePut at r = cond (isStart at) (answered (starBytes r)) (refused 8)
 
--- with another test of the place
+-- with another test of the offset
 abbrev putting : (ℕ → Bool) → ℕ → Star → Answer (List ℕ)
 putting accepts at r = cond (inRange r) (cond (accepts at) (answered (starBytes r)) (refused 8)) (refused 9)
 
@@ -65,7 +79,7 @@ putWithinRecord = putting (λ (at : ℕ). ltb at (width * mostStars))
 abbrev pub putPastTheLast : ℕ → Star → Answer (List ℕ)
 putPastTheLast = putting (λ (at : ℕ). leb at (width * mostStars) && eqb (at % width) 0)
 
--- 8 for the place, before the star's own 9
+-- 8 for the offset, before the star's own 9
 abbrev pub eightBeforeNine : ℕ → Star → Answer (List ℕ)
 eightBeforeNine at r = cond (isStart at) (cond (inRange r) (answered (starBytes r)) (refused 9)) (refused 8)
 

@@ -5,18 +5,18 @@ use mathlib.Core.List.{List, [], _∷_, _++_}
 use lib.Dec.{ltb, leb}
 use lib.IntN.{natAbs}
 use lib.ListN.{getD}
-use Rattle.list_words.specs.rules.Signed.{wordOf, signedOf, HasWord}
+use Rattle.signed.specs.rules.Signed.{wordOf, signedOf, HasWord}
 use Rattle.list.specs.declared.Star.{Star}
 
 -- bytes of a record
 abbrev pub width : ℕ
 width = 12
 
--- the word that stands from a place on
+-- the word that stands from an offset on
 unfoldable pub wordAt : List ℕ → ℕ → ℕ
 wordAt s at = getD s at 0 + 256 * getD s (at + 1) 0 + 65536 * getD s (at + 2) 0 + 16777216 * getD s (at + 3) 0
 
--- the star whose record stands from a place on, in range or not
+-- the star whose record stands from an offset on, in range or not
 unfoldable pub starAt : List ℕ → ℕ → Star
 starAt s at = record { number = wordAt s at; asc = wordAt s (at + 4); dec = signedOf (wordAt s (at + 8)) }
 

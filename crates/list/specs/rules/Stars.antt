@@ -1,4 +1,4 @@
--- A stored list as the list of its stars: star i is the record at the i-th place.
+-- A stored list as the list of its stars: star i is the record at the i-th offset.
 use Prim.Native.Nat.{ℕ, _*_, _/_, _%_, _<_}
 use mathlib.Core.Bool.{Bool, _&&_}
 use mathlib.Core.List.{List, [], _∷_, _++_}

@@ -1,4 +1,4 @@
--- A star written as a record: 9, then 8. A record begins where a list has one, so that stars put one after the other from place 0 on are a list.
+-- A star written as a record: 9, then 8. A record begins where a list has one, so that stars put one after the other from offset 0 on are a list.
 use Prim.Native.Nat.{ℕ, _*_, _%_}
 use mathlib.Core.Bool.{Bool, cond, _&&_}
 use mathlib.Core.List.{List}

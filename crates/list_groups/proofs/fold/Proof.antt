@@ -6,7 +6,7 @@ use mir.Syntax.{w32}
 use mir.Val.{toZ, ofZ}
 use mir.Facts.{toZ-ofZ}
 use Rattle.double.specs.laws.Calls.{asks-nothing}
-use Rattle.list_words.specs.rules.Signed.{reach}
+use Rattle.signed.specs.rules.Signed.{reach}
 use Rattle.list_groups.specs.rules.Fold.{folded}
 use Rattle.list_groups.proofs.Halves.{below, not-below}
 use Rattle.list_groups.proofs.fold.Statement.{statement}

@@ -2,16 +2,16 @@
 use borrow.Author.Needs.{needs}
 use native.Mathlib.Omega.{arith}
 use Rattle.double.specs.laws.Calls.{asks-nothing}
-use Rattle.lent.specs.laws.Writing.{kept}
+use Rattle.lent.specs.laws.Writing.{length-kept}
 use Rattle.list_groups.proofs.Writing.{Putting, begin, step, finish}
 use Rattle.list_groups.proofs.put_number.Statement.{statement}
 use Rattle.list_groups.proofs.put_number.Tie as tie
 
 abbrev Inv-loop : tie.InvT-loop
-Inv-loop out₀ at n place₀ rest₀ out place rest = Putting out₀ at n out place rest
+Inv-loop out₀ at n offset₀ rest₀ out offset rest = Putting out₀ at n out offset rest
 
 abbrev μ-loop : tie.MeasureT-loop
-μ-loop out₀ at n place₀ rest₀ out place rest = rest
+μ-loop out₀ at n offset₀ rest₀ out offset rest = rest
 
 loop-holds : tie.Need-loop-holds Inv-loop μ-loop
 loop-holds c = begin _ _ _ _ (omega arith) (c .within .ensures)
@@ -27,21 +27,21 @@ loop-less c = omega arith
 
 loop-again : tie.Need-loop-again Inv-loop μ-loop
 loop-again c =
-    let turn = c .before .before .before .before .before in
-    step _ _ _ (turn .loop .out) (turn .loop .place) (turn .loop .rest) (turn .loop .inv) _ _ (omega arith) (c .before .before .put-byte .ensures)
+    let pass = c .before .before .before .before .before in
+    step _ _ _ (pass .loop .out) (pass .loop .offset) (pass .loop .rest) (pass .loop .inv) _ _ (omega arith) (c .before .before .put-byte .ensures)
 
 cast-put-byte-2 : tie.Need-cast-put-byte-2 Inv-loop μ-loop
 cast-put-byte-2 c = search needs
 
 same-length : tie.Need-same-length Inv-loop μ-loop
 same-length c =
-    let turn = c .before .before .before .before .before in
-    kept (finish _ _ _ (turn .loop .out) (turn .loop .place) (turn .loop .rest) (turn .loop .inv) _ _ (omega arith) (c .before .before .put-byte2 .ensures))
+    let pass = c .before .before .before .before .before in
+    length-kept (finish _ _ _ (pass .loop .out) (pass .loop .offset) (pass .loop .rest) (pass .loop .inv) _ _ (omega arith) (c .before .before .put-byte2 .ensures))
 
 returns : tie.Need-returns Inv-loop μ-loop
 returns c =
-    let turn = c .before .before .before .before .before in
-    finish _ _ _ (turn .loop .out) (turn .loop .place) (turn .loop .rest) (turn .loop .inv) _ _ (omega arith) (c .before .before .put-byte2 .ensures)
+    let pass = c .before .before .before .before .before in
+    finish _ _ _ (pass .loop .out) (pass .loop .offset) (pass .loop .rest) (pass .loop .inv) _ _ (omega arith) (c .before .before .put-byte2 .ensures)
 
 pub put-number-spec : {M : Type 1} → statement M
 put-number-spec =

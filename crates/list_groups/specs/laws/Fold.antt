@@ -6,7 +6,7 @@ use native.Mathlib.Omega.{arith}
 use lib.Dec.{eqb}
 use lib.IntN.{ℤ, pos, negsuc}
 use borrow.Author.Tests.{eq-eqb, ne-eqb, eqb-true, eqb-false}
-use Rattle.list_words.specs.rules.Signed.{HasWord}
+use Rattle.signed.specs.rules.Signed.{HasWord}
 use Rattle.list_groups.specs.rules.Fold.{folded, unfolded}
 
 pub unfolded-folded : (z : ℤ) → unfolded (folded z) ≡ z

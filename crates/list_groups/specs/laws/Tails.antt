@@ -1,4 +1,4 @@
--- What stands after a thing that was read is a tail of the bytes, so that its place says all of it.
+-- What stands after a thing that was read is a tail of the bytes, so that its offset says all of it.
 use mathlib.Core.Path.{_≡_, refl, sym, ap, _∙_}
 use mathlib.Core.Bool.{Bool, true, false, cond}
 use mathlib.Core.List.{List, [], _∷_, _++_, append-assoc}
@@ -8,7 +8,7 @@ use lib.Dec.{ltb}
 use lib.ListN.{length, take, drop, length-append, length-drop, take-append-drop}
 use lib.Seq.{drop-at}
 use Rattle.quantity.specs.rules.Answer.{Answer, answered, refused, with}
-use Rattle.list_groups.specs.rules.Reading.{Got, lastGroup, above, numberWithin, readNumber, Placed, withPlace, readAt}
+use Rattle.list_groups.specs.rules.Reading.{Got, lastGroup, above, numberWithin, readNumber, AtOffset, withOffset, readAt}
 use Rattle.list_groups.specs.notions.Tail.{Tail, LeavesTail, Found}
 use Rattle.quantity.specs.laws.Steps.{refused-not-answered, changed, with-refused}
 
@@ -31,17 +31,17 @@ rest-is {rest} {s} t =
     ap (λ (l : List ℕ). drop (length s - length rest) l) (t .is)
     ∙ drop-at (t .front) rest (length s - length rest) (omega (arith, ap length (t .is) ∙ length-append (t .front) rest))
 
--- what an answer with a place says of the reader, and the other way round
+-- what an answer with an offset says of the reader, and the other way round
 module _ {A : Type 0} (read : List ℕ → Answer (Got A)) (s : List ℕ) (at : ℕ) where
-  pub found : LeavesTail read → (v : A) (next : ℕ) → answered (record { value = v; place = next }) ≡ readAt read s at
+  pub found : LeavesTail read → (v : A) (next : ℕ) → answered (record { value = v; offset = next }) ≡ readAt read s at
       → Found read s at v next
   unfolding readAt
   found tails v next e =
-      let p = changed (read (drop at s)) (withPlace s) (record { value = v; place = next }) (sym e) in
+      let p = changed (read (drop at s)) (withOffset s) (record { value = v; offset = next }) (sym e) in
       let g = p .value in
       let t = of-tail (tails (drop at s) g (p .first)) (dropped at s) in
-      let same : v ≡ g .value = ap (λ (x : Placed A). x .value) (p .is) in
-      let where-it-ends : next ≡ length s - length (g .rest) = ap (λ (x : Placed A). x .place) (p .is) in
+      let same : v ≡ g .value = ap (λ (x : AtOffset A). x .value) (p .is) in
+      let where-it-ends : next ≡ length s - length (g .rest) = ap (λ (x : AtOffset A). x .offset) (p .is) in
       let left : g .rest ≡ drop next s = sym (ap (λ (n : ℕ). drop n s) where-it-ends ∙ rest-is t) in
       record {
         read-so = p .first ∙ (λ i. answered (record { value = sym same i; rest = left i }));
@@ -50,14 +50,14 @@ module _ {A : Type 0} (read : List ℕ → Answer (Got A)) (s : List ℕ) (at : 
 
   pub shows : (v : A) (next : ℕ) → next ≤ length s
       → read (drop at s) ≡ answered (record { value = v; rest = drop next s })
-      → answered (record { value = v; place = next }) ≡ readAt read s at
+      → answered (record { value = v; offset = next }) ≡ readAt read s at
   unfolding readAt
   shows v next h e =
-      rw e (ap (λ (n : ℕ). answered (record { value = v; place = n })) (let q : next ≡ length s - length (drop next s) = omega (arith, length-drop next s) in q))
+      rw e (ap (λ (n : ℕ). answered (record { value = v; offset = n })) (let q : next ≡ length s - length (drop next s) = omega (arith, length-drop next s) in q))
 
   pub not-found : (k : ℕ) → refused k ≡ readAt read s at → read (drop at s) ≡ refused k
   unfolding readAt
-  not-found k e = with-refused (read (drop at s)) (withPlace s) k (sym e)
+  not-found k e = with-refused (read (drop at s)) (withOffset s) k (sym e)
 
   pub refuses : (k : ℕ) → read (drop at s) ≡ refused k → refused k ≡ readAt read s at
   unfolding readAt

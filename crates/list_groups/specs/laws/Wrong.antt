@@ -11,7 +11,7 @@ use Rattle.quantity.specs.notions.Code.{ofAnswer}
 use Rattle.quantity.specs.notions.Varies.{Varies}
 use Rattle.lent.specs.notions.Code.{ofBytes}
 use Rattle.list_groups.specs.rules.Groups.{groups}
-use Rattle.list_groups.specs.rules.Reading.{Got, readNumber, Placed, readAt}
+use Rattle.list_groups.specs.rules.Reading.{Got, readNumber, AtOffset, readAt}
 use Rattle.list_groups.specs.rules.Fold.{folded, unfolded}
 use Rattle.list_groups.specs.notions.Wrong.{overLongTaken, sixthGroupTaken, above32Taken, twelveForCutShort, lastGroupMarked, highGroupFirst}
 use Rattle.list_groups.specs.notions.Wrong.{fourGroups, minusOneIsTwo, signKept}
@@ -19,15 +19,15 @@ use Rattle.list_groups.specs.notions.Wrong.{fourGroups, minusOneIsTwo, s
 abbrev ofGot : Got ℕ → ℕ
 ofGot g = g .value
 
-abbrev ofPlaced : Placed ℕ → ℕ
-ofPlaced p = p .place + 65536 * p .value
+abbrev ofAtOffset : AtOffset ℕ → ℕ
+ofAtOffset p = p .offset + 65536 * p .value
 
 -- ---- reading
 
--- two numbers, and the places after them
+-- two numbers, and the offsets after them
 pub read-varies : Varies (readAt readNumber (0xac ∷ 0x02 ∷ 0x07 ∷ []) 0) (readAt readNumber (0xac ∷ 0x02 ∷ 0x07 ∷ []) 2)
 unfolding readAt readNumber
-read-varies = record { here = refl; there = refl; apart = apart (ofAnswer ofPlaced) refl }
+read-varies = record { here = refl; there = refl; apart = apart (ofAnswer ofAtOffset) refl }
 
 pub over-long-taken-excluded : overLongTaken (0xac ∷ 0x82 ∷ 0x00 ∷ []) ≢ readNumber (0xac ∷ 0x82 ∷ 0x00 ∷ [])
 unfolding readNumber

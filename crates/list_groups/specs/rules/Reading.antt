@@ -29,14 +29,14 @@ numberWithin (suc more) least (b ∷ bs) = cond (ltb b 128) (lastGroup least b b
 unfoldable pub readNumber : List ℕ → Answer (Got ℕ)
 readNumber bs = numberWithin 4 0 bs
 
--- the same with the place of what stands after it, of all the bytes s
-pub record Placed (A : Type 0) : Type 0 where
+-- the same with the offset of what stands after it, of all the bytes s
+pub record AtOffset (A : Type 0) : Type 0 where
   pub value : A
-  pub place : ℕ
+  pub offset : ℕ
 
-abbrev pub withPlace : {A : Type 0} → List ℕ → Got A → Placed A
-withPlace s g = record { value = g .value; place = length s - length (g .rest) }
+abbrev pub withOffset : {A : Type 0} → List ℕ → Got A → AtOffset A
+withOffset s g = record { value = g .value; offset = length s - length (g .rest) }
 
--- what a reader answers from a place on
-unfoldable pub readAt : {A : Type 0} → (List ℕ → Answer (Got A)) → List ℕ → ℕ → Answer (Placed A)
-readAt read s at = with (withPlace s) (read (drop at s))
+-- what a reader answers from an offset on
+unfoldable pub readAt : {A : Type 0} → (List ℕ → Answer (Got A)) → List ℕ → ℕ → Answer (AtOffset A)
+readAt read s at = with (withOffset s) (read (drop at s))

@@ -6,7 +6,7 @@ use native.Mathlib.Omega.{arith}
 use Rattle.double.specs.laws.Calls.{asks-nothing}
 use Rattle.list_groups.specs.laws.Tails.{found, not-found}
 use Rattle.list_radio.specs.rules.Star.{readStar}
-use Rattle.list_radio.specs.rules.Reader.{shownSighted}
+use Rattle.list_radio.specs.rules.Reader.{shownReceived}
 use Rattle.list_radio.specs.laws.Star.{star-leaves-tail}
 use Rattle.list_radio.proofs.Checking.{Checking, begin, on, star-bad, all-good, bytes-over}
 use Rattle.list_radio.proofs.check_stars.Statement.{statement}
@@ -27,7 +27,7 @@ enum-known-k c = search needs
 returns : tie.Need-returns Inv-loop μ-loop
 returns c =
     star-bad _ _ _ _ _ (c .before .before .before .before .before .loop .inv) _ (omega arith)
-    (not-found readStar _ _ _ (sym (ap shownSighted (c .before .k .given .1)) ∙ c .before .before .before .star-from .ensures))
+    (not-found readStar _ _ _ (sym (ap shownReceived (c .before .k .given .1)) ∙ c .before .before .before .star-from .ensures))
 
 enum-known-next : tie.Need-enum-known-next Inv-loop μ-loop
 enum-known-next c = search needs
@@ -41,7 +41,7 @@ loop-less c = omega arith
 loop-again : tie.Need-loop-again Inv-loop μ-loop
 loop-again c =
     on _ _ _ _ _ (c .before .before .before .before .before .loop .inv) _ _ (omega arith)
-    (found readStar _ _ star-leaves-tail _ _ (sym (ap shownSighted (c .before .next .given .1)) ∙ c .before .before .before .star-from .ensures) .read-so)
+    (found readStar _ _ star-leaves-tail _ _ (sym (ap shownReceived (c .before .next .given .1)) ∙ c .before .before .before .star-from .ensures) .read-so)
 
 returns-2 : tie.Need-returns-2 Inv-loop μ-loop
 returns-2 c = bytes-over _ _ _ _ _ (c .before .before .loop .inv) (omega arith) (c .if1 .taken)

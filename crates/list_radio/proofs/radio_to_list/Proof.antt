@@ -3,7 +3,7 @@ use borrow.Author.Needs.{needs}
 use mathlib.Core.Path.{sym, ap, _∙_}
 use native.Mathlib.Omega.{arith}
 use Rattle.double.specs.laws.Calls.{asks-nothing}
-use Rattle.lent.specs.laws.Writing.{kept}
+use Rattle.lent.specs.laws.Writing.{length-kept}
 use Rattle.list_radio.specs.rules.Reader.{shownOpened, shownAccepted}
 use Rattle.lent.specs.laws.Put.{put-refused, no-room, puts}
 use Rattle.list_radio.specs.laws.Moves.{no-head, no-stars, AllRead, all-stars}
@@ -54,7 +54,7 @@ returns-3 c =
     (no-stars _ _ _ (sym (ap shownOpened (n .n .given .1)) ∙ n .before .before .open .ensures) _ (sym (ap shownAccepted (bad .k2 .given .1)) ∙ bad .before .before .check-stars .ensures))
 
 same-length : tie.Need-same-length
-same-length c = kept (c .before .before .lay-stars .ensures)
+same-length c = length-kept (c .before .before .lay-stars .ensures)
 
 returns-4 : tie.Need-returns-4
 returns-4 c =

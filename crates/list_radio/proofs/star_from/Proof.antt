@@ -10,7 +10,7 @@ use Rattle.list_groups.specs.notions.Tail.{Found}
 use Rattle.list_groups.specs.laws.Tails.{found, not-found, refuses, number-leaves-tail}
 use Rattle.list_radio.specs.rules.Star.{readStar}
 use Rattle.list_radio.specs.laws.Star.{first-refused, second-refused, third-refused, all-read}
-use Rattle.list_radio.proofs.Reading.{star-shown, star-refused}
+use Rattle.list_radio.proofs.Reading.{star-received, star-refused}
 use Rattle.list_radio.proofs.star_from.Statement.{statement}
 use Rattle.list_radio.proofs.star_from.Tie as tie
 
@@ -70,7 +70,7 @@ returns-4 c =
     let n3 = c .before .before .before .before in
     let n2 = after-second n3 in
     let dec = c .before .before .unfold in
-    star-shown _ _ _ _ _ _ _ (toZ-ofZ {w = w32} (record { sfits = dec .ok }) ∙ dec .ensures) (all-read _ (first (after-first n2) .read-so) (second n2 .read-so) (third n3 .read-so)) (sym (c .before .in-range .ensures) ∙ c .if1 .taken) (third n3 .inside)
+    star-received _ _ _ _ _ _ _ (toZ-ofZ {w = w32} (record { sfits = dec .ok }) ∙ dec .ensures) (all-read _ (first (after-first n2) .read-so) (second n2 .read-so) (third n3 .read-so)) (sym (c .before .in-range .ensures) ∙ c .if1 .taken) (third n3 .inside)
 
 returns-5 : tie.Need-returns-5
 returns-5 c =

@@ -4,7 +4,7 @@ use Prim.Native.Nat.{ℕ}
 use native.Mathlib.Omega.{arith}
 use lib.ListN.{length}
 use Rattle.double.specs.laws.Calls.{asks-nothing}
-use Rattle.list_words.specs.laws.Signed.{signed-word}
+use Rattle.signed.specs.laws.Signed.{signed-word}
 use Rattle.list_groups.specs.rules.Groups.{groups}
 use Rattle.list_groups.specs.rules.Fold.{folded}
 use Rattle.list_groups.specs.laws.Length.{at-most-five}

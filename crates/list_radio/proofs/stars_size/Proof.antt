@@ -1,4 +1,4 @@
--- `list_radio::stars_size` meets its contract: after i turns the bytes of the first i stars are counted.
+-- `list_radio::stars_size` meets its contract: after i passes the bytes of the first i stars are counted.
 use borrow.Author.Tests.{not-true, not-false}
 use mathlib.Core.Path.{sym, _∙_}
 use Prim.Native.Nat.{_-_}
@@ -20,13 +20,13 @@ loop-holds c = begin _ _ (c .before .before .pre) (c .count .ensures)
 
 returns : tie.Need-returns Inv-loop μ-loop
 returns c =
-    let turn = c .before .before in
-    out-of-range _ _ _ _ (turn .before .before .loop .inv) (omega arith) _ (turn .nth .ensures) (sym (c .before .in-range .ensures) ∙ not-true _ (c .if1 .taken))
+    let pass = c .before .before in
+    out-of-range _ _ _ _ (pass .before .before .loop .inv) (omega arith) _ (pass .nth .ensures) (sym (c .before .in-range .ensures) ∙ not-true _ (c .if1 .taken))
 
 add-size : tie.Need-add-size Inv-loop μ-loop
 add-size c =
-    let turn = c .before .before .before in
-    omega (arith, bounded _ _ _ _ (turn .before .before .loop .inv), c .star-size .ensures, at-most-fifteen (turn .nth .result))
+    let pass = c .before .before .before in
+    omega (arith, bounded _ _ _ _ (pass .before .before .loop .inv), c .star-size .ensures, at-most-fifteen (pass .nth .result))
 
 add-i : tie.Need-add-i Inv-loop μ-loop
 add-i c = omega arith
@@ -36,8 +36,8 @@ loop-less c = omega arith
 
 loop-again : tie.Need-loop-again Inv-loop μ-loop
 loop-again c =
-    let turn = c .before .before .before in
-    on _ _ _ _ (turn .before .before .loop .inv) (omega arith) _ (turn .nth .ensures) _ (sym (c .before .before .in-range .ensures) ∙ not-false _ (c .before .if1 .left)) (c .star-size .ensures)
+    let pass = c .before .before .before in
+    on _ _ _ _ (pass .before .before .loop .inv) (omega arith) _ (pass .nth .ensures) _ (sym (c .before .before .in-range .ensures) ∙ not-false _ (c .before .if1 .left)) (c .star-size .ensures)
 
 returns-2 : tie.Need-returns-2 Inv-loop μ-loop
 returns-2 c = measured _ _ _ _ (c .before .loop .inv) (omega arith)

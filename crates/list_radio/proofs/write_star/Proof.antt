@@ -4,7 +4,7 @@ use mathlib.Core.Path.{_≡_, ap, _∙_}
 use mathlib.Core.List.{List, [], _∷_, _++_, append-assoc, append-nil}
 use Prim.Native.Nat.{ℕ}
 use Rattle.double.specs.laws.Calls.{asks-nothing}
-use Rattle.list_words.specs.laws.Signed.{signed-word}
+use Rattle.signed.specs.laws.Signed.{signed-word}
 use Rattle.lent.specs.laws.Writing.{after, same}
 use Rattle.list_groups.specs.rules.Groups.{groups}
 use Rattle.list_groups.specs.rules.Several.{spellAll}

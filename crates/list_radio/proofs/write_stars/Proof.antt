@@ -1,4 +1,4 @@
--- `list_radio::write_stars` meets its contract: after i turns the first i stars are written.
+-- `list_radio::write_stars` meets its contract: after i passes the first i stars are written.
 use borrow.Author.Needs.{needs}
 use mathlib.Core.Path.{_≡_, ap, _∙_}
 use mathlib.Core.List.{_++_}
@@ -7,7 +7,7 @@ use native.Mathlib.Omega.{arith}
 use lib.ListN.{take}
 use Rattle.double.specs.laws.Calls.{asks-nothing}
 use Rattle.lent.specs.rules.Writing.{Wrote}
-use Rattle.lent.specs.laws.Writing.{after, same, nothing, kept}
+use Rattle.lent.specs.laws.Writing.{after, same, nothing, length-kept}
 use Rattle.list.specs.declared.Star.{Star}
 use Rattle.list.specs.rules.Stars.{countOf, stars}
 use Rattle.list.specs.laws.Stars.{all-stars}
@@ -18,10 +18,10 @@ use Rattle.list_radio.proofs.write_stars.Statement.{statement}
 use Rattle.list_radio.proofs.write_stars.Tie as tie
 
 abbrev Inv-loop : tie.InvT-loop
-Inv-loop out₀ at bytes n place₀ i₀ out place i = (i ≤ n) × ((n ≡ countOf bytes) × Wrote out₀ at (spellAll starGroups (take i (stars bytes))) out place)
+Inv-loop out₀ at bytes n offset₀ i₀ out offset i = (i ≤ n) × ((n ≡ countOf bytes) × Wrote out₀ at (spellAll starGroups (take i (stars bytes))) out offset)
 
 abbrev μ-loop : tie.MeasureT-loop
-μ-loop out₀ at bytes n place₀ i₀ out place i = n - i
+μ-loop out₀ at bytes n offset₀ i₀ out offset i = n - i
 
 loop-holds : tie.Need-loop-holds Inv-loop μ-loop
 loop-holds c = (search needs, (c .before .count .ensures, nothing _ _ _ (c .within .ensures)))
@@ -38,19 +38,19 @@ loop-less c = search needs
 
 loop-again : tie.Need-loop-again Inv-loop μ-loop
 loop-again c =
-    let turn = c .before .before .before .before .before .before in
-    let s = turn .before .before .before .before .before .args .bytes .now in
-    let i = turn .loop .i in (
+    let pass = c .before .before .before .before .before .before in
+    let s = pass .before .before .before .before .before .args .bytes .now in
+    let i = pass .loop .i in (
       omega arith,
       (
-        turn .loop .inv .1 .0,
+        pass .loop .inv .1 .0,
         same (ap (λ (r : Star). spellAll starGroups (take i (stars s)) ++ starGroups r) (c .before .before .before .nth .ensures) ∙ groups-more s i (index (c .before .before .before .before .before)))
-            (after (turn .loop .inv .1 .1) (c .before .before .write-star .ensures)),
+            (after (pass .loop .inv .1 .1) (c .before .before .write-star .ensures)),
       ),
     )
 
 same-length : tie.Need-same-length Inv-loop μ-loop
-same-length c = kept (c .before .loop .inv .1 .1)
+same-length c = length-kept (c .before .loop .inv .1 .1)
 
 returns : tie.Need-returns Inv-loop μ-loop
 returns c = same (ap (spellAll starGroups) (all-stars (c .before .before .before .before .before .before .args .bytes .now) (c .before .loop .i) (omega arith))) (c .before .loop .inv .1 .1)

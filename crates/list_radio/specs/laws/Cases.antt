@@ -25,12 +25,12 @@ pub one-star-read : radioStars list300 ≡ answered (star300 ∷ [])
 unfolding computed
 one-star-read = refl
 
--- its head, and its star with the place after it
-pub head-at : openRule list300 ≡ answered (record { value = 1; place = 2 })
+-- its head, and its star with the offset after it
+pub head-at : openRule list300 ≡ answered (record { value = 1; offset = 2 })
 unfolding computed
 head-at = refl
 
-pub star-at : starAtRule list300 2 ≡ answered (record { value = star300; place = 9 })
+pub star-at : starAtRule list300 2 ≡ answered (record { value = star300; offset = 9 })
 unfolding computed
 star-at = refl
 

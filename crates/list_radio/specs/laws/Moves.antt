@@ -74,7 +74,7 @@ module _ (s : List ℕ) where
     pub moved : toList s ≡ answered (listBytes (starsUpto n (drop first s)))
     pub long : length (listBytes (starsUpto n (drop first s))) ≡ width * m
 
-  module _ (n first : ℕ) (head : answered (record { value = n; place = first }) ≡ openRule s) where
+  module _ (n first : ℕ) (head : answered (record { value = n; offset = first }) ≡ openRule s) where
     pub no-stars : (k : ℕ) → refused k ≡ with length (starsOf n (drop first s)) → toList s ≡ refused k
     unfolding toList
     no-stars k e = rw (head-answered s n first head, with-refused (starsOf n (drop first s)) length k (sym e))

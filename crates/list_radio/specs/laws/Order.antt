@@ -23,12 +23,12 @@ use Rattle.list_radio.specs.rules.Reader.{openRule, starAtRule, acceptRu
 -- 13 of an empty list, from every function of the reader
 pub empty-is-thirteen : FirstByteRefused [] 13
 unfolding openRule starAtRule acceptRule radioStars markRefusal
-empty-is-thirteen = record { opened = refl; sighted = λ (at : ℕ). refl; accepted = refl }
+empty-is-thirteen = record { opened = refl; received = λ (at : ℕ). refl; accepted = refl }
 
 -- 11 of another first byte, whatever stands after it
 pub first-byte-first : (b : ℕ) (bs : List ℕ) → (b ≡ mark → ⊥) → FirstByteRefused (b ∷ bs) 11
 unfolding openRule starAtRule acceptRule radioStars markRefusal
-first-byte-first b bs h = record { opened = rw (ne-eqb b mark h); sighted = λ (at : ℕ). rw (ne-eqb b mark h); accepted = rw (ne-eqb b mark h) }
+first-byte-first b bs h = record { opened = rw (ne-eqb b mark h); received = λ (at : ℕ). rw (ne-eqb b mark h); accepted = rw (ne-eqb b mark h) }
 
 -- then what refuses the count, and 8 only of a count that was read
 pub count-is-next : (bs : List ℕ) (k : ℕ) → readNumber bs ≡ refused k → CountRefused (mark ∷ bs) k

@@ -28,12 +28,12 @@ module _ (s : List ℕ) where
       go true e = rw (not-found readCount s 1 k e)
       go false e = cc
 
-  -- and where the head is answered, the stars are read from the place that it answers
-  pub head-answered : (n first : ℕ) → answered (record { value = n; place = first }) ≡ openRule s → radioStars s ≡ starsOf n (drop first s)
+  -- and where the head is answered, the stars are read from the offset that it answers
+  pub head-answered : (n first : ℕ) → answered (record { value = n; offset = first }) ≡ openRule s → radioStars s ≡ starsOf n (drop first s)
   unfolding openRule radioStars
   head-answered n first = go (eqb (markRefusal s) 0)
     where
-      go : (t : Bool) → answered (record { value = n; place = first }) ≡ cond t (readAt readCount s 1) (refused (markRefusal s))
+      go : (t : Bool) → answered (record { value = n; offset = first }) ≡ cond t (readAt readCount s 1) (refused (markRefusal s))
           → cond t (then (readCount (drop 1 s)) stars) (refused (markRefusal s)) ≡ starsOf n (drop first s)
       go true e = rw (found readCount s 1 count-leaves-tail n first e .read-so)
       go false e = absurd (refused-not-answered (sym e))
@@ -42,7 +42,7 @@ module _ (s : List ℕ) where
   unfolding acceptRule
   accept-refused k e = rw (head-refused k e)
 
-  pub accept-answered : (n first : ℕ) → answered (record { value = n; place = first }) ≡ openRule s
+  pub accept-answered : (n first : ℕ) → answered (record { value = n; offset = first }) ≡ openRule s
       → with length (starsOf n (drop first s)) ≡ acceptRule s
   unfolding acceptRule
   accept-answered n first e = rw (head-answered n first e)

@@ -1,4 +1,4 @@
--- A list is accepted as a caller reads it: as it is opened, then as each star is read from the place answered before it, then 13 for bytes
+-- A list is accepted as a caller reads it: as it is opened, then as each star is read from the offset answered before it, then 13 for bytes
 -- over.
 use mathlib.Core.Path.{_≡_, refl, sym, ap, _∙_}
 use mathlib.Core.Bool.{Bool, true, false, cond}
@@ -10,7 +10,7 @@ use lib.ListN.{length, drop, length-drop}
 use borrow.Author.Tests.{eqb-true, eqb-false, le-leb, lt-leb}
 use Rattle.quantity.specs.rules.Answer.{Answer, answered, refused, unless, with, then}
 use Rattle.list.specs.declared.Star.{Star}
-use Rattle.list_groups.specs.rules.Reading.{Got, Placed, withPlace, readAt}
+use Rattle.list_groups.specs.rules.Reading.{Got, AtOffset, withOffset, readAt}
 use Rattle.list_groups.specs.rules.Several.{before, readAll}
 use Rattle.quantity.specs.laws.Steps.{refused-not-answered}
 use Rattle.list_groups.specs.laws.Tails.{found, not-found, shorter, dropped, of-tail}
@@ -29,39 +29,39 @@ module _ (s : List ℕ) (marked : markRefusal s ≡ 0) where
   star-is at = ap (λ (n : ℕ). unless n (readAt readStar s at)) marked
 
   -- placing goes through one star more
-  placed-before : (r : Star) (x : Answer (Got (List Star))) → with (after r) (with (withPlace s) x) ≡ with (withPlace s) (with (before r) x)
-  placed-before r (answered g) = refl
-  placed-before r (refused k) = refl
+  offset-before : (r : Star) (x : Answer (Got (List Star))) → with (after r) (with (withOffset s) x) ≡ with (withOffset s) (with (before r) x)
+  offset-before r (answered g) = refl
+  offset-before r (refused k) = refl
 
-  read-in-turn : (n at : ℕ) → at ≤ length s → starByStar s n at ≡ with (withPlace s) (readAll readStar n (drop at s))
+  read-one-by-one : (n at : ℕ) → at ≤ length s → starByStar s n at ≡ with (withOffset s) (readAll readStar n (drop at s))
   unfolding starByStar
-  read-in-turn zero at h =
-      ap (λ (k : ℕ). answered (record { value = []; place = k })) (let q : at ≡ length s - length (drop at s) = omega (arith, length-drop at s) in q)
-      ∙ ap (with (withPlace s)) (sym (none readStar 0 (drop at s) refl))
-  read-in-turn (suc n) at h =
-      ap (λ (x : Answer (Placed Star)). then x (λ (y : Placed Star). with (after (y .value)) (starByStar s n (y .place)))) (star-is at)
-      ∙ go (readAt readStar s at) refl (read-in-turn n)
+  read-one-by-one zero at h =
+      ap (λ (k : ℕ). answered (record { value = []; offset = k })) (let q : at ≡ length s - length (drop at s) = omega (arith, length-drop at s) in q)
+      ∙ ap (with (withOffset s)) (sym (none readStar 0 (drop at s) refl))
+  read-one-by-one (suc n) at h =
+      ap (λ (x : Answer (AtOffset Star)). then x (λ (y : AtOffset Star). with (after (y .value)) (starByStar s n (y .offset)))) (star-is at)
+      ∙ go (readAt readStar s at) refl (read-one-by-one n)
     where
-      go : (x : Answer (Placed Star)) → x ≡ readAt readStar s at
-          → ((p : ℕ) → p ≤ length s → starByStar s n p ≡ with (withPlace s) (readAll readStar n (drop p s)))
-          → then x (λ (y : Placed Star). with (after (y .value)) (starByStar s n (y .place))) ≡ with (withPlace s) (readAll readStar (suc n) (drop at s))
+      go : (x : Answer (AtOffset Star)) → x ≡ readAt readStar s at
+          → ((p : ℕ) → p ≤ length s → starByStar s n p ≡ with (withOffset s) (readAll readStar n (drop p s)))
+          → then x (λ (y : AtOffset Star). with (after (y .value)) (starByStar s n (y .offset))) ≡ with (withOffset s) (readAll readStar (suc n) (drop at s))
       go (answered y) e more =
-          let f = found readStar s at star-leaves-tail (y .value) (y .place) e in
-          ap (with (after (y .value))) (more (y .place) (f .inside))
-          ∙ placed-before (y .value) (readAll readStar n (drop (y .place) s))
-          ∙ ap (λ (k : ℕ). with (withPlace s) (with (before (y .value)) (readAll readStar k (drop (y .place) s)))) (let q : n ≡ suc n - 1 =
+          let f = found readStar s at star-leaves-tail (y .value) (y .offset) e in
+          ap (with (after (y .value))) (more (y .offset) (f .inside))
+          ∙ offset-before (y .value) (readAll readStar n (drop (y .offset) s))
+          ∙ ap (λ (k : ℕ). with (withOffset s) (with (before (y .value)) (readAll readStar k (drop (y .offset) s)))) (let q : n ≡ suc n - 1 =
           omega arith in q)
-          ∙ ap (with (withPlace s)) (sym (first readStar (suc n) (drop at s) (record { value = y .value; rest = drop (y .place) s }) (omega arith) (f .read-so)))
+          ∙ ap (with (withOffset s)) (sym (first readStar (suc n) (drop at s) (record { value = y .value; rest = drop (y .offset) s }) (omega arith) (f .read-so)))
       go (refused k) e more =
-          ap (with (withPlace s))
+          ap (with (withOffset s))
           (sym (stops readStar (suc n) (drop at s) k (omega arith) (not-found readStar s at k e)))
 
   -- the end of the bytes is where none is left
-  end-is : (n at : ℕ) → then (with (withPlace s) (readAll readStar n (drop at s))) (atEnd s) ≡ starsOf n (drop at s)
+  end-is : (n at : ℕ) → then (with (withOffset s) (readAll readStar n (drop at s))) (atEnd s) ≡ starsOf n (drop at s)
   unfolding starsOf
   end-is n at = go (readAll readStar n (drop at s)) refl
     where
-      go : (x : Answer (Got (List Star))) → readAll readStar n (drop at s) ≡ x → then (with (withPlace s) x) (atEnd s) ≡ then x nothingOver
+      go : (x : Answer (Got (List Star))) → readAll readStar n (drop at s) ≡ x → then (with (withOffset s) x) (atEnd s) ≡ then x nothingOver
       go (answered g) e =
           let short = shorter (of-tail (all-leave-tail readStar star-leaves-tail n (drop at s) g e) (dropped at s)) in
           ap (λ (t : Bool). cond t (answered (g .value)) (refused 13)) (same (length (g .rest)) short (eqb (length (g .rest)) 0) refl)
@@ -79,20 +79,20 @@ record Opened (s : List ℕ) (at : ℕ) : Type 0 where
   pub marked : markRefusal s ≡ 0
   pub inside : at ≤ length s
 
-opened : (s : List ℕ) (n at : ℕ) → answered (record { value = n; place = at }) ≡ openRule s → Opened s at
+opened : (s : List ℕ) (n at : ℕ) → answered (record { value = n; offset = at }) ≡ openRule s → Opened s at
 unfolding openRule
 opened s n at = go (eqb (markRefusal s) 0) refl
   where
     go : (t : Bool) → eqb (markRefusal s) 0 ≡ t
-        → answered (record { value = n; place = at }) ≡ cond t (readAt readCount s 1) (refused (markRefusal s))
+        → answered (record { value = n; offset = at }) ≡ cond t (readAt readCount s 1) (refused (markRefusal s))
         → Opened s at
     go true q e = record { marked = eqb-true (markRefusal s) 0 q; inside = found readCount s 1 count-leaves-tail n at e .inside }
     go false q e = absurd (refused-not-answered (sym e))
 
-pub accepted-star-by-star : (s : List ℕ) (n at : ℕ) → answered (record { value = n; place = at }) ≡ openRule s
+pub accepted-star-by-star : (s : List ℕ) (n at : ℕ) → answered (record { value = n; offset = at }) ≡ openRule s
     → acceptRule s ≡ with length (then (starByStar s n at) (atEnd s))
 accepted-star-by-star s n at e =
     let o = opened s n at e in
     sym (accept-answered s n at e)
     ∙ ap (with length) (sym (end-is s (o .marked) n at))
-    ∙ ap (λ (x : Answer (Placed (List Star))). with length (then x (atEnd s))) (sym (read-in-turn s (o .marked) n at (o .inside)))
+    ∙ ap (λ (x : Answer (AtOffset (List Star))). with length (then x (atEnd s))) (sym (read-one-by-one s (o .marked) n at (o .inside)))

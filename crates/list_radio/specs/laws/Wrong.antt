@@ -10,21 +10,22 @@ use Rattle.double.specs.laws.Apart.{apart}
 use Rattle.quantity.specs.notions.Code.{ofAnswer}
 use Rattle.quantity.specs.notions.Varies.{Varies}
 use Rattle.quantity.specs.rules.Answer.{then}
-use Rattle.lent.specs.rules.Put.{roomFor}
+use Rattle.lent.specs.rules.Put.{roomFor, Put}
+use Rattle.lent.specs.declared.Written.the-variants.{To}
 use Rattle.lent.specs.notions.Code.{ofBytes}
 use Rattle.list.specs.declared.Star.{Star}
 use Rattle.list.specs.rules.Record.{turn}
-use Rattle.list_groups.specs.rules.Reading.{Got, Placed}
+use Rattle.list_groups.specs.rules.Reading.{Got, AtOffset}
 use Rattle.list_radio.specs.rules.Star.{starGroups, readStar}
 use Rattle.list_radio.specs.rules.Radio.{radioBytes, markRefusal, readCount}
 use Rattle.list_radio.specs.rules.Reader.{openRule, starAtRule, acceptRule}
 use Rattle.list_radio.specs.rules.Put.{headText, starText}
 use Rattle.list_radio.specs.rules.Moves.{toList, toRadio}
 use Rattle.list_radio.specs.notions.Computed.{computed}
-use Rattle.list_radio.specs.notions.Wrong.{emptyIsEleven, anyFirstByte, countAbove5000Taken, rangeUnchecked, nineBeforeTheLastNumber, ownPlace}
+use Rattle.list_radio.specs.notions.Wrong.{emptyIsEleven, anyFirstByte, countAbove5000Taken, rangeUnchecked, nineBeforeTheLastNumber, ownOffset}
 use Rattle.list_radio.specs.notions.Wrong.{byteOverTaken, acceptsAbove5000, twelveForBytesOver, ascensionFirst, declinationUnfolded}
 use Rattle.list_radio.specs.notions.Wrong.{countLeftOut, bytesCounted, eightBeforeNine, anyCountPut, anyStarPut, movesOutOfRange}
-use Rattle.list_radio.specs.notions.Wrong.{nineBeforeEight, starsTurnedRound}
+use Rattle.list_radio.specs.notions.Wrong.{nineBeforeEight, starsReversed}
 
 abbrev ofCount : Got ℕ → ℕ
 ofCount g = g .value
@@ -32,11 +33,11 @@ ofCount g = g .value
 abbrev ofStar : Got Star → ℕ
 ofStar g = g .value .number
 
-abbrev ofHead : Placed ℕ → ℕ
-ofHead p = p .place + 65536 * p .value
+abbrev ofHead : AtOffset ℕ → ℕ
+ofHead p = p .offset + 65536 * p .value
 
-abbrev ofSighted : Placed Star → ℕ
-ofSighted p = p .place + 65536 * p .value .number
+abbrev ofReceived : AtOffset Star → ℕ
+ofReceived p = p .offset + 65536 * p .value .number
 
 -- two stars; the first byte and a count of 5001; a star whose right ascension is a whole turn, and the same without its last number
 abbrev twoStars : List ℕ
@@ -79,7 +80,7 @@ count-above-5000-taken-excluded = apart (ofAnswer ofCount) refl
 
 pub star-varies : Varies (starAtRule twoStars 2) (starAtRule twoStars 5)
 unfolding computed
-star-varies = record { here = refl; there = refl; apart = apart (ofAnswer ofSighted) refl }
+star-varies = record { here = refl; there = refl; apart = apart (ofAnswer ofReceived) refl }
 
 pub range-unchecked-excluded : rangeUnchecked wholeTurn ≢ readStar wholeTurn
 unfolding computed
@@ -89,9 +90,9 @@ pub nine-before-the-last-number-excluded : nineBeforeTheLastNumber turnCutShort 
 unfolding computed then
 nine-before-the-last-number-excluded = apart (ofAnswer ofStar) refl
 
-pub own-place-excluded : ownPlace twoStars 2 ≢ starAtRule twoStars 2
+pub own-offset-excluded : ownOffset twoStars 2 ≢ starAtRule twoStars 2
 unfolding computed
-own-place-excluded = apart (ofAnswer ofSighted) refl
+own-offset-excluded = apart (ofAnswer ofReceived) refl
 
 -- ---- the whole list
 
@@ -177,6 +178,11 @@ pub nine-before-eight-excluded : nineBeforeEight (turnRecord ++ (0 ∷ [])) ≢ 
 unfolding computed
 nine-before-eight-excluded = apart (ofAnswer ofBytes) refl
 
-pub stars-turned-round-excluded : starsTurnedRound twoStars ≢ toList twoStars
+-- the radio list of no star has two bytes, and one is put into a slice of one
+pub short-slice-written-excluded : ¬ Put (toRadio []) (0 ∷ []) 0 (2 ∷ []) (To 1)
 unfolding computed
-stars-turned-round-excluded = apart (ofAnswer ofBytes) refl
+short-slice-written-excluded wrong = apart ofBytes refl (wrong .slice)
+
+pub stars-reversed-excluded : starsReversed twoStars ≢ toList twoStars
+unfolding computed
+stars-reversed-excluded = apart (ofAnswer ofBytes) refl

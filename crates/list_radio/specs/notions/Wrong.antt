@@ -5,12 +5,12 @@ use mathlib.Core.List.{List, [], _∷_, _++_, reverse}
 use lib.Dec.{eqb, ltb, leb}
 use lib.ListN.{length, drop}
 use Rattle.quantity.specs.rules.Answer.{Answer, answered, refused, unless, with, then}
-use Rattle.list_words.specs.rules.Signed.{wordOf}
+use Rattle.signed.specs.rules.Signed.{wordOf}
 use Rattle.list.specs.declared.Star.{Star}
 use Rattle.list.specs.rules.Record.{turn}
 use Rattle.list.specs.rules.Stars.{isList, stars, listBytes}
 use Rattle.list_groups.specs.rules.Groups.{groups}
-use Rattle.list_groups.specs.rules.Reading.{Got, readNumber, Placed}
+use Rattle.list_groups.specs.rules.Reading.{Got, readNumber, AtOffset}
 use Rattle.list_groups.specs.rules.Several.{spellAll, readAll}
 use Rattle.list_groups.specs.rules.Fold.{folded}
 use Rattle.list_radio.specs.rules.Star.{numberCount, starOf, starGroups, ranged, readStar}
@@ -46,9 +46,9 @@ nineBeforeTheLastNumber bs =
     then (readNumber (n .rest))
     (λ (a : Got ℕ). cond (ltb (a .value) turn) (then (readAll readNumber numberCount bs) ranged) (refused 9)))
 
--- the star with its own place
-abbrev pub ownPlace : List ℕ → ℕ → Answer (Placed Star)
-ownPlace s at = unless (markRefusal s) (with (λ (g : Got Star). record { value = g .value; place = at }) (readStar (drop at s)))
+-- the star with its own offset
+abbrev pub ownOffset : List ℕ → ℕ → Answer (AtOffset Star)
+ownOffset s at = unless (markRefusal s) (with (λ (g : Got Star). record { value = g .value; offset = at }) (readStar (drop at s)))
 
 -- ---- the whole list
 
@@ -106,5 +106,5 @@ abbrev pub nineBeforeEight : List ℕ → Answer (List ℕ)
 nineBeforeEight s = cond (allInRange (stars s)) (cond (isList s) (answered (radioBytes (stars s))) (refused 8)) (refused 9)
 
 -- the last star first
-abbrev pub starsTurnedRound : List ℕ → Answer (List ℕ)
-starsTurnedRound s = with (λ (rs : List Star). listBytes (reverse rs)) (radioStars s)
+abbrev pub starsReversed : List ℕ → Answer (List ℕ)
+starsReversed s = with (λ (rs : List Star). listBytes (reverse rs)) (radioStars s)

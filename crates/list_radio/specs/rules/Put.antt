@@ -1,4 +1,4 @@
--- The writer's texts, each put into a lent slice from a place on (`Put`).
+-- The writer's texts, each put into a lent slice from an offset on (`Put`).
 use Prim.Native.Nat.{ℕ}
 use mathlib.Core.Bool.{cond}
 use mathlib.Core.List.{List}

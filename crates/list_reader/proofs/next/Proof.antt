@@ -45,13 +45,13 @@ use denote.Triple.Walked.{says, Stays, stay-none, walkOf, goes-none, Walks, ends
 use denote.Exit.{yes}
 use denote.Triple.Clauses.{ensured, lasts}
 use Rattle.quantity.specs.rules.Answer.{Answer}
-use Rattle.list.specs.rules.Reader.{Sight, shownSight, readRule}
+use Rattle.list.specs.rules.Reader.{Item, shownStored, readRule}
 use Rattle.list_reader.specs.declared.Reader.{Reader}
-use Rattle.list.specs.declared.Shown.{Shown}
+use Rattle.list.specs.declared.Stored.{Stored}
 use Rattle.list_reader.proofs.Reader as T
 use Rattle.list_reader.proofs.Reader.Laws as T′
-use Rattle.list.proofs.Shown as S
-use Rattle.list.proofs.Shown.Laws as S′
+use Rattle.list.proofs.Stored as S
+use Rattle.list.proofs.Stored.Laws as S′
 use Rattle.list.proofs.star_at as star-at
 use Rattle.list.proofs.star_at.Symbol as star-at-def
 use Rattle.list.proofs.star_at.Symbol.{name as #list·star-at}
@@ -81,8 +81,8 @@ module _ {M : Type 1} (𝓤 : URA M) (H : Heap 𝓤) (A : Atoms 𝓤) (W : Given
   abbrev v : Val
   v = sliceVal (d .bytes .ptr) (length (d .bytes .now))
 
-  abbrev found : Answer Sight
-  found = readRule (now (d .bytes)) (d .place)
+  abbrev found : Answer Item
+  found = readRule (now (d .bytes)) (d .offset)
 
   abbrev Post : Val → SProp 𝓤
   Post = walkOf 𝓤 H A next.ended stayed (next.clauses 𝓤 H A mem run) .post (((κ, tt), (q, tt), tt, (d, tt), (mach ∷ [], tt)), tt)
@@ -98,33 +98,33 @@ module _ {M : Type 1} (𝓤 : URA M) (H : Heap 𝓤) (A : Atoms 𝓤) (W : Given
   L = T′.the-laws (namedLft 1 0 tt (κ, tt))
 
   abbrev vd : Values (D .parts)
-  vd = (d .bytes, (d .place, tt))
+  vd = (d .bytes, (d .offset, tt))
 
   -- what the callee is passed
   abbrev passed : Vals star-at.signature (κ, tt)
-  passed = (v ∷ [], (vint w64 (d .place) ∷ [], tt))
+  passed = (v ∷ [], (vint w64 (d .offset) ∷ [], tt))
 
   abbrev to : StarAt 𝓤 H A mem run .Ghost
-  to = (((κ, tt), (q, tt), tt, (d .bytes, (d .place, tt)), passed), tt)
+  to = (((κ, tt), (q, tt), tt, (d .bytes, (d .offset, tt)), passed), tt)
 
-  asked : ent 𝓤 (onEntry 𝓤 H A star-at.signature (κ, tt) (q, tt) (d .bytes, (d .place, tt)) passed) (StarAt 𝓤 H A mem run .pre to)
-  asked = qed W ((‵ (flft κ q) ⊛ ‵ ftrue) ∷ ‵ (owns (ShrSlice (named 0) κ u8 ∷ usize ∷ []) (d .bytes, (d .place, tt)) passed) ∷ []) ∵ join ! $ frame ! $ done !
+  asked : ent 𝓤 (onEntry 𝓤 H A star-at.signature (κ, tt) (q, tt) (d .bytes, (d .offset, tt)) passed) (StarAt 𝓤 H A mem run .pre to)
+  asked = qed W ((‵ (flft κ q) ⊛ ‵ ftrue) ∷ ‵ (owns (ShrSlice (named 0) κ u8 ∷ usize ∷ []) (d .bytes, (d .offset, tt)) passed) ∷ []) ∵ join ! $ frame ! $ done !
 
   -- what the struct owns gives what the callee asks, and is kept
-  apart : d .place < 2 ^ 64 → ent 𝓤 (onEntry 𝓤 H A next.signature (κ, tt) (q, tt) (d, tt) (mach ∷ [], tt)) (sep 𝓤 (StarAt 𝓤 H A mem run .pre to) (sem 𝓤 H A Own))
+  apart : d .offset < 2 ^ 64 → ent 𝓤 (onEntry 𝓤 H A next.signature (κ, tt) (q, tt) (d, tt) (mach ∷ [], tt)) (sep 𝓤 (StarAt 𝓤 H A mem run .pre to) (sem 𝓤 H A Own))
   apart fits =
       qed W ((‵ (flft κ q) ⊛ ‵ ftrue) ∷ ‵ (owns (B (κ, tt) ∷ []) (d, tt) (mach ∷ [], tt)) ∷ []) ∵
       move ! (1 ∷ []) $ fsplit ! $ move ! (1 ∷ []) $ drop ! $ use1 W (‵ Own ⊛ ‵ Own) (LL.copy D (T′.the-copy (namedLft 1 0 tt (κ, tt))) 𝓤 H A W .twice d (mach ∷ [])) $ split ! $
       use1 W (given (mach ∷ [] ≡ mach ∷ []) (‵ (all-own (D .parts) L vd))) (own-open 𝓤 H A W D L vd mach) $ learn ! (λ _. use1 W (‵ (ownAt (D .parts) L 0 (d .bytes)) ⊛ ‵ (rest (D .parts) L 0 vd)) (own-out 𝓤 H A W (D .parts) L 0 vd) $ split ! $
-      -- [what bytes owns; what place owns; what the struct owns; the token]
-      move ! (1 ∷ []) $ drop ! $ nothing ! $ owned ! usize (Is usize) (uint-makes 𝓤 H A W w64) (d .place) _ (refl, fits) $ fjoin ! $ move ! (1 ∷ 0 ∷ []) $ fjoin ! $
+      -- [what bytes owns; what offset owns; what the struct owns; the token]
+      move ! (1 ∷ []) $ drop ! $ nothing ! $ owned ! usize (Is usize) (uint-makes 𝓤 H A W w64) (d .offset) _ (refl, fits) $ fjoin ! $ move ! (1 ∷ 0 ∷ []) $ fjoin ! $
       move ! (2 ∷ 0 ∷ []) $ use2 W (raw (StarAt 𝓤 H A mem run .pre to)) asked $ frame ! $ done !)
 
   -- of the callee's `ensured`, the clause alone: it has no `&mut`, so what is said of last values is dropped
-  said : (r : Shown) → ent 𝓤 (ensured 𝓤 H A star-at.ended (star-at.clauses 𝓤 H A mem run) (κ, tt) (d .bytes, (d .place, tt)) tt r) (fact 𝓤 (shownSight r ≡ found))
-  said r = exE 𝓤 _ (λ ws. snd∗ 𝓤 (sem 𝓤 H A (lasts star-at.ended (κ, tt) (d .bytes, (d .place, tt)) ws)) (fact 𝓤 (shownSight r ≡ found)))
+  said : (r : Stored) → ent 𝓤 (ensured 𝓤 H A star-at.ended (star-at.clauses 𝓤 H A mem run) (κ, tt) (d .bytes, (d .offset, tt)) tt r) (fact 𝓤 (shownStored r ≡ found))
+  said r = exE 𝓤 _ (λ ws. snd∗ 𝓤 (sem 𝓤 H A (lasts star-at.ended (κ, tt) (d .bytes, (d .offset, tt)) ws)) (fact 𝓤 (shownStored r ≡ found)))
 
-  exits : (r : Shown) (u : Val) → shownSight r ≡ found → ent 𝓤 (⋆ 𝓤 H A (‵ (S.the-row .own r (u ∷ [])) ∷ (‵ (flft κ q) ⊛ ‵ ftrue) ∷ ‵ Own ∷ [])) (Post u)
+  exits : (r : Stored) (u : Val) → shownStored r ≡ found → ent 𝓤 (⋆ 𝓤 H A (‵ (S.the-row .own r (u ∷ [])) ∷ (‵ (flft κ q) ⊛ ‵ ftrue) ∷ ‵ Own ∷ [])) (Post u)
   exits r u e =
       qed W (‵ (S.the-row .own r (u ∷ [])) ∷ (‵ (flft κ q) ⊛ ‵ ftrue) ∷ ‵ Own ∷ []) ∵
       suffices ! _ (ends-at 𝓤 H A next.ended stayed (next.clauses 𝓤 H A mem run) W (((κ, tt), (q, tt), tt, (d, tt), (mach ∷ [], tt)), tt) u r (tt, tt) (tt, tt)) $ says ! e $
@@ -139,8 +139,8 @@ module _ {M : Type 1} (𝓤 : URA M) (H : Heap 𝓤) (A : Atoms 𝓤) (W : Given
         assigns ! (of-opd ! (load ! (from ! (fld ! refl (stop !))) (look-in ! 4 (sub ! 1 refl (whole !))))) (from ! (stop !)) (init ! 0 refl (tt, wt .1 .1 .0)) $
         move ! (8 ∷ []) $ use1 W (raw (StarAt 𝓤 H A mem run .pre to) ⊛ ‵ Own) (apart (wt .1 .1 .0 .fits)) $ split ! $
         calls-at ! fm (StarAt 𝓤 H A mem run) known to (and-then ! (load ! (from ! (stop !)) (look ! 4 refl)) (and-then ! (load ! (from ! (stop !)) (look ! 2 refl)) (no-more !))) (λ u.
-        use1 W (later (some (λ (r : Shown). ((‵ (flft κ q) ⊛ ‵ ftrue) ⊛ ‵ (S.the-row .own r (u ∷ []))) ⊛ raw (ensured 𝓤 H A star-at.ended (star-at.clauses 𝓤 H A mem run) (κ, tt) (d .bytes, (d .place, tt)) tt r)))) (id⊢ 𝓤 _) $ await ! tt $ pick ! (λ r.
-        split ! $ move ! (1 ∷ []) $ use1 W (raw (fact 𝓤 (shownSight r ≡ found))) (said r) $ heard ! (shownSight r ≡ found) (λ e. split ! $ move ! (1 ∷ []) $
+        use1 W (later (some (λ (r : Stored). ((‵ (flft κ q) ⊛ ‵ ftrue) ⊛ ‵ (S.the-row .own r (u ∷ []))) ⊛ raw (ensured 𝓤 H A star-at.ended (star-at.clauses 𝓤 H A mem run) (κ, tt) (d .bytes, (d .offset, tt)) tt r)))) (id⊢ 𝓤 _) $ await ! tt $ pick ! (λ r.
+        split ! $ move ! (1 ∷ []) $ use1 W (raw (fact 𝓤 (shownStored r ≡ found))) (said r) $ heard ! (shownStored r ≡ found) (λ e. split ! $ move ! (1 ∷ []) $
         -- [the result; the token; what the struct owns; _3; …; _2; …; _1; …; room for _0; …]
         peeks ! S.the-row (Is S.the-row) (shows 𝓤 H A S.the-row) r (u ∷ []) (λ is.
         land ! (from ! (stop !)) (init ! 9 refl (EL.lawful S.the-type S′.the-laws 𝓤 H A W tt .typed r _ is .0)) $

@@ -12,7 +12,7 @@ use Rattle.lent.specs.rules.Rows.{upto}
 use Rattle.lent.specs.laws.Flags.{at-most-one}
 use Rattle.lent.specs.laws.Upto.{getD-upto, set-upto}
 use Rattle.list_tally.specs.rules.Status.{highestStatus}
-use Rattle.list_tally.specs.rules.Tally.{fullest, places, raiseRefusal, raised, raiseRule, times, tallyOf, empty, raisedBy, AllKnown}
+use Rattle.list_tally.specs.rules.Tally.{fullest, countsInAll, raiseRefusal, raised, raiseRule, times, tallyOf, empty, raisedBy, AllKnown}
 use Rattle.list_tally.specs.declared.Tally.{Tally}
 use Rattle.list_tally.specs.declared.Raised.{Raised}
 
@@ -43,14 +43,14 @@ module _ (xs : List ℕ) (x : ℕ) where
 
   count-of : x ≤ highestStatus → getD (tallyOf xs .counts) x 0 ≡ times x xs
   unfolding tallyOf
-  count-of h = getD-upto places (λ (k : ℕ). times k xs) x 0 (omega arith)
+  count-of h = getD-upto countsInAll (λ (k : ℕ). times k xs) x 0 (omega arith)
 
   raised-is : x ≤ highestStatus → raised (tallyOf xs) x ≡ tallyOf more
   unfolding tallyOf
   raised-is h =
-      ap (λ (n : ℕ). record { counts = set (upto places (λ (k : ℕ). times k xs)) x n }) (ap (λ (n : ℕ). n + 1) (count-of h) ∙ sym here)
+      ap (λ (n : ℕ). record { counts = set (upto countsInAll (λ (k : ℕ). times k xs)) x n }) (ap (λ (n : ℕ). n + 1) (count-of h) ∙ sym here)
       ∙ ap (λ (l : List ℕ). record { counts = l })
-      (set-upto places (λ (k : ℕ). times k xs) (λ (k : ℕ). times k more) x (omega arith) elsewhere)
+      (set-upto countsInAll (λ (k : ℕ). times k xs) (λ (k : ℕ). times k more) x (omega arith) elsewhere)
 
   not-refused : x ≤ highestStatus → times x xs < fullest → raiseRefusal (tallyOf xs) x ≡ 0
   unfolding raiseRefusal

@@ -7,11 +7,11 @@ use Rattle.lent.specs.rules.Rows.{upto}
 use Rattle.list_tally.specs.declared.Tally.{Tally}
 use Rattle.list_tally.specs.declared.Raised.{Raised}
 use Rattle.list_tally.specs.rules.Status.{highestStatus}
-use Rattle.list_tally.specs.rules.Tally.{fullest, places, raiseRefusal, raised}
+use Rattle.list_tally.specs.rules.Tally.{fullest, countsInAll, raiseRefusal, raised}
 
 -- the same count for each status
 abbrev pub each : ℕ → Tally
-each n = record { counts = upto places (λ (k : ℕ). n) }
+each n = record { counts = upto countsInAll (λ (k : ℕ). n) }
 
 -- the empty tally
 abbrev pub countsStartAtOne : Tally

@@ -14,8 +14,8 @@ abbrev pub fullest : ℕ
 fullest = 60000
 
 -- counts of a tally: one for each number that the table may come to have
-abbrev pub places : ℕ
-places = 20
+abbrev pub countsInAll : ℕ
+countsInAll = 20
 
 -- 9 for a status that is not known, then 8 for a full count
 unfoldable pub raiseRefusal : Tally → ℕ → ℕ
@@ -35,7 +35,7 @@ times k (x ∷ xs) = cond (eqb x k) 1 0 + times k xs
 
 -- the tally of a list of statuses
 unfoldable pub tallyOf : List ℕ → Tally
-tallyOf statuses = record { counts = upto places (λ (k : ℕ). times k statuses) }
+tallyOf statuses = record { counts = upto countsInAll (λ (k : ℕ). times k statuses) }
 
 abbrev pub empty : Tally
 empty = tallyOf []

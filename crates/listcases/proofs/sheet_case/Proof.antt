@@ -5,7 +5,7 @@ use Prim.Native.Nat.{_≤_}
 use lib.ListN.{length}
 use lib.Seq.{length-take-le}
 use Rattle.text_sheet.specs.rules.Render.{bytesOf}
-use Rattle.text_sheet.specs.declared.Written.{Written}
+use Rattle.text_sheet.specs.declared.Sheet.{Sheet}
 use Rattle.double.specs.laws.Calls.{asks-nothing}
 use Rattle.listcases.proofs.sheet_case.Statement.{statement}
 use Rattle.listcases.proofs.sheet_case.Tie as tie
@@ -14,7 +14,7 @@ enum-known-k : tie.Need-enum-known-k
 enum-known-k c = search needs
 
 slice-reshare-prefix-write-all : tie.Need-slice-reshare-prefix-write-all
-slice-reshare-prefix-write-all c = subst (λ (w : Written). bytesOf w ≤ length (c .before .before .before .before .before .render .last .1 .0)) (c .before .k .given .1) (c .before .before .before .before .before .render .ensures .1 .1)
+slice-reshare-prefix-write-all c = subst (λ (w : Sheet). bytesOf w ≤ length (c .before .before .before .before .before .render .last .1 .0)) (c .before .k .given .1) (c .before .before .before .before .before .render .ensures .1 .1)
 
 slice-aggregate-write-all : tie.Need-slice-aggregate-write-all
 slice-aggregate-write-all c = sym (length-take-le _ _ (slice-reshare-prefix-write-all (c .before)))

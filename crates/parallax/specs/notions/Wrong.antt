@@ -34,19 +34,19 @@ distanceNotRefused dist = eqHzParallaxIn dist
 
 -- to the right ascension
 abbrev pub changeNotAdded : EqPoint → Rad → GeographPoint → Float → Rad → Answer EqPoint
-changeNotAdded p parallax place height sidereal =
-    with (λ (q : EqPoint). record { asc = p .asc; dec = q .dec }) (topocentEqCoordsRule p parallax place height sidereal)
+changeNotAdded p parallax site height sidereal =
+    with (λ (q : EqPoint). record { asc = p .asc; dec = q .dec }) (topocentEqCoordsRule p parallax site height sidereal)
 
 abbrev pub sineOfParallaxIsCosine : EqPoint → Rad → GeographPoint → Float → Rad → Answer EqPoint
-sineOfParallaxIsCosine p parallax place height sidereal =
-    unless (topocentRefusal p parallax place height sidereal)
-    (then (rhoIn (rad (place .lat)) height)
+sineOfParallaxIsCosine p parallax site height sidereal =
+    unless (topocentRefusal p parallax site height sidereal)
+    (then (rhoIn (rad (site .lat)) height)
     (λ (rho : Pair). topocentAt (record { «rho_sin» = first rho; «rho_cos» = second rho; parallax = cosineOf parallax })
-    (fold (hrAnglFrmObserverLong sidereal (rad (place .long)) (rad (p .asc))))
+    (fold (hrAnglFrmObserverLong sidereal (rad (site .long)) (rad (p .asc))))
     (fold (rad (p .dec))) (rad (p .asc))))
 
 -- his latitude tested as a declination
 abbrev pub observerNotSteep : EqPoint → Rad → GeographPoint → Float → Rad → Answer EqPoint
-observerNotSteep p parallax place height sidereal =
-    let rest = topocentRefusal p parallax (record { long = place .long; lat = zero }) height sidereal in
-    unless (lower rest (latitudeRefusal (rad (place .lat)))) (topocentIn p parallax place height sidereal)
+observerNotSteep p parallax site height sidereal =
+    let rest = topocentRefusal p parallax (record { long = site .long; lat = zero }) height sidereal in
+    unless (lower rest (latitudeRefusal (rad (site .lat)))) (topocentIn p parallax site height sidereal)

@@ -39,17 +39,17 @@ topocentAt c h d asc =
     then (arctangentIn (eastward c h) x) (λ (change : Rad). topocentFrom c d asc change x)
 
 unfoldable pub topocentIn : EqPoint → Rad → GeographPoint → Float → Rad → Answer EqPoint
-topocentIn p parallax place height sidereal =
-    then (rhoIn (rad (place .lat)) height)
+topocentIn p parallax site height sidereal =
+    then (rhoIn (rad (site .lat)) height)
     (λ (rho : Pair). topocentAt (centreOf (first rho) (second rho) parallax)
-    (fold (hrAnglFrmObserverLong sidereal (rad (place .long)) (rad (p .asc))))
+    (fold (hrAnglFrmObserverLong sidereal (rad (site .long)) (rad (p .asc))))
     (fold (rad (p .dec))) (rad (p .asc)))
 
 abbrev pub topocentRefusal : EqPoint → Rad → GeographPoint → Float → Rad → ℕ
-topocentRefusal p parallax place height sidereal =
+topocentRefusal p parallax site height sidereal =
     lower (lower (angleRefusal (rad (p .asc))) (latitudeRefusal (rad (p .dec))))
-    (observerRefusal parallax place height sidereal)
+    (observerRefusal parallax site height sidereal)
 
 abbrev pub topocentEqCoordsRule : EqPoint → Rad → GeographPoint → Float → Rad → Answer EqPoint
-topocentEqCoordsRule p parallax place height sidereal =
-    unless (topocentRefusal p parallax place height sidereal) (topocentIn p parallax place height sidereal)
+topocentEqCoordsRule p parallax site height sidereal =
+    unless (topocentRefusal p parallax site height sidereal) (topocentIn p parallax site height sidereal)

@@ -14,6 +14,6 @@ centreOf rhoSin rhoCos parallax = record { «rho_sin» = rhoSin; «rho_cos» = r
 
 -- 4 for his latitude, 5 for his height
 unfoldable pub observerRefusal : Rad → GeographPoint → Float → Rad → ℕ
-observerRefusal parallax place height sidereal =
+observerRefusal parallax site height sidereal =
     lower (lower (angleRefusal parallax) (angleRefusal sidereal))
-    (lower (lower (angleRefusal (rad (place .long))) (steepRefusal (rad (place .lat)))) (heightRefusal height))
+    (lower (lower (angleRefusal (rad (site .long))) (steepRefusal (rad (site .lat)))) (heightRefusal height))

@@ -16,14 +16,14 @@ use Rattle.elementary_arc.specs.laws.Arctangent.{arctangent-refuses-fourteen}
 use Rattle.parallax_ecl.specs.rules.Ecliptic.{upward, latOfCrate, latPublished, latTop, eclipticAlong, eclipticAt, eclipticIn, topopcentEclCoordsRule}
 use Rattle.parallax_ecl.specs.notions.Editions.{ofCrate, published, topopcentBy}
 
-module _ (p : EclPoint) (parallax : Rad) (place : GeographPoint) (height : Float) (sidereal oblq semidiameter : Rad) where
-  pub topopcent-ecl-coords-of-crate : topopcentEclCoordsRule Crate p parallax place height sidereal oblq semidiameter
-      ≡ topopcentBy ofCrate p parallax place height sidereal oblq semidiameter
+module _ (p : EclPoint) (parallax : Rad) (site : GeographPoint) (height : Float) (sidereal oblq semidiameter : Rad) where
+  pub topopcent-ecl-coords-of-crate : topopcentEclCoordsRule Crate p parallax site height sidereal oblq semidiameter
+      ≡ topopcentBy ofCrate p parallax site height sidereal oblq semidiameter
   unfolding eclipticIn eclipticAt eclipticAlong latTop latOfCrate upward
   topopcent-ecl-coords-of-crate = refl
 
-  pub topopcent-ecl-coords-published : topopcentEclCoordsRule Published p parallax place height sidereal oblq semidiameter
-      ≡ topopcentBy published p parallax place height sidereal oblq semidiameter
+  pub topopcent-ecl-coords-published : topopcentEclCoordsRule Published p parallax site height sidereal oblq semidiameter
+      ≡ topopcentBy published p parallax site height sidereal oblq semidiameter
   unfolding eclipticIn eclipticAt eclipticAlong latTop latPublished upward
   topopcent-ecl-coords-published = refl
 

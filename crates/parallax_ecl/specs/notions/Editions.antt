@@ -36,8 +36,8 @@ module _ (latitude : Float → Float → Float → Answer Rad) where
       cond (eq n zero) (refused 6) (then (longTop c l b s e n) (along c b s e semidiameter n))
 
   abbrev pub topopcentBy : EclPoint → Rad → GeographPoint → Float → Rad → Rad → Rad → Answer Triple
-  topopcentBy p parallax place height sidereal oblq semidiameter =
-      unless (topopcentRefusal p parallax place height sidereal oblq semidiameter)
-      (then (rhoIn (rad (place .lat)) height)
+  topopcentBy p parallax site height sidereal oblq semidiameter =
+      unless (topopcentRefusal p parallax site height sidereal oblq semidiameter)
+      (then (rhoIn (rad (site .lat)) height)
       (λ (rho : Pair). at (centreOf (first rho) (second rho) parallax)
       (fold (rad (p .long))) (fold (rad (p .lat))) (fold sidereal) (fold oblq) semidiameter))

@@ -17,8 +17,8 @@ abbrev again : Triple → Triple
 again (triple long lat s) = triple (withinTwoPI (rad lat) .0) lat s
 
 abbrev pub longitudeIsLatitude : Edition → EclPoint → Rad → GeographPoint → Float → Rad → Rad → Rad → Answer Triple
-longitudeIsLatitude e p parallax place height sidereal oblq semidiameter =
-    with again (topopcentEclCoordsRule e p parallax place height sidereal oblq semidiameter)
+longitudeIsLatitude e p parallax site height sidereal oblq semidiameter =
+    with again (topopcentEclCoordsRule e p parallax site height sidereal oblq semidiameter)
 
 -- Meeus's latitude with the crate's numerator
 abbrev pub numeratorKeepsCosine : Float → Float → Float → Answer Rad

@@ -11,7 +11,7 @@ use Rattle.quantity.specs.rules.Angle.{rad}
 use Rattle.quantity.specs.rules.Answer.{Answer, answered, refused, Pair, first, second, Triple, triple, unless, then}
 use Rattle.quantity.specs.rules.Refusal.{lower, angleRefusal, latitudeRefusal}
 use Rattle.edition.specs.declared.Edition.{Edition}
-use Rattle.edition.specs.rules.Edition.{chosen}
+use Rattle.edition.specs.rules.Edition.{byEdition}
 use Rattle.elementary.specs.declared.Folded.{Folded}
 use Rattle.elementary.specs.rules.Fold.{fold}
 use Rattle.elementary.specs.rules.Sine.{foldedSine, foldedCosine, sineOf, cosineOf}
@@ -45,7 +45,7 @@ unfoldable pub latPublished : Float → Float → Float → Answer Rad
 latPublished up cosLong n = cond (eq cosLong zero) (refused 6) (arctangentIn up (n ⊘ cosLong))
 
 unfoldable pub latTop : Edition → Float → Float → Float → Answer Rad
-latTop edition up cosLong n = chosen edition (latOfCrate up cosLong n) (latPublished up cosLong n)
+latTop edition up cosLong n = byEdition edition (latOfCrate up cosLong n) (latPublished up cosLong n)
 
 unfoldable pub semidiameterIn : Float → Rad → Rad → Float → Answer Rad
 semidiameterIn cosLong lat semidiameter n =
@@ -70,19 +70,19 @@ eclipticAt edition c l b s e semidiameter =
     (then (longTop c l b s e n) (λ (long : Rad). eclipticAlong edition (upward c b s e) long semidiameter n))
 
 unfoldable pub eclipticIn : Edition → EclPoint → Rad → GeographPoint → Float → Rad → Rad → Rad → Answer Triple
-eclipticIn edition p parallax place height sidereal oblq semidiameter =
-    then (rhoIn (rad (place .lat)) height)
+eclipticIn edition p parallax site height sidereal oblq semidiameter =
+    then (rhoIn (rad (site .lat)) height)
     (λ (rho : Pair). eclipticAt edition (centreOf (first rho) (second rho) parallax)
     (fold (rad (p .long))) (fold (rad (p .lat))) (fold sidereal) (fold oblq) semidiameter)
 
 abbrev pub topopcentRefusal : EclPoint → Rad → GeographPoint → Float → Rad → Rad → Rad → ℕ
-topopcentRefusal p parallax place height sidereal oblq semidiameter =
+topopcentRefusal p parallax site height sidereal oblq semidiameter =
     lower
     (lower (lower (angleRefusal (rad (p .long))) (latitudeRefusal (rad (p .lat))))
     (lower (angleRefusal oblq) (angleRefusal semidiameter)))
-    (observerRefusal parallax place height sidereal)
+    (observerRefusal parallax site height sidereal)
 
 abbrev pub topopcentEclCoordsRule : Edition → EclPoint → Rad → GeographPoint → Float → Rad → Rad → Rad → Answer Triple
-topopcentEclCoordsRule edition p parallax place height sidereal oblq semidiameter =
-    unless (topopcentRefusal p parallax place height sidereal oblq semidiameter)
-    (eclipticIn edition p parallax place height sidereal oblq semidiameter)
+topopcentEclCoordsRule edition p parallax site height sidereal oblq semidiameter =
+    unless (topopcentRefusal p parallax site height sidereal oblq semidiameter)
+    (eclipticIn edition p parallax site height sidereal oblq semidiameter)

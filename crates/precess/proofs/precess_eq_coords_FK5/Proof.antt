@@ -8,7 +8,7 @@ returns : tie.Need-returns
 returns c = refuses _ (c .before .place-refusal .ensures) (c .if1 .taken)
 
 returns-2 : tie.Need-returns-2
-returns-2 c = goes-on (c .before .before .before .place-refusal .ensures) (c .before .before .if1 .left) (rw (c .before .fk4-turns .ensures) at (c .turned-in .ensures))
+returns-2 c = goes-on (c .before .before .before .place-refusal .ensures) (c .before .before .if1 .left) (rw (c .before .fk4-precession .ensures) at (c .precessed-in .ensures))
 
 pub precess-eq-coords-FK5-spec : {M : Type 1} → statement M
 precess-eq-coords-FK5-spec = tie.close (tie.spec asks-nothing returns asks-nothing asks-nothing returns-2)

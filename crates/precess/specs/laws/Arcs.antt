@@ -14,11 +14,11 @@ use Rattle.elementary_arc.specs.rules.Arctangent.{bothZero, arctangentOf, arcta
 use Rattle.elementary_arc.specs.rules.Arcsine.{square, arcsineIn}
 use Rattle.elementary_arc.specs.laws.Arcsine.{arcsine-answered, arcsine-of-neither}
 use Rattle.elementary.specs.declared.Direction.{Direction}
-use Rattle.precess_angles.specs.declared.EqTurns.{EqTurns}
+use Rattle.precess_angles.specs.declared.EqPrecession.{EqPrecession}
 use Rattle.precess.specs.declared.Arcs.{Arcs}
-use Rattle.precess.specs.rules.Equatorial.{arcsOf, placed, turnedIn}
+use Rattle.precess.specs.rules.Equatorial.{arcsOf, precessedFrom, precessedIn}
 use Rattle.precess.specs.rules.Arcs.{arcsRefusal}
-use Rattle.precess.specs.rules.Two.{turnedTwo}
+use Rattle.precess.specs.rules.Two.{precessedTwo}
 
 -- the place of arcs that are not refused
 abbrev pub arcsPlace : Arcs → Rad → Pair
@@ -47,16 +47,16 @@ joined a zeta = by-case (bothZero (a .up) (a .across))
     by-case true = unfold both then in refl
     by-case false = arcsine-tested (a .height) (arctangentOf (a .up) (a .across) .0 ⊕ zeta .0) (le (size (a .height)) one) (lt one (size (a .height))) refl refl
 
-pub placed-by-arcs : (d : Direction) (turns : EqTurns) → unless (arcsRefusal (arcsOf d turns)) (answered (arcsPlace (arcsOf d turns) (turns .zeta))) ≡ placed d turns
-unfolding placed
-placed-by-arcs d turns = joined (arcsOf d turns) (turns .zeta)
+pub precessed-by-arcs : (d : Direction) (precession : EqPrecession) → unless (arcsRefusal (arcsOf d precession)) (answered (arcsPlace (arcsOf d precession) (precession .zeta))) ≡ precessedFrom d precession
+unfolding precessedFrom
+precessed-by-arcs d precession = joined (arcsOf d precession) (precession .zeta)
 
 -- so each of two places side by side is the one that it is alone
-module _ (asc dec asc2 dec2 : Rad) (turns : EqTurns) where
-  pub first-turned : firstPlace (turnedTwo asc dec asc2 dec2 turns) ≡ turnedIn asc dec turns
-  unfolding turnedTwo turnedIn
-  first-turned = placed-by-arcs _ turns
+module _ (asc dec asc2 dec2 : Rad) (precession : EqPrecession) where
+  pub first-precessed : firstPlace (precessedTwo asc dec asc2 dec2 precession) ≡ precessedIn asc dec precession
+  unfolding precessedTwo precessedIn
+  first-precessed = precessed-by-arcs _ precession
 
-  pub second-turned : secondPlace (turnedTwo asc dec asc2 dec2 turns) ≡ turnedIn asc2 dec2 turns
-  unfolding turnedTwo turnedIn
-  second-turned = placed-by-arcs _ turns
+  pub second-precessed : secondPlace (precessedTwo asc dec asc2 dec2 precession) ≡ precessedIn asc2 dec2 precession
+  unfolding precessedTwo precessedIn
+  second-precessed = precessed-by-arcs _ precession

@@ -10,9 +10,9 @@ use Rattle.elementary_arc.specs.rules.Arcsine.{arcsineIn}
 use Rattle.helpers.specs.rules.Angle.{radiansOf}
 use Rattle.helpers.specs.rules.Time.{centuryOf}
 use Rattle.precess_angles.specs.rules.Days.{placeRefusal}
-use Rattle.precess_angles.specs.rules.Equatorial.{eqTurnsOf}
+use Rattle.precess_angles.specs.rules.Equatorial.{eqPrecessionOf}
 use Rattle.precess.specs.rules.Annual.{annualM, annualN, annualRefusal}
-use Rattle.precess.specs.rules.Equatorial.{placed, turnedIn}
+use Rattle.precess.specs.rules.Equatorial.{precessedFrom, precessedIn}
 
 -- ---- annual precession
 
@@ -28,20 +28,20 @@ annualTangentIsSine asc dec day =
 -- from the right ascension
 abbrev pub xiTakenAway : Edition → Rad → Rad → Float → Float → Answer Pair
 xiTakenAway e asc dec day1 day2 =
-    let turns = eqTurnsOf e day1 day2 in
+    let precession = eqPrecessionOf e day1 day2 in
     unless (placeRefusal asc dec day1 day2)
-    (placed (directionOf (record { asc = asc .0 ⊖ turns .xi .0; dec = dec .0 })) turns)
+    (precessedFrom (directionOf (record { asc = asc .0 ⊖ precession .xi .0; dec = dec .0 })) precession)
 
 -- the second day not tested
 abbrev pub daysInAnyOrder : Edition → Rad → Rad → Float → Float → Answer Pair
 daysInAnyOrder e asc dec day1 day2 =
-    unless (placeRefusal asc dec day1 day1) (turnedIn asc dec (eqTurnsOf e day1 day2))
+    unless (placeRefusal asc dec day1 day1) (precessedIn asc dec (eqPrecessionOf e day1 day2))
 
 -- 7 before 14
 abbrev pub arcsineFirst : Edition → Rad → Rad → Float → Float → Answer Pair
 arcsineFirst e asc dec day1 day2 =
-    let turns = eqTurnsOf e day1 day2 in
-    let d = directionOf (record { asc = asc .0 ⊕ turns .xi .0; dec = dec .0 }) in
+    let precession = eqPrecessionOf e day1 day2 in
+    let d = directionOf (record { asc = asc .0 ⊕ precession .xi .0; dec = dec .0 }) in
     unless (placeRefusal asc dec day1 day2)
-    (then (arcsineIn (turns .sine ⊗ d .«cos_dec» ⊗ d .«cos_asc» ⊕ turns .cosine ⊗ d .«sin_dec»))
-    (λ (s : Rad). placed d turns))
+    (then (arcsineIn (precession .sine ⊗ d .«cos_dec» ⊗ d .«cos_asc» ⊕ precession .cosine ⊗ d .«sin_dec»))
+    (λ (s : Rad). precessedFrom d precession))

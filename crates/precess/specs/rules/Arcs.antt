@@ -1,5 +1,5 @@
 -- The refusal of both arcs of a place, as code takes them side by side.
--- `placed-by-arcs` in laws/Arcs says that it is the place's.
+-- `precessed-by-arcs` in laws/Arcs says that it is the place's.
 use Prim.Native.Nat.{ℕ}
 use mathlib.Core.Bool.{cond}
 use lib.Ieee.{le, lt}

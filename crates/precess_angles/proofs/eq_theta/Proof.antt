@@ -6,7 +6,7 @@ use Rattle.precess_angles.proofs.eq_theta.Tie as tie
 
 returns : tie.Need-returns
 unfolding eqTheta
-returns c = rw (c .chosen .ensures)
+returns c = rw (c .by-edition .ensures)
 
 pub eq-theta-spec : {M : Type 1} → statement M
 eq-theta-spec = tie.close (tie.spec asks-nothing returns)

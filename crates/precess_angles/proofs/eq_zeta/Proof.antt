@@ -6,7 +6,7 @@ use Rattle.precess_angles.proofs.eq_zeta.Tie as tie
 
 returns : tie.Need-returns
 unfolding eqZeta
-returns c = rw (c .chosen .ensures)
+returns c = rw (c .by-edition .ensures)
 
 pub eq-zeta-spec : {M : Type 1} → statement M
 eq-zeta-spec = tie.close (tie.spec asks-nothing returns)

@@ -5,12 +5,12 @@ use Rattle.double.specs.rules.Operations.{_⊕_, _⊖_, _⊗_}
 use Rattle.quantity.specs.declared.Deg.{Deg}
 use Rattle.quantity.specs.rules.Angle.{deg}
 use Rattle.edition.specs.declared.Edition.{Edition}
-use Rattle.edition.specs.rules.Edition.{chosen}
+use Rattle.edition.specs.rules.Edition.{byEdition}
 use Rattle.elementary.specs.rules.Sine.{sineOf, cosineOf}
 use Rattle.helpers.specs.rules.Angle.{arc, radiansOf}
 use Rattle.helpers.specs.rules.Time.{centuryOf}
 use Rattle.precess_angles.specs.declared.EqAngles.{EqAngles}
-use Rattle.precess_angles.specs.declared.EqTurns.{EqTurns}
+use Rattle.precess_angles.specs.declared.EqPrecession.{EqPrecession}
 use Rattle.precess_angles.specs.rules.Numbers.{n2306·2181, n1·39656, n0·000139, n0·30188, n0·000344, n0·017998, n1·09468, n0·000066, n0·018203}
 use Rattle.precess_angles.specs.rules.Numbers.{n0·000217, n2004·3109, n0·8533, n0·42665, n0·041833}
 use Rattle.precess_angles.specs.rules.Days.{spanOf}
@@ -27,12 +27,12 @@ unfoldable pub eqZeta : Edition → Float → Float → Deg
 eqZeta e c t =
     let x = arc n1·09468 in
     let y = c ⊗ arc n0·000066 in
-    deg (eqShared c t ⊕ t ⊗ t ⊗ (chosen e (x ⊖ y) (x ⊕ y) ⊕ t ⊗ arc n0·018203))
+    deg (eqShared c t ⊕ t ⊗ t ⊗ (byEdition e (x ⊖ y) (x ⊕ y) ⊕ t ⊗ arc n0·018203))
 
 -- the crate's +0.8533, Meeus's −0.85330
 unfoldable pub eqTheta : Edition → Float → Float → Deg
 eqTheta e c t =
-    let x = chosen e (arc n0·8533) (neg (arc n0·8533)) in
+    let x = byEdition e (arc n0·8533) (neg (arc n0·8533)) in
     let y = c ⊗ arc n0·000217 in
     deg (t ⊗ (arc n2004·3109 ⊕ c ⊗ (x ⊖ y) ⊖ t ⊗ ((arc n0·42665 ⊕ y) ⊕ t ⊗ arc n0·041833)))
 
@@ -43,9 +43,9 @@ eqAnglesOf e day1 day2 =
     let t = spanOf day1 day2 in
     record { xi = radiansOf (eqXi c t); zeta = radiansOf (eqZeta e c t); theta = radiansOf (eqTheta e c t) }
 
--- the turns of three angles
-unfoldable pub turnsOf : EqAngles → EqTurns
-turnsOf a = record { xi = a .xi; zeta = a .zeta; sine = sineOf (a .theta); cosine = cosineOf (a .theta) }
+-- the precession by three angles
+unfoldable pub precessionBy : EqAngles → EqPrecession
+precessionBy a = record { xi = a .xi; zeta = a .zeta; sine = sineOf (a .theta); cosine = cosineOf (a .theta) }
 
-unfoldable pub eqTurnsOf : Edition → Float → Float → EqTurns
-eqTurnsOf e day1 day2 = turnsOf (eqAnglesOf e day1 day2)
+unfoldable pub eqPrecessionOf : Edition → Float → Float → EqPrecession
+eqPrecessionOf e day1 day2 = precessionBy (eqAnglesOf e day1 day2)

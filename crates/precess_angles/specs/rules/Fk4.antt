@@ -6,13 +6,13 @@ use Rattle.quantity.specs.declared.Deg.{Deg}
 use Rattle.quantity.specs.declared.Rad.{Rad}
 use Rattle.quantity.specs.rules.Angle.{deg, rad}
 use Rattle.edition.specs.declared.Edition.{Edition}
-use Rattle.edition.specs.rules.Edition.{chosen}
+use Rattle.edition.specs.rules.Edition.{byEdition}
 use Rattle.helpers.specs.rules.Angle.{arc, radiansOf}
 use Rattle.precess_angles.specs.declared.EqAngles.{EqAngles}
-use Rattle.precess_angles.specs.declared.EqTurns.{EqTurns}
+use Rattle.precess_angles.specs.declared.EqPrecession.{EqPrecession}
 use Rattle.precess_angles.specs.rules.Numbers.{n2415020·3135, n36524·2199, n2304·25, n1·396, n0·302, n0·018, n0·791, n0·001, n2004·682, n0·853}
 use Rattle.precess_angles.specs.rules.Numbers.{n0·426, n0·042}
-use Rattle.precess_angles.specs.rules.Equatorial.{turnsOf}
+use Rattle.precess_angles.specs.rules.Equatorial.{precessionBy}
 
 abbrev pub fk4Century : Float → Float
 fk4Century day = (day ⊖ n2415020·3135) ⊘ n36524·2199
@@ -37,7 +37,7 @@ degreesAsRadians x = rad (x .0)
 
 -- each of the three angles
 unfoldable pub fk4Angle : Edition → Deg → Rad
-fk4Angle e x = chosen e (degreesAsRadians x) (radiansOf x)
+fk4Angle e x = byEdition e (degreesAsRadians x) (radiansOf x)
 
 unfoldable pub fk4AnglesOf : Edition → Float → Float → EqAngles
 fk4AnglesOf e day1 day2 =
@@ -45,5 +45,5 @@ fk4AnglesOf e day1 day2 =
     let t = fk4Span day1 day2 in
     record { xi = fk4Angle e (fk4Xi c t); zeta = fk4Angle e (fk4Zeta (fk4Xi c t) t); theta = fk4Angle e (fk4Theta c t) }
 
-unfoldable pub fk4TurnsOf : Edition → Float → Float → EqTurns
-fk4TurnsOf e day1 day2 = turnsOf (fk4AnglesOf e day1 day2)
+unfoldable pub fk4PrecessionOf : Edition → Float → Float → EqPrecession
+fk4PrecessionOf e day1 day2 = precessionBy (fk4AnglesOf e day1 day2)

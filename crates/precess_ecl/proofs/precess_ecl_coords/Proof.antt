@@ -8,7 +8,7 @@ returns : tie.Need-returns
 returns c = refuses _ (c .before .place-refusal .ensures) (c .if1 .taken)
 
 returns-2 : tie.Need-returns-2
-returns-2 c = goes-on (c .before .before .before .place-refusal .ensures) (c .before .before .if1 .left) (rw (c .before .ecl-turns .ensures) at (c .ecl-turned-in .ensures))
+returns-2 c = goes-on (c .before .before .before .place-refusal .ensures) (c .before .before .if1 .left) (rw (c .before .ecl-precession .ensures) at (c .ecl-precessed-in .ensures))
 
 pub precess-ecl-coords-spec : {M : Type 1} → statement M
 precess-ecl-coords-spec = tie.close (tie.spec asks-nothing returns asks-nothing asks-nothing returns-2)

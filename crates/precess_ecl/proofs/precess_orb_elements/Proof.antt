@@ -8,7 +8,7 @@ returns : tie.Need-returns
 returns c = refuses _ (c .before .orbit-refusal .ensures) (c .if1 .taken)
 
 returns-2 : tie.Need-returns-2
-returns-2 c = goes-on (c .before .before .before .orbit-refusal .ensures) (c .before .before .if1 .left) (rw (c .before .ecl-turns .ensures) at (c .orbit-in .ensures))
+returns-2 c = goes-on (c .before .before .before .orbit-refusal .ensures) (c .before .before .if1 .left) (rw (c .before .ecl-precession .ensures) at (c .orbit-in .ensures))
 
 pub precess-orb-elements-spec : {M : Type 1} → statement M
 precess-orb-elements-spec = tie.close (tie.spec asks-nothing returns asks-nothing asks-nothing returns-2)

@@ -9,7 +9,7 @@ use Rattle.quantity.specs.rules.Angle.{rad}
 use Rattle.quantity.specs.rules.Answer.{refused}
 use Rattle.quantity.specs.rules.Refusal.{epoch, angleRefusal}
 use Rattle.precess_angles.specs.rules.Days.{daysRefusal}
-use Rattle.precess_ecl.specs.rules.Ecliptic.{eclTurnsOf}
+use Rattle.precess_ecl.specs.rules.Ecliptic.{eclPrecessionOf}
 use Rattle.precess_ecl.specs.rules.Orbit.{orbitIn, precessOrbElementsRule}
 use Rattle.precess_ecl.specs.notions.Computed.{computed}
 
@@ -26,7 +26,7 @@ days-accepted : daysRefusal epoch epoch ≡ 0
 unfolding computed
 days-accepted = refl
 
-flat-six : (minus : Bool) (perih node : Rad) → orbitIn (flat minus) perih node (eclTurnsOf epoch epoch) ≡ refused 6
+flat-six : (minus : Bool) (perih node : Rad) → orbitIn (flat minus) perih node (eclPrecessionOf epoch epoch) ≡ refused 6
 unfolding computed
 flat-six true perih node = refl
 flat-six false perih node = refl

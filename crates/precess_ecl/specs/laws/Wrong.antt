@@ -7,8 +7,8 @@ use Rattle.quantity.specs.rules.Refusal.{epoch}
 use Rattle.quantity.specs.notions.Code.{ofPair, ofTriple, ofAnswer}
 use Rattle.quantity.specs.notions.Varies.{Varies}
 use Rattle.quantity.specs.notions.Stated.{r0, r½, r1, earlier}
-use Rattle.precess_ecl.specs.declared.EclTurns.{EclTurns}
-use Rattle.precess_ecl.specs.rules.Ecliptic.{eclTurnsOf, precessEclCoordsRule}
+use Rattle.precess_ecl.specs.declared.EclPrecession.{EclPrecession}
+use Rattle.precess_ecl.specs.rules.Ecliptic.{eclPrecessionOf, precessEclCoordsRule}
 use Rattle.precess_ecl.specs.rules.Orbit.{precessOrbElementsRule}
 use Rattle.precess_ecl.specs.notions.Computed.{computed}
 use Rattle.precess_ecl.specs.notions.Wrong.{eclipticLongitudeWithoutRho, nodeWithoutHalfATurn, nodeBeforeTheTest, perihelionAndNodeTraded}
@@ -34,11 +34,11 @@ unfolding computed
 node-without-half-a-turn-excluded = apart (ofAnswer ofTriple) refl
 
 -- an orbit in the second day's ecliptic: A and B are zero
-abbrev turns : EclTurns
-turns = eclTurnsOf earlier epoch
+abbrev precession : EclPrecession
+precession = eclPrecessionOf earlier epoch
 
-pub node-before-the-test-excluded : nodeBeforeTheTest (turns .nu) r0 (turns .pi) earlier epoch
-    ≢ precessOrbElementsRule (turns .nu) r0 (turns .pi) earlier epoch
+pub node-before-the-test-excluded : nodeBeforeTheTest (precession .nu) r0 (precession .pi) earlier epoch
+    ≢ precessOrbElementsRule (precession .nu) r0 (precession .pi) earlier epoch
 unfolding computed
 node-before-the-test-excluded = apart (ofAnswer ofTriple) refl
 

@@ -13,47 +13,47 @@ use Rattle.elementary.specs.rules.Fold.{fold}
 use Rattle.elementary.specs.rules.Sine.{foldedSine, foldedCosine, sineOf}
 use Rattle.elementary_arc.specs.rules.Arctangent.{arctangentIn}
 use Rattle.elementary_arc.specs.rules.Arcsine.{arcsineIn}
-use Rattle.precess_ecl.specs.declared.EclTurns.{EclTurns}
+use Rattle.precess_ecl.specs.declared.EclPrecession.{EclPrecession}
 use Rattle.precess_ecl.specs.declared.Leaned.{Leaned}
 use Rattle.precess_angles.specs.rules.Days.{daysRefusal}
-use Rattle.precess_ecl.specs.rules.Ecliptic.{eclTurnsOf}
+use Rattle.precess_ecl.specs.rules.Ecliptic.{eclPrecessionOf}
 
 -- A and B, from the inclination i and n, the node less Pi
-unfoldable pub leanedOf : Folded → Folded → EclTurns → Leaned
-leanedOf i n turns =
+unfoldable pub leanedOf : Folded → Folded → EclPrecession → Leaned
+leanedOf i n precession =
     record {
       a = foldedSine i ⊗ foldedSine n;
-      b = neg (turns .sine) ⊗ foldedCosine i ⊕ turns .cosine ⊗ foldedSine i ⊗ foldedCosine n;
+      b = neg (precession .sine) ⊗ foldedCosine i ⊕ precession .cosine ⊗ foldedSine i ⊗ foldedCosine n;
     }
 
 -- nu where the old inclination is zero, else the arcsine of the root of A·A + B·B
-unfoldable pub newInclination : Rad → Leaned → EclTurns → Answer Rad
-newInclination inc l turns =
-    cond (eq (inc .0) zero) (answered (turns .nu)) (then (rootRule (l .a ⊗ l .a ⊕ l .b ⊗ l .b)) arcsineIn)
+unfoldable pub newInclination : Rad → Leaned → EclPrecession → Answer Rad
+newInclination inc l precession =
+    cond (eq (inc .0) zero) (answered (precession .nu)) (then (rootRule (l .a ⊗ l .a ⊕ l .b ⊗ l .b)) arcsineIn)
 
 -- phi + PI where the old inclination is zero, else phi + the arctangent of (A, B)
-unfoldable pub newNode : Rad → Leaned → EclTurns → Answer Rad
-newNode inc l turns =
-    let phi = turns .pi .0 ⊕ turns .rho .0 in
+unfoldable pub newNode : Rad → Leaned → EclPrecession → Answer Rad
+newNode inc l precession =
+    let phi = precession .pi .0 ⊕ precession .rho .0 in
     cond (eq (inc .0) zero) (answered (rad (phi ⊕ PI))) (addedTo (rad phi) (arctangentIn (l .a) (l .b)))
 
 -- s is the sine of the new inclination
-unfoldable pub nodeAndPerihelion : Float → Answer Rad → Rad → Folded → EclTurns → Answer Pair
-nodeAndPerihelion s node perih n turns =
-    both node (addedTo perih (arcsineIn (neg (turns .sine) ⊗ foldedSine n ⊘ s)))
+unfoldable pub nodeAndPerihelion : Float → Answer Rad → Rad → Folded → EclPrecession → Answer Pair
+nodeAndPerihelion s node perih n precession =
+    both node (addedTo perih (arcsineIn (neg (precession .sine) ⊗ foldedSine n ⊘ s)))
 
 -- 6 where the sine of the new inclination i is zero
-unfoldable pub orbitFrom : Rad → Answer Rad → Rad → Folded → EclTurns → Answer Triple
-orbitFrom i node perih n turns =
+unfoldable pub orbitFrom : Rad → Answer Rad → Rad → Folded → EclPrecession → Answer Triple
+orbitFrom i node perih n precession =
     let s = sineOf i in
     cond (eq s zero) (refused 6)
-    (then (nodeAndPerihelion s node perih n turns) (λ (p : Pair). answered (triple (i .0) (second p) (first p))))
+    (then (nodeAndPerihelion s node perih n precession) (λ (p : Pair). answered (triple (i .0) (second p) (first p))))
 
-unfoldable pub orbitIn : Rad → Rad → Rad → EclTurns → Answer Triple
-orbitIn inc perih node turns =
-    let n = fold (rad (node .0 ⊖ turns .pi .0)) in
-    let l = leanedOf (fold inc) n turns in
-    then (newInclination inc l turns) (λ (i : Rad). orbitFrom i (newNode inc l turns) perih n turns)
+unfoldable pub orbitIn : Rad → Rad → Rad → EclPrecession → Answer Triple
+orbitIn inc perih node precession =
+    let n = fold (rad (node .0 ⊖ precession .pi .0)) in
+    let l = leanedOf (fold inc) n precession in
+    then (newInclination inc l precession) (λ (i : Rad). orbitFrom i (newNode inc l precession) perih n precession)
 
 abbrev pub orbitRefusal : Rad → Rad → Rad → Float → Float → ℕ
 orbitRefusal inc perih node day1 day2 =
@@ -61,4 +61,4 @@ orbitRefusal inc perih node day1 day2 =
 
 abbrev pub precessOrbElementsRule : Rad → Rad → Rad → Float → Float → Answer Triple
 precessOrbElementsRule inc perih node day1 day2 =
-    unless (orbitRefusal inc perih node day1 day2) (orbitIn inc perih node (eclTurnsOf day1 day2))
+    unless (orbitRefusal inc perih node day1 day2) (orbitIn inc perih node (eclPrecessionOf day1 day2))

@@ -47,16 +47,16 @@ returns-2 c =
     let g = c .before .before .args .g in
     let u = leadingZeros 64 r - 11 in
     let z = up (c .before) in
-    let kept : (g - u) * 2 ^ 52 % 2 ^ 64 + r * 2 ^ u % 2 ^ 64 ≡ (g - u) * 2 ^ 52 + r * 2 ^ u = omega (arith, z .most) in
-    rw kept (pack-high r g u (z .least) (z .most) (c .if2 .taken) (c .before .before .pre .1))
+    let unwrapped : (g - u) * 2 ^ 52 % 2 ^ 64 + r * 2 ^ u % 2 ^ 64 ≡ (g - u) * 2 ^ 52 + r * 2 ^ u = omega (arith, z .most) in
+    rw unwrapped (pack-high r g u (z .least) (z .most) (c .if2 .taken) (c .before .before .pre .1))
 
 returns-3 : tie.Need-returns-3
 returns-3 c =
     let r = c .before .before .args .r in
     let g = c .before .before .args .g in
     let p = pack-low r g (leadingZeros 64 r - 11) (up (c .before) .most) (c .if2 .left) in
-    let kept : r * 2 ^ g % 2 ^ 64 ≡ r * 2 ^ g = omega (arith, p .0) in
-    rw kept p
+    let unwrapped : r * 2 ^ g % 2 ^ 64 ≡ r * 2 ^ g = omega (arith, p .0) in
+    rw unwrapped p
 
 pub packed-spec : {M : Type 1} → statement M
 packed-spec =

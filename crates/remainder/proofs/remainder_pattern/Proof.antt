@@ -6,9 +6,9 @@ use Prim.Native.Nat.{ℕ, _+_, _-_, _/_, _%_, _^_, _≤_}
 use native.Mathlib.Nat.{lt-trans, mod-lt}
 use native.Mathlib.Omega.{arith}
 use Rattle.double.specs.laws.Calls.{asks-nothing}
-use Rattle.remainder.specs.rules.Digits.{digitsOf, placesOf}
+use Rattle.remainder.specs.rules.Digits.{digitsOf, binaryPlacesOf}
 use Rattle.remainder.specs.notions.Steps.{Counted}
-use Rattle.remainder.specs.laws.Digits.{counted, places-order, rest-counts}
+use Rattle.remainder.specs.laws.Digits.{counted, binary-places-order, rest-counts}
 use Rattle.remainder.proofs.remainder_pattern.Statement.{statement}
 use Rattle.remainder.proofs.remainder_pattern.Tie as tie
 
@@ -21,7 +21,7 @@ second c = counted (c .args .c) (omega arith)
 sub-rest-of : tie.Need-sub-rest-of
 sub-rest-of c =
     let s = c .before .before .before .before in
-    rw (c .before .before .places .ensures, c .places2 .ensures) (places-order _ _ (s .pre .2))
+    rw (c .before .before .binary-places .ensures, c .binary-places2 .ensures) (binary-places-order _ _ (s .pre .2))
 
 rest-of-requires : tie.Need-rest-of-requires
 rest-of-requires c κs =
@@ -32,7 +32,7 @@ packed-requires : tie.Need-packed-requires
 packed-requires c κs =
     let s = c .before .before .before .before .before .before in
     let some = second s .some (s .pre .1) in
-    rw (c .rest-of .ensures, c .before .digits2 .ensures, c .before .before .before .before .places .ensures)
+    rw (c .rest-of .ensures, c .before .digits2 .ensures, c .before .before .before .before .binary-places .ensures)
     (lt-trans (mod-lt _ some) (second s .few), second s .room)
 
 returns : tie.Need-returns
@@ -40,7 +40,7 @@ returns c =
     let s = c .before .before .before .before .before .before .before in (
       c .packed .ensures .0,
       c .packed .ensures .1
-          ∙ rw (c .before .rest-of .ensures, c .before .before .digits2 .ensures, c .before .before .before .places2 .ensures, c .before .before .before .before .digits .ensures, c .before .before .before .before .before .places .ensures)
+          ∙ rw (c .before .rest-of .ensures, c .before .before .digits2 .ensures, c .before .before .before .binary-places2 .ensures, c .before .before .before .before .digits .ensures, c .before .before .before .before .before .binary-places .ensures)
           (rest-counts (first s) (second s) (s .pre .1) (s .pre .2)),
     )
 
@@ -49,12 +49,12 @@ digits-normal : (x : ℕ) → 2 ^ 52 ≤ x → digitsOf x ≡ 2 ^ 52 + x % 2 ^ 5
 unfolding digitsOf
 digits-normal x h = rw (le-ltb x (2 ^ 52) h)
 
-places-normal : (x y : ℕ) → 2 ^ 52 ≤ y → y ≤ x → placesOf x - placesOf y ≡ x / 2 ^ 52 - y / 2 ^ 52
-unfolding placesOf
-places-normal x y h k = omega arith
+binary-places-normal : (x y : ℕ) → 2 ^ 52 ≤ y → y ≤ x → binaryPlacesOf x - binaryPlacesOf y ≡ x / 2 ^ 52 - y / 2 ^ 52
+unfolding binaryPlacesOf
+binary-places-normal x y h k = omega arith
 
-place : (x : ℕ) → placesOf x ≡ x / 2 ^ 52 - 1
-unfolding placesOf
+place : (x : ℕ) → binaryPlacesOf x ≡ x / 2 ^ 52 - 1
+unfolding binaryPlacesOf
 place x = refl
 
 add-m : tie.Need-add-m
@@ -85,7 +85,7 @@ returns-2 c =
       c .packed2 .ensures .0,
       c .packed2 .ensures .1
           ∙ rw (c .before .rest-of2 .ensures)
-          (rw (digits-normal (s .args .b) (omega arith), digits-normal (s .args .c) h, places-normal (s .args .b) (s .args .c) h (s .pre .2), place (s .args .c)) at
+          (rw (digits-normal (s .args .b) (omega arith), digits-normal (s .args .c) h, binary-places-normal (s .args .b) (s .args .c) h (s .pre .2), place (s .args .c)) at
           (rest-counts (first s) (second s) (s .pre .1) (s .pre .2))),
     )
 

@@ -11,7 +11,7 @@ use Rattle.double.specs.rules.Operations.{bits}
 use Rattle.double.specs.rules.Count.{count}
 use Rattle.double.specs.laws.Numbers.{less-or-not}
 use Rattle.double.specs.laws.Patterns.{count-low, count-high}
-use Rattle.remainder.specs.rules.Digits.{digitsOf, placesOf}
+use Rattle.remainder.specs.rules.Digits.{digitsOf, binaryPlacesOf}
 use Rattle.remainder.specs.notions.Steps.{Counted}
 use Rattle.remainder.specs.laws.Whole.{rest-lowered}
 
@@ -25,23 +25,23 @@ pub digits-high : (b : ℕ) → 2 ^ 52 ≤ b → digitsOf b ≡ 2 ^ 52 + b % 2 ^
 unfolding digitsOf
 digits-high b h = rw (le-ltb b (2 ^ 52) h)
 
-pub places-low : (b : ℕ) → b < 2 ^ 52 → placesOf b ≡ 0
-unfolding placesOf
-places-low b h = omega arith
+pub binary-places-low : (b : ℕ) → b < 2 ^ 52 → binaryPlacesOf b ≡ 0
+unfolding binaryPlacesOf
+binary-places-low b h = omega arith
 
-pub places-high : (b : ℕ) → placesOf b ≡ b / 2 ^ 52 - 1
-unfolding placesOf
-places-high b = omega arith
+pub binary-places-high : (b : ℕ) → binaryPlacesOf b ≡ b / 2 ^ 52 - 1
+unfolding binaryPlacesOf
+binary-places-high b = omega arith
 
 pub counted : (b : ℕ) → b < 2047 * 2 ^ 52 → Counted b
-unfolding placesOf
+unfolding binaryPlacesOf
 counted b h = go (less-or-not b (2 ^ 52))
   where
     go : (b < 2 ^ 52) ⊎ (2 ^ 52 ≤ b) → Counted b
     go (inl l) =
         let d = digits-low b l in
         record {
-          is = rw (d, places-low b l) (count-low b l ∙ sym (mul-one b));
+          is = rw (d, binary-places-low b l) (count-low b l ∙ sym (mul-one b));
           few = omega arith;
           room = omega arith;
           some = λ p. omega arith;
@@ -60,30 +60,30 @@ counted b h = go (less-or-not b (2 ^ 52))
         }
 
 -- the order of patterns is that of their places and, among as many places, of their digits
-pub places-order : (b c : ℕ) → c ≤ b → placesOf c ≤ placesOf b
-unfolding placesOf
-places-order b c h = omega arith
+pub binary-places-order : (b c : ℕ) → c ≤ b → binaryPlacesOf c ≤ binaryPlacesOf b
+unfolding binaryPlacesOf
+binary-places-order b c h = omega arith
 
 pub count-order : {b c : ℕ} → Counted b → Counted c → b < c → count (bits b) < count (bits c)
-count-order {b} {c} p q l = go (eq-or-lt-of-le (places-order c b (omega arith)))
+count-order {b} {c} p q l = go (eq-or-lt-of-le (binary-places-order c b (omega arith)))
   where
-    closer : placesOf b ≡ placesOf c → digitsOf b < digitsOf c
+    closer : binaryPlacesOf b ≡ binaryPlacesOf c → digitsOf b < digitsOf c
     closer e = omega (arith, p .sum, q .sum)
 
-    go : (placesOf b ≡ placesOf c) ⊎ (placesOf b < placesOf c) → count (bits b) < count (bits c)
-    go (inl e) = rw (p .is, q .is, e) (mul-lt-mul-of-pos-right (closer e) (pow-pos (placesOf c)))
+    go : (binaryPlacesOf b ≡ binaryPlacesOf c) ⊎ (binaryPlacesOf b < binaryPlacesOf c) → count (bits b) < count (bits c)
+    go (inl e) = rw (p .is, q .is, e) (mul-lt-mul-of-pos-right (closer e) (pow-pos (binaryPlacesOf c)))
     go (inr g) =
         rw (p .is, q .is)
-        (lt-of-lt-of-le (mul-lt-mul-of-pos-right (p .few) (pow-pos (placesOf b)))
+        (lt-of-lt-of-le (mul-lt-mul-of-pos-right (p .few) (pow-pos (binaryPlacesOf b)))
         (le-trans
-        (le-of-eq (mul-assoc (2 ^ 52) 2 (2 ^ placesOf b) ∙ ap (λ (x : ℕ). 2 ^ 52 * x) (sym (pow-succ' 2 (placesOf b)))))
-        (le-trans (mul-le-mul-left (2 ^ 52) (pow-mono g)) (mul-le-mul-right (2 ^ placesOf c) (q .led (omega arith))))))
+        (le-of-eq (mul-assoc (2 ^ 52) 2 (2 ^ binaryPlacesOf b) ∙ ap (λ (x : ℕ). 2 ^ 52 * x) (sym (pow-succ' 2 (binaryPlacesOf b)))))
+        (le-trans (mul-le-mul-left (2 ^ 52) (pow-mono g)) (mul-le-mul-right (2 ^ binaryPlacesOf c) (q .led (omega arith))))))
 
 -- what is left of the digits by the other's, with the other's places, counts what is left
 pub rest-counts : {b c : ℕ} → Counted b → Counted c → 0 < c → c ≤ b
-    → digitsOf b * 2 ^ (placesOf b - placesOf c) % digitsOf c * 2 ^ placesOf c ≡ count (bits b) % count (bits c)
+    → digitsOf b * 2 ^ (binaryPlacesOf b - binaryPlacesOf c) % digitsOf c * 2 ^ binaryPlacesOf c ≡ count (bits b) % count (bits c)
 rest-counts {b} {c} p q s h =
-    rw (p .is, q .is) (rest-lowered (digitsOf b) (placesOf b) (digitsOf c) (placesOf c) (q .some s) (places-order b c h))
+    rw (p .is, q .is) (rest-lowered (digitsOf b) (binaryPlacesOf b) (digitsOf c) (binaryPlacesOf c) (q .some s) (binary-places-order b c h))
 
 -- ---- of r·2^g
 

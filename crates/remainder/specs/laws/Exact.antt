@@ -16,7 +16,7 @@ use Rattle.double.specs.laws.Numbers.{less-or-not}
 use Rattle.double.specs.laws.Patterns.{pattern-from-zero, count-low}
 use Rattle.double.specs.laws.Raised.{raised}
 use Rattle.remainder.specs.rules.Remainder.{remainderOf, IsRemainder}
-use Rattle.remainder.specs.rules.Digits.{placesOf}
+use Rattle.remainder.specs.rules.Digits.{binaryPlacesOf}
 use Rattle.remainder.specs.laws.Digits.{count-order, rest-counts, pack-high, pack-low}
 use Rattle.remainder.specs.laws.Remainder.{remainder-is-only, signed-remainder}
 use Rattle.remainder.specs.notions.Steps.{sizePattern, Has}
@@ -54,7 +54,7 @@ module _ (x y : Float) (F : T (fits binary64 x)) (G : T (fits binary64 y)) (i : 
       let second = counted-size y G j in
       subst Has
       (rw (pattern-counts x F i, pattern-counts y G j) at (rest-counts first second some h))
-      (has-pattern _ (placesOf (sizePattern y)) (lt-trans (mod-lt _ (second .some some)) (second .few)) (second .room))
+      (has-pattern _ (binaryPlacesOf (sizePattern y)) (lt-trans (mod-lt _ (second .some some)) (second .few)) (second .room))
 
   pub remainder-is-exact : IsRemainder x y (remainderOf x y)
   remainder-is-exact = go (less-or-not (sizePattern x) (sizePattern y))

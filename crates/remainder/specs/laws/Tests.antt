@@ -17,7 +17,7 @@ use Rattle.double.specs.rules.Count.{IsFromZero, IsAboveZero, count}
 use Rattle.double.specs.laws.Count.{size-counts}
 use Rattle.double.specs.laws.Patterns.{from-zero-pattern, above-zero-pattern, above-zero-counts}
 use Rattle.remainder.specs.rules.Remainder.{remainderOf}
-use Rattle.remainder.specs.rules.Digits.{placesOf}
+use Rattle.remainder.specs.rules.Digits.{binaryPlacesOf}
 use Rattle.remainder.specs.notions.Steps.{sizePattern, Counted, Divisible}
 use Rattle.remainder.specs.laws.Digits.{counted, count-order}
 use Rattle.remainder.specs.laws.Remainder.{remainder-is-only}
@@ -97,7 +97,7 @@ divisible (fin s m e) (fin t n d) F G i l h =
     let a : IsAboveZero (size y) = record { held = G; finite = refl; above = l } in
     let some : 0 < sizePattern y = above-zero-pattern (size y) a .0 in
     let k = counted-size x F refl in
-    let digits = mul-pos (k .some (lt-of-lt-of-le some h)) (pow-pos (placesOf (sizePattern x))) in
+    let digits = mul-pos (k .some (lt-of-lt-of-le some h)) (pow-pos (binaryPlacesOf (sizePattern x))) in
     record {
       finite = refl;
       some = some;

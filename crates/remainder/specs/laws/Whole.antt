@@ -26,8 +26,8 @@ rest-scaled a b c p q =
     spread q r = omega arith
 
 -- r·2^k by way of the j highest of the k places
-pub rest-in-turns : (r j k n : ℕ) → j ≤ k → r * 2 ^ j % n * 2 ^ (k - j) % n ≡ r * 2 ^ k % n
-rest-in-turns r j k n h =
+pub rest-in-parts : (r j k n : ℕ) → j ≤ k → r * 2 ^ j % n * 2 ^ (k - j) % n ≡ r * 2 ^ k % n
+rest-in-parts r j k n h =
     rest-times (r * 2 ^ j) (2 ^ (k - j)) n
     ∙ ap (λ (x : ℕ). x % n)
     (mul-assoc r (2 ^ j) (2 ^ (k - j)) ∙ ap (λ (x : ℕ). r * x) (sym (pow-add 2 j (k - j)) ∙ ap (λ (x : ℕ). 2 ^ x) (whole h)))

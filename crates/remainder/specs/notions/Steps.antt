@@ -6,7 +6,7 @@ use lib.Ieee.{Float, binary64, toBits}
 use Rattle.double.specs.rules.Operations.{bits}
 use Rattle.double.specs.rules.Sign.{size, isFinite}
 use Rattle.double.specs.rules.Count.{count}
-use Rattle.remainder.specs.rules.Digits.{digitsOf, placesOf}
+use Rattle.remainder.specs.rules.Digits.{digitsOf, binaryPlacesOf}
 
 -- the pattern without its sign
 abbrev pub sizePattern : Float → ℕ
@@ -14,13 +14,13 @@ sizePattern x = toBits binary64 (size x)
 
 -- what the digits and places of a pattern stand for
 pub record Counted (b : ℕ) : Type 0 where
-  pub is : count (bits b) ≡ digitsOf b * 2 ^ placesOf b
+  pub is : count (bits b) ≡ digitsOf b * 2 ^ binaryPlacesOf b
   pub few : digitsOf b < 2 ^ 53
-  pub room : placesOf b ≤ 2045
+  pub room : binaryPlacesOf b ≤ 2045
   pub some : 0 < b → 0 < digitsOf b
-  pub sum : b ≡ placesOf b * 2 ^ 52 + digitsOf b
+  pub sum : b ≡ binaryPlacesOf b * 2 ^ 52 + digitsOf b
   -- what has places has a leading digit
-  pub led : 0 < placesOf b → 2 ^ 52 ≤ digitsOf b
+  pub led : 0 < binaryPlacesOf b → 2 ^ 52 ≤ digitsOf b
 
 -- what is left to the whole numbers: y is finite too, and neither is zero
 pub record Divisible (x y : Float) : Type 0 where

@@ -8,5 +8,5 @@ unfoldable pub digitsOf : ℕ → ℕ
 digitsOf b = cond (ltb b (2 ^ 52)) b (2 ^ 52 + b % 2 ^ 52)
 
 -- the exponent's field less 1, of a subnormal 0
-unfoldable pub placesOf : ℕ → ℕ
-placesOf b = b / 2 ^ 52 - 1
+unfoldable pub binaryPlacesOf : ℕ → ℕ
+binaryPlacesOf b = b / 2 ^ 52 - 1

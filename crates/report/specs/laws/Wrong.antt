@@ -24,7 +24,7 @@ damaged = 0 ∷ []
 
 -- a latitude of 2.0 radians
 abbrev beyondPole : Observer
-beyondPole = record { sidereal = r0; place = record { long = zero; lat = two }; alt = r0 }
+beyondPole = record { sidereal = r0; site = record { long = zero; lat = two }; alt = r0 }
 
 pub eight-before-three-excluded : eightBeforeThree beyondPole Crate damaged epoch epoch ≢ reportOf (Plan beyondPole) Crate damaged epoch epoch
 unfolding computed

@@ -1,4 +1,4 @@
--- `root::digit` meets its contract: each turn brings t nearer to the digit.
+-- `root::digit` meets its contract: each pass brings t nearer to the digit.
 use mathlib.Core.Path.{_≡_, refl, sym}
 use mathlib.Core.Bool.{Bool, true, false, not}
 use Prim.Native.Nat.{ℕ, _+_, _-_, _*_, _^_, _≤_, _<_}

@@ -4,7 +4,7 @@ use mathlib.Core.Path.{sym, ap, _∙_, subst}
 use lib.Dec.{T}
 use Rattle.double.specs.laws.Calls.{asks-nothing}
 use Rattle.quantity.specs.rules.Answer.{answered}
-use Rattle.root.specs.laws.Bits.{normal-bits-shown, bits-answered, bits-refused}
+use Rattle.root.specs.laws.Bits.{normal-bits-answered, bits-answered, bits-refused}
 use Rattle.root.specs.laws.Tests.{normal-tested}
 use Rattle.root.proofs.square_root_bits.Statement.{statement}
 use Rattle.root.proofs.square_root_bits.Tie as tie
@@ -17,7 +17,7 @@ returns c =
     let s = c .before .before .before in
     let x = s .args .x in
     ap answered (c .normal-bits .ensures)
-    ∙ normal-bits-shown x (normal-tested x (subst T (sym (s .good .0 .1)) tt) (c .before .before .if1 .taken) (c .before .if2 .taken))
+    ∙ normal-bits-answered x (normal-tested x (subst T (sym (s .good .0 .1)) tt) (c .before .before .if1 .taken) (c .before .if2 .taken))
 
 enum-known-y : tie.Need-enum-known-y
 enum-known-y c = search needs

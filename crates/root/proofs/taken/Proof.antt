@@ -12,11 +12,11 @@ use Rattle.root.proofs.taken.Tie as tie
 product : (x y : ℕ) → x ≤ 2 ^ 30 → y ≤ 2 ^ 30 → x * y ≤ 2 ^ 60
 product x y h k = mul-le-mul {n₁ = x} {m₁ = y} {n₂ = 2 ^ 30} {m₂ = 2 ^ 30} h k
 
-places : (c : tie.Start) → 2 ^ c .args .k ≤ 2 ^ 26
-places c = pow-mono {i = c .args .k} {j = 26} (omega arith)
+halvings : (c : tie.Start) → 2 ^ c .args .k ≤ 2 ^ 26
+halvings c = pow-mono {i = c .args .k} {j = 26} (omega arith)
 
 unit : (c : tie.Start) → (1 * 2 ^ c .args .k) % 2 ^ 64 ≡ 2 ^ c .args .k
-unit c = omega (arith, places c)
+unit c = omega (arith, halvings c)
 
 square : (c : tie.Start) → c .args .t * c .args .t ≤ 2 ^ 60
 square c = product (c .args .t) (c .args .t) (c .pre .2) (c .pre .2)
@@ -37,13 +37,13 @@ sub-result : tie.Need-sub-result
 sub-result c = omega (arith, unit c, pow-pos (c .args .k))
 
 add-result : tie.Need-add-result
-add-result c = omega (arith, unit c, places c, square c)
+add-result c = omega (arith, unit c, halvings c, square c)
 
 shr-result : tie.Need-shr-result
 shr-result c = search needs
 
 add-result-2 : tie.Need-add-result-2
-add-result-2 c = omega (arith, unit c, places c, square c, other c, div-le-self (c .args .t * c .args .t + ((1 * 2 ^ c .args .k) % 2 ^ 64 - 1)) (2 ^ c .args .k))
+add-result-2 c = omega (arith, unit c, halvings c, square c, other c, div-le-self (c .args .t * c .args .t + ((1 * 2 ^ c .args .k) % 2 ^ 64 - 1)) (2 ^ c .args .k))
 
 returns : tie.Need-returns
 unfolding taken

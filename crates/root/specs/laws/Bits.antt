@@ -17,9 +17,9 @@ use Rattle.root.specs.laws.Normal.{above-zero-normal}
 use Rattle.root.specs.laws.Nearest.{pattern-finite}
 use Rattle.root.specs.laws.Root.{root-answered}
 
-pub normal-bits-shown : (x : Float) → IsNormal x → answered (rootPattern (twiceRootSquared x)) ≡ with patternOf (rootRule x)
+pub normal-bits-answered : (x : Float) → IsNormal x → answered (rootPattern (twiceRootSquared x)) ≡ with patternOf (rootRule x)
 unfolding rootOf
-normal-bits-shown x n =
+normal-bits-answered x n =
     sym
     (ap (with patternOf) (root-answered x (n .above .finite) (n .plus))
     ∙ ap (λ (y : Float). answered (patternOf y)) (rw (n .above .above, n .above .finite))

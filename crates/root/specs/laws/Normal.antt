@@ -100,8 +100,8 @@ above-zero-normal x a =
 -- ---- the pattern
 
 module _ {w d e : ℕ} (n : Normal w d e) where
-  places : (size w - 107) / 2 ≡ e
-  places =
+  halvings : (size w - 107) / 2 ≡ e
+  halvings =
       let p = 2 ^ (2 * e) in
       let lo : 2 ^ 106 * p ≤ w = rw (n .is) (mul-le-mul-right p (mul-le-mul-right (2 ^ 54) (n .least))) in
       let under : d * 2 ^ 54 < 2 ^ 108 = omega (arith, n .most) in
@@ -113,5 +113,5 @@ module _ {w d e : ℕ} (n : Normal w d e) where
   pub pattern-is : rootPattern w ≡ e * 2 ^ 52 + (wholeRoot 54 (d * 2 ^ 54) + 1) / 2
   unfolding rootPattern
   pattern-is =
-      ap (λ (k : ℕ). k * 2 ^ 52 + (wholeRoot 54 (w / 2 ^ (2 * k)) + 1) / 2) places
+      ap (λ (k : ℕ). k * 2 ^ 52 + (wholeRoot 54 (w / 2 ^ (2 * k)) + 1) / 2) halvings
       ∙ ap (λ (x : ℕ). e * 2 ^ 52 + (wholeRoot 54 x + 1) / 2) (rw (n .is) (mul-div-cancel (d * 2 ^ 54) (pow-pos (2 * e))))

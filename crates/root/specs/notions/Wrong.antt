@@ -50,19 +50,19 @@ bitsLoseTheSign x = with (λ (r : Float). patternOf r % 2 ^ 63) (rootRule x)
 abbrev packed : (ℕ → ℕ) → Float → Answer Float
 packed pattern x = unless (rootRefusal x) (answered (cond (lt zero x) (bits (pattern (twiceRootSquared x))) x))
 
-abbrev places : ℕ → ℕ
-places w = (size w - 107) / 2
+abbrev halvings : ℕ → ℕ
+halvings w = (size w - 107) / 2
 
 -- with other digits of what is left of w without its last 2·places
 abbrev counted : (ℕ → ℕ) → Float → Answer Float
-counted digits = packed (λ (w : ℕ). places w * 2 ^ 52 + (digits (w / 2 ^ (2 * places w)) + 1) / 2)
+counted digits = packed (λ (w : ℕ). halvings w * 2 ^ 52 + (digits (w / 2 ^ (2 * halvings w)) + 1) / 2)
 
 abbrev pub cutNotRounded : Float → Answer Float
-cutNotRounded = packed (λ (w : ℕ). places w * 2 ^ 52 + wholeRoot 54 (w / 2 ^ (2 * places w)) / 2)
+cutNotRounded = packed (λ (w : ℕ). halvings w * 2 ^ 52 + wholeRoot 54 (w / 2 ^ (2 * halvings w)) / 2)
 
 -- of an odd exponent
 abbrev pub oddTwoLost : Float → Answer Float
-oddTwoLost = packed (λ (w : ℕ). places w * 2 ^ 52 + (wholeRoot 54 (w / 2 ^ (size w - 107)) + 1) / 2)
+oddTwoLost = packed (λ (w : ℕ). halvings w * 2 ^ 52 + (wholeRoot 54 (w / 2 ^ (size w - 107)) + 1) / 2)
 
 -- the exponent one less than it is, in a subnormal: the square is halved
 abbrev pub subnormalExponent : Float → Answer Float

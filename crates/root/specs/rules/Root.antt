@@ -13,8 +13,8 @@ use Rattle.root.specs.rules.Whole.{wholeRoot}
 -- leading one goes into the exponent's field.
 unfoldable pub rootPattern : ℕ → ℕ
 rootPattern w =
-    let places = (size w - 107) / 2 in
-    places * 2 ^ 52 + (wholeRoot 54 (w / 2 ^ (2 * places)) + 1) / 2
+    let halvings = (size w - 107) / 2 in
+    halvings * 2 ^ 52 + (wholeRoot 54 (w / 2 ^ (2 * halvings)) + 1) / 2
 
 -- of a finite double above zero; a zero is its own root, sign and all
 unfoldable pub rootOf : Float → Float

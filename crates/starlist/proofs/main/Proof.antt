@@ -6,7 +6,7 @@ use lib.ListN.{length}
 use lib.Seq.{length-take-le}
 use Rattle.double.specs.laws.Calls.{asks-nothing}
 use Rattle.text_sheet.specs.rules.Render.{bytesOf}
-use Rattle.text_sheet.specs.declared.Written.{Written}
+use Rattle.text_sheet.specs.declared.Sheet.{Sheet}
 use Rattle.starlist.proofs.main.Statement.{statement}
 use Rattle.starlist.proofs.main.Tie as tie
 
@@ -26,7 +26,7 @@ enum-known-k : tie.Need-enum-known-k
 enum-known-k c = search needs
 
 array-share-prefix-out : tie.Need-array-share-prefix-out
-array-share-prefix-out c = subst (λ (w : Written). bytesOf w ≤ length (c .before .before .before .before .render .last .1 .0)) (c .before .k .given .1) (c .before .before .before .before .render .ensures .1 .1)
+array-share-prefix-out c = subst (λ (w : Sheet). bytesOf w ≤ length (c .before .before .before .before .render .last .1 .0)) (c .before .k .given .1) (c .before .before .before .before .render .ensures .1 .1)
 
 slice-aggregate-write : tie.Need-slice-aggregate-write
 slice-aggregate-write c = sym (length-take-le _ _ (array-share-prefix-out (c .before)))

@@ -1,23 +1,23 @@
--- `text_answers::put_stars` meets its contract: after i turns the first i stars are written.
+-- `text_answers::put_stars` meets its contract: after i passes the first i stars are written.
 use borrow.Author.Needs.{needs}
 use Prim.Native.Nat.{_-_}
 use Rattle.double.specs.laws.Calls.{asks-nothing}
 use Rattle.text_answers.specs.rules.Answers.{lentLine}
 use Rattle.lent.specs.notions.Walk.{Walked}
-use Rattle.lent.specs.laws.Walk.{begun, turned, ended, stays}
+use Rattle.lent.specs.laws.Walk.{begun, passed, ended, stays}
 use Rattle.text_answers.proofs.put_stars.Statement.{statement}
 use Rattle.text_answers.proofs.put_stars.Tie as tie
 
 abbrev Inv-loop : tie.InvT-loop
-Inv-loop out₀ at style bytes status asc dec n place₀ i₀ out place i = Walked out₀ at n (lentLine style bytes status asc dec) out place i
+Inv-loop out₀ at style bytes status asc dec n offset₀ i₀ out offset i = Walked out₀ at n (lentLine style bytes status asc dec) out offset i
 
 abbrev μ-loop : tie.MeasureT-loop
-μ-loop out₀ at style bytes status asc dec n place₀ i₀ out place i = n - i
+μ-loop out₀ at style bytes status asc dec n offset₀ i₀ out offset i = n - i
 
 loop-again : tie.Need-loop-again Inv-loop μ-loop
 loop-again c =
-    let turn = c .before .before .before .before in
-    turned (turn .before .loop .inv) (turn .loop-test .taken) (c .before .before .put-nth .ensures)
+    let pass = c .before .before .before .before in
+    passed (pass .before .loop .inv) (pass .loop-test .taken) (c .before .before .put-nth .ensures)
 
 pub put-stars-spec : {M : Type 1} → statement M
 put-stars-spec =

@@ -9,7 +9,7 @@ use Rattle.quantity.specs.declared.Rad.{Rad}
 use Rattle.quantity.specs.rules.Angle.{rad}
 use Rattle.quantity.specs.rules.Refusal.{lower}
 use Rattle.edition.specs.declared.Edition.{Edition}
-use Rattle.edition.specs.rules.Edition.{chosen}
+use Rattle.edition.specs.rules.Edition.{byEdition}
 use Rattle.transit.specs.rules.Observer.{planRefusal, plannedOf}
 use Rattle.lent.specs.rules.Texts.{texts}
 use Rattle.list.specs.rules.Stars.{countOf, nth}
@@ -39,7 +39,7 @@ headingText = ascii "      star  right ascension  declination\n             h  m
 
 -- past files go by the crate's edition, so that it stays unsaid
 unfoldable pub editionText : Edition → List ℕ
-editionText edition = chosen edition [] (ascii "edition published" ++ (lineEnd ∷ []))
+editionText edition = byEdition edition [] (ascii "edition published" ++ (lineEnd ∷ []))
 
 abbrev pub headText : Style → Edition → List ℕ
 headText Lines edition = editionText edition
@@ -84,7 +84,7 @@ lentLine style s status asc dec i = starText style (nth s i .number) (getD statu
 
 unfoldable pub answersText : Style → Edition → List ℕ → List ℕ → List ℕ → List ℕ → ℕ → Tally → List ℕ
 answersText style edition s status asc dec refusal tally =
-    let no = refusalIn style refusal in
-    cond (eqb no 0)
+    let stated = refusalIn style refusal in
+    cond (eqb stated 0)
     (headText style edition ++ (texts (countOf s) (lentLine style s status asc dec) ++ footText style tally))
-    (refusedIn style no)
+    (refusedIn style stated)

@@ -8,7 +8,7 @@ use Prim.Native.Nat.{ℕ, _-_}
 use native.Mathlib.Omega.{arith}
 use lib.ListN.{length, take, drop, length-drop}
 use lib.Seq.{take-length}
-use Rattle.text_degrees.specs.laws.Degrees.{nothing-written, by-first-byte}
+use Rattle.text_degrees.specs.laws.Degrees.{no-angle, by-first-byte}
 use Rattle.text_degrees.proofs.read.Statement.{statement}
 use Rattle.text_degrees.proofs.read.Tie as tie
 
@@ -19,7 +19,7 @@ rest text =
     ∙ take-length (drop 1 text)
 
 returns : tie.Need-returns
-returns c = sym (nothing-written (c .before .before .args .text .now) (c .if1 .taken))
+returns c = sym (no-angle (c .before .before .args .text .now) (c .if1 .taken))
 
 shared-slice-read-if2 : tie.Need-shared-slice-read-if2
 shared-slice-read-if2 c = search needs
@@ -40,7 +40,7 @@ returns-2 c =
     let c5 = c3 .before .before in
     let text = c5 .before .before .args .text .now in
     rw (by-first-byte text (omega (arith, c5 .if1 .left)), eq-eqb _ _ (c3 .if2 .taken))
-    (rw (c1 .read .ensures, rest text) at (c .signed .ensures))
+    (rw (c1 .read .ensures, rest text) at (c .with-sign .ensures))
 
 shared-slice-read-if3 : tie.Need-shared-slice-read-if3
 shared-slice-read-if3 c = search needs
@@ -62,7 +62,7 @@ returns-3 c =
     let c7 = c5 .before .before in
     let text = c7 .before .before .args .text .now in
     rw (by-first-byte text (omega (arith, c7 .if1 .left)), ne-eqb _ _ (c5 .if2 .left), eq-eqb _ _ (c3 .if3 .taken))
-    (rw (c1 .read2 .ensures, rest text) at (c .signed2 .ensures))
+    (rw (c1 .read2 .ensures, rest text) at (c .with-sign2 .ensures))
 
 returns-4 : tie.Need-returns-4
 returns-4 c =
@@ -72,7 +72,7 @@ returns-4 c =
     let c6 = c4 .before .before in
     let text = c6 .before .before .args .text .now in
     rw (by-first-byte text (omega (arith, c6 .if1 .left)), ne-eqb _ _ (c4 .if2 .left), ne-eqb _ _ (c2 .if3 .left))
-    (rw (c1 .read3 .ensures) at (c .signed3 .ensures))
+    (rw (c1 .read3 .ensures) at (c .with-sign3 .ensures))
 
 pub read-spec : {M : Type 1} → statement M
 read-spec =

@@ -4,13 +4,13 @@ use mathlib.Core.Bool.{false, cond}
 use mathlib.Core.List.{List, [], _∷_}
 use lib.Dec.{eqb}
 use Rattle.text_number.specs.rules.Bytes.{minusSign}
-use Rattle.text_day.specs.rules.Day.{dayRule}
-use Rattle.text_degrees.specs.rules.Degrees.{Angle, unclear, signed, degreesRule}
+use Rattle.text_decimal.specs.rules.Decimal.{decimalRule}
+use Rattle.text_degrees.specs.rules.Degrees.{Angle, unclear, withSign, degreesRule}
 
 -- passed over
 abbrev pub minusLost : List ℕ → Angle
 minusLost [] = unclear
-minusLost (b ∷ text) = cond (eqb b minusSign) (signed false (dayRule text)) (degreesRule (b ∷ text))
+minusLost (b ∷ text) = cond (eqb b minusSign) (withSign false (decimalRule text)) (degreesRule (b ∷ text))
 
 -- one sign after the other
 abbrev pub twoSigns : List ℕ → Angle

@@ -7,26 +7,26 @@ use Rattle.double.specs.rules.Sign.{negatedIf}
 use Rattle.quantity.specs.declared.Deg.{Deg}
 use Rattle.quantity.specs.rules.Angle.{deg}
 use Rattle.text_number.specs.rules.Bytes.{plusSign, minusSign}
-use Rattle.text_day.specs.rules.Day.{Reading, is, none, dayRule}
-use Rattle.text_degrees.specs.declared.Written.{Written}
-use Rattle.text_degrees.specs.declared.Written.the-variants.{Are, Unclear}
+use Rattle.text_decimal.specs.rules.Decimal.{Reading, is, none, decimalRule}
+use Rattle.text_degrees.specs.declared.ReadDegrees.{ReadDegrees}
+use Rattle.text_degrees.specs.declared.ReadDegrees.the-variants.{Are, Unclear}
 
 pub data Angle : Type 0 where
   of : Deg → Angle
   unclear : Angle
 
-abbrev pub shownWritten : Written → Angle
-shownWritten (Are x) = of x
-shownWritten Unclear = unclear
+abbrev pub shownReadDegrees : ReadDegrees → Angle
+shownReadDegrees (Are x) = of x
+shownReadDegrees Unclear = unclear
 
 -- the number behind a sign
-unfoldable pub signed : Bool → Reading → Angle
-signed minus (is x) = of (deg (negatedIf minus x))
-signed minus none = unclear
+unfoldable pub withSign : Bool → Reading → Angle
+withSign minus (is x) = of (deg (negatedIf minus x))
+withSign minus none = unclear
 
 unfoldable pub degreesRule : List ℕ → Angle
 degreesRule [] = unclear
 degreesRule (b ∷ text) =
     cond (eqb b minusSign)
-    (signed true (dayRule text))
-    (cond (eqb b plusSign) (signed false (dayRule text)) (signed false (dayRule (b ∷ text))))
+    (withSign true (decimalRule text))
+    (cond (eqb b plusSign) (withSign false (decimalRule text)) (withSign false (decimalRule (b ∷ text))))

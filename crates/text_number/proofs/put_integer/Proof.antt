@@ -6,7 +6,7 @@ use mir.Syntax.{w32}
 use mir.Val.{toZ, ofZ}
 use mir.Facts.{toZ-ofZ}
 use Rattle.double.specs.laws.Calls.{asks-nothing}
-use Rattle.list_words.specs.rules.Signed.{negative}
+use Rattle.signed.specs.rules.Signed.{negative}
 use Rattle.lent.specs.laws.Writing.{same}
 use Rattle.text_number.specs.rules.Number.{signedText, integerText}
 use Rattle.text_number.proofs.put_integer.Statement.{statement}

@@ -9,7 +9,7 @@ use lib.Dec.{ltb}
 use lib.IntN.{ℤ, natAbs}
 use lib.ListN.{length, length-append}
 use borrow.Author.Tests.{ltb-false}
-use Rattle.list_words.specs.rules.Signed.{negative}
+use Rattle.signed.specs.rules.Signed.{negative}
 use Rattle.text_number.specs.rules.Bytes.{lineEnd, digit0}
 use Rattle.text_number.specs.rules.Number.{decimalIn, decimalText, signedText, integerText, hexDigit, hexIn}
 use Rattle.text_number.specs.rules.Refused.{refusedWord, refusedText}

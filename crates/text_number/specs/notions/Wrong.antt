@@ -3,7 +3,7 @@ use Prim.Native.Nat.{ℕ, _/_}
 use mathlib.Core.Bool.{cond}
 use mathlib.Core.List.{List, [], _∷_, _++_}
 use lib.IntN.{ℤ, natAbs}
-use Rattle.list_words.specs.rules.Signed.{negative}
+use Rattle.signed.specs.rules.Signed.{negative}
 use Rattle.text_number.specs.rules.Bytes.{ascii, space}
 use Rattle.text_number.specs.rules.Number.{decimalText}
 use Rattle.text_number.specs.rules.Refused.{refusedWord}

@@ -4,7 +4,7 @@ use mathlib.Core.Bool.{Bool, cond}
 use mathlib.Core.List.{List, [], _∷_, _++_}
 use lib.Dec.{ltb}
 use lib.IntN.{ℤ, natAbs}
-use Rattle.list_words.specs.rules.Signed.{negative}
+use Rattle.signed.specs.rules.Signed.{negative}
 use Rattle.text_number.specs.rules.Bytes.{minusSign, digit0, letterA}
 
 -- at most so many digits, with none in front that is 0

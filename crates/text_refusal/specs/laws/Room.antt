@@ -12,24 +12,24 @@ use Rattle.text_number.specs.laws.Number.{any-decimal-short}
 use Rattle.text_refusal.specs.rules.Refusal.{callWords, starWords, refusalText}
 
 -- a text where the test holds, or another
-chosen-short : (k : ℕ) (b : Bool) (t u : List ℕ) → length t ≤ k → length u ≤ k → length (cond b t u) ≤ k
-chosen-short k true t u h g = h
-chosen-short k false t u h g = g
+either-short : (k : ℕ) (b : Bool) (t u : List ℕ) → length t ≤ k → length u ≤ k → length (cond b t u) ≤ k
+either-short k true t u h g = h
+either-short k false t u h g = g
 
 call-words-short : (n : ℕ) → length (callWords n) ≤ 50
 unfolding callWords
 call-words-short n =
-    chosen-short 50 (eqb n 1) _ _ (omega arith)
-    (chosen-short 50 (eqb n 2) _ _ (omega arith)
-    (chosen-short 50 (eqb n 8) _ [] (omega arith) (omega arith)))
+    either-short 50 (eqb n 1) _ _ (omega arith)
+    (either-short 50 (eqb n 2) _ _ (omega arith)
+    (either-short 50 (eqb n 8) _ [] (omega arith) (omega arith)))
 
 star-words-short : (n : ℕ) → length (starWords n) ≤ 44
 unfolding starWords
 star-words-short n =
-    chosen-short 44 (eqb n 4) _ _ (omega arith)
-    (chosen-short 44 (eqb n 7) _ _ (omega arith)
-    (chosen-short 44 (eqb n 9) _ _ (omega arith)
-    (chosen-short 44 (eqb n 14) _ [] (omega arith) (omega arith))))
+    either-short 44 (eqb n 4) _ _ (omega arith)
+    (either-short 44 (eqb n 7) _ _ (omega arith)
+    (either-short 44 (eqb n 9) _ _ (omega arith)
+    (either-short 44 (eqb n 14) _ [] (omega arith) (omega arith))))
 
 pub refusal-short : (n : ℕ) → length (refusalText n) ≤ 123
 unfolding refusalText

@@ -36,7 +36,7 @@ returns c =
     let c11 = c9 .before .before in
     let n = c11 .before .before .before .args .n in
     let left : c9 .left-of-ten .result ≡ 10 - length (decimalText n) =
-    omega (arith, c9 .left-of-ten .ensures, c11 .put-decimal .ensures .place, any-decimal-short n) in
+    omega (arith, c9 .left-of-ten .ensures, c11 .put-decimal .ensures .offset, any-decimal-short n) in
     same (ap (λ (k : ℕ). take k (ascii "          ") ++ decimalText n) left) (after (c6 .put .ensures) (c2 .put-decimal2 .ensures))
 
 pub put-column-spec : {M : Type 1} → statement M

@@ -49,9 +49,9 @@ degrees-short x =
     let y = hundredths (toDegrees x) in
     arc-short (hasMinus y (nearestWhole (size y))) (nearestWhole (size y))
 
-place-short : (asc dec : Rad) → length (placeText asc dec) ≤ 49
+place-text-short : (asc dec : Rad) → length (placeText asc dec) ≤ 49
 unfolding placeText
-place-short asc dec =
+place-text-short asc dec =
     let end : List ℕ = lineEnd ∷ [] in
     omega (
       arith,
@@ -72,7 +72,7 @@ row-short number status asc dec = by-case (eqb status 0)
           length-append (columnText number) (ascii "  " ++ placeText asc dec),
           column-length number,
           any-decimal-short number,
-          place-short asc dec,
+          place-text-short asc dec,
         )
     by-case false =
         omega (

@@ -10,7 +10,7 @@ use Rattle.text_number.specs.notions.Code.{ofText}
 use Rattle.text_row.specs.rules.Place.{hoursText, degreesText}
 use Rattle.text_row.specs.rules.Row.{columnText, rowOf}
 use Rattle.text_row.specs.notions.Computed.{computed}
-use Rattle.text_row.specs.notions.Wrong.{secondsNotCarried, cutNotRounded, degreesForHours, wholeTurnShown, notFolded}
+use Rattle.text_row.specs.notions.Wrong.{secondsNotCarried, cutNotRounded, degreesForHours, wholeTurnPrinted, notFolded}
 use Rattle.text_row.specs.notions.Wrong.{signLost, minusBeforeZero, numberAtTheLeft, refusedStarAsGood}
 
 -- 0.0, 1.0 and −1.0
@@ -50,9 +50,9 @@ pub degrees-for-hours-excluded : degreesForHours radian ≢ hoursText radian
 unfolding computed
 degrees-for-hours-excluded = apart ofText refl
 
-pub whole-turn-shown-excluded : wholeTurnShown belowNone ≢ hoursText belowNone
+pub whole-turn-printed-excluded : wholeTurnPrinted belowNone ≢ hoursText belowNone
 unfolding computed
-whole-turn-shown-excluded = apart ofText refl
+whole-turn-printed-excluded = apart ofText refl
 
 pub not-folded-excluded : notFolded minusRadian ≢ hoursText minusRadian
 unfolding computed

@@ -42,8 +42,8 @@ abbrev pub degreesForHours : Rad → List ℕ
 degreesForHours = hoursBy (λ (x : Rad). nearestWhole (milliarcseconds (toDegrees (withinTwoPI x))))
 
 -- 24:00:00.000
-abbrev pub wholeTurnShown : Rad → List ℕ
-wholeTurnShown = hoursBy (λ (x : Rad). nearestWhole (milliseconds (toDegrees (withinTwoPI x))))
+abbrev pub wholeTurnPrinted : Rad → List ℕ
+wholeTurnPrinted = hoursBy (λ (x : Rad). nearestWhole (milliseconds (toDegrees (withinTwoPI x))))
 
 -- as the chain gives it
 abbrev pub notFolded : Rad → List ℕ

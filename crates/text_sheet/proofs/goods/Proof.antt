@@ -1,4 +1,4 @@
--- `text_sheet::goods` meets its contract: after i turns the first i stars are counted.
+-- `text_sheet::goods` meets its contract: after i passes the first i stars are counted.
 use borrow.Author.Needs.{needs}
 use mathlib.Core.Path.{_≡_, refl, ap, _∙_}
 use mathlib.Core.Bool.{cond}

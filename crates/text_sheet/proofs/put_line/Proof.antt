@@ -6,7 +6,7 @@ use mathlib.Core.List.{List, [], _∷_, _++_, append-assoc}
 use Prim.Native.Nat.{ℕ}
 use lib.IntN.{ℤ}
 use Rattle.double.specs.laws.Calls.{asks-nothing}
-use Rattle.list_words.specs.laws.Signed.{signed-word}
+use Rattle.signed.specs.laws.Signed.{signed-word}
 use Rattle.lent.specs.laws.Writing.{after, same}
 use Rattle.list.specs.rules.Record.{inRange}
 use Rattle.list.specs.declared.Star.{Star}

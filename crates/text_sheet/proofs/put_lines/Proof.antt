@@ -1,25 +1,25 @@
--- `text_sheet::put_lines` meets its contract: after i turns the first i lines are written.
+-- `text_sheet::put_lines` meets its contract: after i passes the first i lines are written.
 use borrow.Author.Needs.{needs}
 use Prim.Native.Nat.{_-_}
 use mathlib.Core.Path.{ap}
 use Rattle.double.specs.laws.Calls.{asks-nothing}
 use Rattle.lent.specs.notions.Walk.{Walked}
 use Rattle.lent.specs.laws.Writing.{same}
-use Rattle.lent.specs.laws.Walk.{begun, turned, ended, stays}
+use Rattle.lent.specs.laws.Walk.{begun, passed, ended, stays}
 use Rattle.text_sheet.specs.rules.Sheet.{line, lineAt}
 use Rattle.text_sheet.proofs.put_lines.Statement.{statement}
 use Rattle.text_sheet.proofs.put_lines.Tie as tie
 
 abbrev Inv-loop : tie.InvT-loop
-Inv-loop out₀ at bytes n place₀ i₀ out place i = Walked out₀ at n (lineAt bytes) out place i
+Inv-loop out₀ at bytes n offset₀ i₀ out offset i = Walked out₀ at n (lineAt bytes) out offset i
 
 abbrev μ-loop : tie.MeasureT-loop
-μ-loop out₀ at bytes n place₀ i₀ out place i = n - i
+μ-loop out₀ at bytes n offset₀ i₀ out offset i = n - i
 
 loop-again : tie.Need-loop-again Inv-loop μ-loop
 loop-again c =
-    let turn = c .before .before .before .before .before in
-    turned (turn .before .loop .inv) (turn .loop-test .taken)
+    let pass = c .before .before .before .before .before in
+    passed (pass .before .loop .inv) (pass .loop-test .taken)
     (same (ap line (c .before .before .before .nth .ensures)) (c .before .before .put-line .ensures))
 
 pub put-lines-spec : {M : Type 1} → statement M

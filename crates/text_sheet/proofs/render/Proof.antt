@@ -10,7 +10,7 @@ use borrow.Author.Tests.{lt-ltb, le-ltb}
 use Rattle.double.specs.laws.Calls.{asks-nothing}
 use Rattle.quantity.specs.rules.Answer.{answered}
 use Rattle.lent.specs.rules.Writing.{Wrote}
-use Rattle.lent.specs.laws.Writing.{whole, kept}
+use Rattle.lent.specs.laws.Writing.{whole, length-kept}
 use Rattle.text_sheet.specs.rules.Sheet.{sheetOf}
 use Rattle.text_sheet.specs.rules.Render.{room}
 use Rattle.text_sheet.specs.laws.Room.{has-room}
@@ -20,7 +20,7 @@ use Rattle.text_sheet.proofs.render.Tie as tie
 -- a sheet written where it has room
 module _ (s old new : List ℕ) (n : ℕ) (w : Wrote old 0 (sheetOf s) new n) (h : length (sheetOf s) ≤ length old) where
   all : n ≡ length (sheetOf s)
-  all = omega (arith, w .place)
+  all = omega (arith, w .offset)
 
   over : new ≡ sheetOf s ++ drop (length (sheetOf s)) old
   over = w .text ∙ whole old 0 (sheetOf s) (omega arith) ∙ ap (λ (k : ℕ). sheetOf s ++ drop k old) (zero-add (length (sheetOf s)))
@@ -39,7 +39,7 @@ returns-2 c =
     let w = c .before .before .put-sheet .ensures in
     let fits : length (sheetOf s) ≤ length (a .out .now) = omega (arith, has-room s (λ i. test .before .before .shared-slice-known .given i .fits), test .if1 .left) in
     let no = le-ltb (length (a .out .now)) room (test .if1 .left) in
-    (simp no (ap answered (all s _ _ _ w fits)), (simp no (over s _ _ _ w fits), omega (arith, all s _ _ _ w fits, kept w)))
+    (simp no (ap answered (all s _ _ _ w fits)), (simp no (over s _ _ _ w fits), omega (arith, all s _ _ _ w fits, length-kept w)))
 
 pub render-spec : {M : Type 1} → statement M
 render-spec = tie.close (tie.spec returns asks-nothing same-length returns-2)

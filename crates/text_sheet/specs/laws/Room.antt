@@ -8,7 +8,7 @@ use lib.IntN.{ℤ, pos, negsuc, natAbs}
 use lib.ListN.{length, length-append}
 use Rattle.lent.specs.rules.Texts.{texts}
 use Rattle.lent.specs.laws.Texts.{texts-short}
-use Rattle.list_words.specs.rules.Signed.{HasWord}
+use Rattle.signed.specs.rules.Signed.{HasWord}
 use Rattle.list.specs.rules.Record.{inRange, width, Fitting}
 use Rattle.list.specs.rules.Stars.{isList, countOf, stars, nth, Bytes}
 use Rattle.list.specs.laws.Stars.{few, length-stars, nth-is}

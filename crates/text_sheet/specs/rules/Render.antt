@@ -7,16 +7,16 @@ use lib.ListN.{length, drop}
 use Rattle.quantity.specs.rules.Answer.{Answer, answered, refused}
 use Rattle.list.specs.rules.Stars.{mostStars}
 use Rattle.text_sheet.specs.rules.Sheet.{sheetOf}
-use Rattle.text_sheet.specs.declared.Written.{Written}
-use Rattle.text_sheet.specs.declared.Written.the-variants.{Bytes, Refused}
+use Rattle.text_sheet.specs.declared.Sheet.{Sheet}
+use Rattle.text_sheet.specs.declared.Sheet.the-variants.{Bytes, Refused}
 
 -- how many bytes were written
-abbrev pub shownWritten : Written → Answer ℕ
-shownWritten (Bytes n) = answered n
-shownWritten (Refused n) = refused n
+abbrev pub shownSheet : Sheet → Answer ℕ
+shownSheet (Bytes n) = answered n
+shownSheet (Refused n) = refused n
 
 -- the same as a number: 0 of a refusal
-abbrev pub bytesOf : Written → ℕ
+abbrev pub bytesOf : Sheet → ℕ
 bytesOf (Bytes n) = n
 bytesOf (Refused n) = 0
 

@@ -1,4 +1,4 @@
--- `text_word::is_word` meets its contract: before each turn the bytes so far are the word's.
+-- `text_word::is_word` meets its contract: before each pass the bytes so far are the word's.
 use borrow.Author.Needs.{needs}
 use mathlib.Core.Path.{_≡_, sym, ap, _∙_}
 use Prim.Native.Nat.{ℕ, _-_, _≤_, _<_}
@@ -28,9 +28,9 @@ shared-slice-read-if2-2 c = search needs
 
 returns-2 : tie.Need-returns-2 Inv-loop μ-loop
 returns-2 c =
-    let turn = c .before .before .before .before in
-    let a = turn .before .before .args in
-    sym (other-byte (a .text .now) (a .word .now) (turn .loop .i) (c .if2 .taken))
+    let pass = c .before .before .before .before in
+    let a = pass .before .before .args in
+    sym (other-byte (a .text .now) (a .word .now) (pass .loop .i) (c .if2 .taken))
 
 add-i : tie.Need-add-i Inv-loop μ-loop
 add-i c = search needs
@@ -40,15 +40,15 @@ loop-less c = search needs
 
 loop-again : tie.Need-loop-again Inv-loop μ-loop
 loop-again c =
-    let turn = c .before .before .before .before in
-    let a = turn .before .before .args in
-    (search needs, one-more (a .text .now) (a .word .now) (turn .loop .i) (turn .loop .inv .1) (c .if2 .left))
+    let pass = c .before .before .before .before in
+    let a = pass .before .before .args in
+    (search needs, one-more (a .text .now) (a .word .now) (pass .loop .i) (pass .loop .inv .1) (c .if2 .left))
 
 returns-3 : tie.Need-returns-3 Inv-loop μ-loop
 returns-3 c =
-    let turn = c .before in
-    let a = turn .before .before .args in
-    sym (every-byte (a .text .now) (a .word .now) (turn .before .if1 .left) (λ k h. turn .loop .inv .1 k (omega (arith, c .loop-test .left))))
+    let pass = c .before in
+    let a = pass .before .before .args in
+    sym (every-byte (a .text .now) (a .word .now) (pass .before .if1 .left) (λ k h. pass .loop .inv .1 k (omega (arith, c .loop-test .left))))
 
 pub is-word-spec : {M : Type 1} → statement M
 is-word-spec =

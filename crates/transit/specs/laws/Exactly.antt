@@ -57,21 +57,21 @@ tests-only false false (refused k) m s n e =
     let r = s k refl in
     (λ p. absurd (omega arith), λ p. absurd (omega arith))
 
-module _ (p : EqPoint) (sidereal : Rad) (place : GeographPoint) (alt : Rad) (none : riseCulmSetRefusal p sidereal place alt ≡ 0) where
+module _ (p : EqPoint) (sidereal : Rad) (site : GeographPoint) (alt : Rad) (none : riseCulmSetRefusal p sidereal site alt ≡ 0) where
   abbrev quotient : Float
-  quotient = arcCosine (rad (p .dec)) (rad (place .lat)) alt
+  quotient = arcCosine (rad (p .dec)) (rad (site .lat)) alt
 
-  only : (n : ℕ) → riseCulmSetRule p sidereal place alt ≡ refused n → (n ≡ 15 → T (lt one quotient)) × (n ≡ 16 → T (lt quotient (neg one)))
+  only : (n : ℕ) → riseCulmSetRule p sidereal site alt ≡ refused n → (n ≡ 15 → T (lt one quotient)) × (n ≡ 16 → T (lt quotient (neg one)))
   unfolding riseCulmSetIn arcIn
   only n e =
-      tests-only (lt one quotient) (lt quotient (neg one)) (arcsineIn quotient) (culminationOf (rad (p .asc)) sidereal (rad (place .long)))
+      tests-only (lt one quotient) (lt quotient (neg one)) (arcsineIn quotient) (culminationOf (rad (p .asc)) sidereal (rad (site .long)))
       (arcsine-refuses quotient) n (rw none at e)
 
-  pub never-rises : riseCulmSetRule p sidereal place alt ≡ refused 15 ↔ T (lt one quotient)
+  pub never-rises : riseCulmSetRule p sidereal site alt ≡ refused 15 ↔ T (lt one quotient)
   unfolding riseCulmSetIn arcIn then
   never-rises = (λ e. only 15 e .0 refl, λ h. rw (none, is-true (lt one quotient) h))
 
-  pub never-sets : riseCulmSetRule p sidereal place alt ≡ refused 16 ↔ T (lt quotient (neg one))
+  pub never-sets : riseCulmSetRule p sidereal site alt ≡ refused 16 ↔ T (lt quotient (neg one))
   unfolding riseCulmSetIn arcIn then
   never-sets =
       (λ e. only 16 e .1 refl, λ h. rw (none, is-false (lt one quotient) (not-above quotient h), is-true (lt quotient (neg one)) h))

@@ -22,16 +22,16 @@ arc-of-minus-one : arcIn (neg one) ≡ answered (rad PI)
 unfolding computed
 arc-of-minus-one = refl
 
-module _ (p : EqPoint) (sidereal : Rad) (place : GeographPoint) (alt : Rad) (none : riseCulmSetRefusal p sidereal place alt ≡ 0) where
+module _ (p : EqPoint) (sidereal : Rad) (site : GeographPoint) (alt : Rad) (none : riseCulmSetRefusal p sidereal site alt ≡ 0) where
   -- rise, culmination and set fall together
-  pub quotient-of-one-answered : arcCosine (rad (p .dec)) (rad (place .lat)) alt ≡ one
-      → riseCulmSetRule p sidereal place alt ≡ fractions (culminationOf (rad (p .asc)) sidereal (rad (place .long))) (rad zero)
+  pub quotient-of-one-answered : arcCosine (rad (p .dec)) (rad (site .lat)) alt ≡ one
+      → riseCulmSetRule p sidereal site alt ≡ fractions (culminationOf (rad (p .asc)) sidereal (rad (site .long))) (rad zero)
   unfolding riseCulmSetIn then
   quotient-of-one-answered q = rw (none, q, arc-of-one)
 
   -- rise and set are half a day from the culmination
-  pub quotient-of-minus-one-answered : arcCosine (rad (p .dec)) (rad (place .lat)) alt ≡ neg one
-      → riseCulmSetRule p sidereal place alt ≡ fractions (culminationOf (rad (p .asc)) sidereal (rad (place .long))) (rad PI)
+  pub quotient-of-minus-one-answered : arcCosine (rad (p .dec)) (rad (site .lat)) alt ≡ neg one
+      → riseCulmSetRule p sidereal site alt ≡ fractions (culminationOf (rad (p .asc)) sidereal (rad (site .long))) (rad PI)
   unfolding riseCulmSetIn then
   quotient-of-minus-one-answered q = rw (none, q, arc-of-minus-one)
 

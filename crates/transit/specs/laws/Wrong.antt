@@ -107,7 +107,7 @@ altitude-steep-excluded = apart (ofAnswer unread) refl
 -- ---- an observer's plan
 
 abbrev onEquator : Observer
-onEquator = record { sidereal = r0; place = equator; alt = r0 }
+onEquator = record { sidereal = r0; site = equator; alt = r0 }
 
 pub status-passed-over-excluded : statusPassedOver 9 r0 r0 onEquator ≢ plannedOf 9 r0 r0 onEquator
 unfolding computed
@@ -126,4 +126,4 @@ degrees-as-radians-excluded = apart (λ (o : Observer). ofRad (o .sidereal)) ref
 
 pub longitude-for-latitude-excluded : longitudeForLatitude none hundred none none ≢ observerInDegrees none hundred none none
 unfolding computed
-longitude-for-latitude-excluded = apart (λ (o : Observer). ofFloat (o .place .lat)) refl
+longitude-for-latitude-excluded = apart (λ (o : Observer). ofFloat (o .site .lat)) refl

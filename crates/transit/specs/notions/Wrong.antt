@@ -20,10 +20,10 @@ use Rattle.transit.specs.declared.Observer.{Observer}
 -- with another arc of its cosine, another culmination, or other fractions of the two
 abbrev by : (Float → Answer Rad) → (Rad → Rad → Rad → Float) → (Float → Rad → Answer Triple) → EqPoint → Rad → GeographPoint → Rad
     → Answer Triple
-by arcOf culmination parts p sidereal place alt =
-    unless (riseCulmSetRefusal p sidereal place alt)
-    (then (arcOf (arcCosine (rad (p .dec)) (rad (place .lat)) alt))
-    (λ (arc : Rad). parts (culmination (rad (p .asc)) sidereal (rad (place .long))) arc))
+by arcOf culmination parts p sidereal site alt =
+    unless (riseCulmSetRefusal p sidereal site alt)
+    (then (arcOf (arcCosine (rad (p .dec)) (rad (site .lat)) alt))
+    (λ (arc : Rad). parts (culmination (rad (p .asc)) sidereal (rad (site .long))) arc))
 
 -- ---- the fractions
 
@@ -83,23 +83,23 @@ arcsineForArccosine = by arcsineIn culminationOf fractions
 
 -- the altitude tested, and that of the horizon taken
 abbrev pub altitudePassedOver : EqPoint → Rad → GeographPoint → Rad → Answer Triple
-altitudePassedOver p sidereal place alt = unless (riseCulmSetRefusal p sidereal place alt) (riseCulmSetIn p sidereal place (rad zero))
+altitudePassedOver p sidereal site alt = unless (riseCulmSetRefusal p sidereal site alt) (riseCulmSetIn p sidereal site (rad zero))
 
 -- ---- the refusals
 
 -- 3 where 4 is meant, for the declination
 abbrev pub declinationNotSteep : EqPoint → Rad → GeographPoint → Rad → Answer Triple
-declinationNotSteep p sidereal place alt =
-    unless (lower (lower (angleRefusal (rad (p .asc))) (latitudeRefusal (rad (p .dec)))) (observerRefusal sidereal place alt))
-    (riseCulmSetIn p sidereal place alt)
+declinationNotSteep p sidereal site alt =
+    unless (lower (lower (angleRefusal (rad (p .asc))) (latitudeRefusal (rad (p .dec)))) (observerRefusal sidereal site alt))
+    (riseCulmSetIn p sidereal site alt)
 
 -- with other refusals of the observer's latitude and of the altitude
 abbrev observed : (Rad → ℕ) → (Rad → ℕ) → EqPoint → Rad → GeographPoint → Rad → Answer Triple
-observed latRefusal altRefusal p sidereal place alt =
+observed latRefusal altRefusal p sidereal site alt =
     unless
     (lower (lower (angleRefusal (rad (p .asc))) (steepRefusal (rad (p .dec))))
-    (lower (lower (angleRefusal (rad (place .long))) (latRefusal (rad (place .lat)))) (lower (angleRefusal sidereal) (altRefusal alt))))
-    (riseCulmSetIn p sidereal place alt)
+    (lower (lower (angleRefusal (rad (site .long))) (latRefusal (rad (site .lat)))) (lower (angleRefusal sidereal) (altRefusal alt))))
+    (riseCulmSetIn p sidereal site alt)
 
 -- 3 where 4 is meant, for the observer's latitude
 abbrev pub latitudeNotSteep : EqPoint → Rad → GeographPoint → Rad → Answer Triple
@@ -113,12 +113,12 @@ altitudeSteep = observed steepRefusal steepRefusal
 
 -- of a star that was refused
 abbrev pub statusPassedOver : ℕ → Rad → Rad → Observer → Answer Triple
-statusPassedOver status asc dec o = riseCulmSetRule (record { asc = asc .0; dec = dec .0 }) (o .sidereal) (o .place) (o .alt)
+statusPassedOver status asc dec o = riseCulmSetRule (record { asc = asc .0; dec = dec .0 }) (o .sidereal) (o .site) (o .alt)
 
 -- degrees taken for radians
 abbrev pub degreesAsRadians : Deg → Deg → Deg → Deg → Observer
 degreesAsRadians sidereal long lat alt =
-    record { sidereal = rad (sidereal .0); place = record { long = long .0; lat = lat .0 }; alt = rad (alt .0) }
+    record { sidereal = rad (sidereal .0); site = record { long = long .0; lat = lat .0 }; alt = rad (alt .0) }
 
 abbrev pub longitudeForLatitude : Deg → Deg → Deg → Deg → Observer
 longitudeForLatitude sidereal long lat alt = observerInDegrees sidereal lat long alt

@@ -1,4 +1,4 @@
--- An observer and his night: the sidereal time at Greenwich at 0h, his place and the standard altitude; and what is planned for him.
+-- An observer and his night: the sidereal time at Greenwich at 0h, his site and the standard altitude; and what is planned for him.
 use Prim.Native.Nat.{ℕ}
 use Rattle.quantity.specs.declared.Deg.{Deg}
 use Rattle.quantity.specs.declared.Rad.{Rad}
@@ -9,17 +9,17 @@ use Rattle.transit.specs.rules.RiseCulmSet.{observerRefusal, riseCulmSet
 use Rattle.transit.specs.declared.Observer.{Observer}
 
 abbrev pub planRefusal : Observer → ℕ
-planRefusal o = observerRefusal (o .sidereal) (o .place) (o .alt)
+planRefusal o = observerRefusal (o .sidereal) (o .site) (o .alt)
 
 -- rise, culmination and set of a star that was given a status, 0 or a refusal, and two angles
 unfoldable pub plannedOf : ℕ → Rad → Rad → Observer → Answer Triple
 plannedOf status asc dec o =
-    unless status (riseCulmSetRule (record { asc = asc .0; dec = dec .0 }) (o .sidereal) (o .place) (o .alt))
+    unless status (riseCulmSetRule (record { asc = asc .0; dec = dec .0 }) (o .sidereal) (o .site) (o .alt))
 
--- a place from its longitude, west positive, and latitude in degrees
-abbrev pub placeInDegrees : Deg → Deg → GeographPoint
-placeInDegrees long lat = record { long = radiansOf long .0; lat = radiansOf lat .0 }
+-- a site from its longitude, west positive, and latitude in degrees
+abbrev pub siteInDegrees : Deg → Deg → GeographPoint
+siteInDegrees long lat = record { long = radiansOf long .0; lat = radiansOf lat .0 }
 
 abbrev pub observerInDegrees : Deg → Deg → Deg → Deg → Observer
 observerInDegrees sidereal long lat alt =
-    record { sidereal = radiansOf sidereal; place = placeInDegrees long lat; alt = radiansOf alt }
+    record { sidereal = radiansOf sidereal; site = siteInDegrees long lat; alt = radiansOf alt }

@@ -26,21 +26,21 @@ fractions culmination arc =
     answered (triple (withinADay (culmination ⊖ part)) (withinADay culmination) (withinADay (culmination ⊕ part)))
 
 unfoldable pub riseCulmSetIn : EqPoint → Rad → GeographPoint → Rad → Answer Triple
-riseCulmSetIn p sidereal place alt =
-    then (arcIn (arcCosine (rad (p .dec)) (rad (place .lat)) alt))
-    (λ (arc : Rad). fractions (culminationOf (rad (p .asc)) sidereal (rad (place .long))) arc)
+riseCulmSetIn p sidereal site alt =
+    then (arcIn (arcCosine (rad (p .dec)) (rad (site .lat)) alt))
+    (λ (arc : Rad). fractions (culminationOf (rad (p .asc)) sidereal (rad (site .long))) arc)
 
 -- of what belongs to the observer and his night: 1; 3; 4 for his latitude
 unfoldable pub observerRefusal : Rad → GeographPoint → Rad → ℕ
-observerRefusal sidereal place alt =
-    lower (lower (angleRefusal (rad (place .long))) (steepRefusal (rad (place .lat))))
+observerRefusal sidereal site alt =
+    lower (lower (angleRefusal (rad (site .long))) (steepRefusal (rad (site .lat))))
     (lower (angleRefusal sidereal) (latitudeRefusal alt))
 
 -- of all arguments: 4 for the declination too
 unfoldable pub riseCulmSetRefusal : EqPoint → Rad → GeographPoint → Rad → ℕ
-riseCulmSetRefusal p sidereal place alt =
-    lower (lower (angleRefusal (rad (p .asc))) (steepRefusal (rad (p .dec)))) (observerRefusal sidereal place alt)
+riseCulmSetRefusal p sidereal site alt =
+    lower (lower (angleRefusal (rad (p .asc))) (steepRefusal (rad (p .dec)))) (observerRefusal sidereal site alt)
 
 abbrev pub riseCulmSetRule : EqPoint → Rad → GeographPoint → Rad → Answer Triple
-riseCulmSetRule p sidereal place alt =
-    unless (riseCulmSetRefusal p sidereal place alt) (riseCulmSetIn p sidereal place alt)
+riseCulmSetRule p sidereal site alt =
+    unless (riseCulmSetRefusal p sidereal site alt) (riseCulmSetIn p sidereal site alt)

@@ -136,8 +136,8 @@ module _ (n w d r : ℕ) (left : n ≡ w * d + r) (few : r < d) where
   raised : d ≤ 2 * r → (2 * ((w + 1) * d) ≤ 2 * n + d) × (2 * n < 2 * ((w + 1) * d) + d)
   raised h = (omega arith, omega arith)
 
-  kept : 2 * r < d → (2 * (w * d) ≤ 2 * n + d) × (2 * n < 2 * (w * d) + d)
-  kept h = (omega arith, omega arith)
+  rounds-down : 2 * r < d → (2 * (w * d) ≤ 2 * n + d) × (2 * n < 2 * (w * d) + d)
+  rounds-down h = (omega arith, omega arith)
 
 not-both : (b : Bool) → T (not b) → T b → ⊥
 not-both true t u = t
@@ -153,7 +153,7 @@ nearest-true (fin false m e) F p q h =
     (by-test (λ (n : ℕ). IsNearest n y) (le half rest-of-y) (w + 1) w
     (λ t. let k = raised (m * up e) w d r left few (half-under rest-of-y r d (down-pos e) parts t) in
     record { finite = tt; plus = tt; under = k .0; over = k .1 })
-    (λ t. let k = kept (m * up e) w d r left few (lt-of-not-le (λ (g : d ≤ 2 * r). not-both (le half rest-of-y) t (half-over rest-of-y r d (down-pos e) parts g))) in
+    (λ t. let k = rounds-down (m * up e) w d r left few (lt-of-not-le (λ (g : d ≤ 2 * r). not-both (le half rest-of-y) t (half-over rest-of-y r d (down-pos e) parts g))) in
     record { finite = tt; plus = tt; under = k .0; over = k .1 }))
   where
     y : Float

@@ -1,11 +1,11 @@
 -- `brundelak::published::brundelak_precess_eq_coords_published` meets its contract.
 use Rattle.double.specs.laws.Calls.{asks-nothing}
-use Rattle.brundelak_handed.specs.laws.Boundary.{told-two}
+use Rattle.brundelak_handed.specs.laws.Boundary.{handed-two}
 use Rattle.brundelak.proofs.published.brundelak_precess_eq_coords_published.Statement.{statement}
 use Rattle.brundelak.proofs.published.brundelak_precess_eq_coords_published.Tie as tie
 
 returns : tie.Need-returns
-returns c = told-two (c .before .before .before .precess-eq-coords .ensures) (c .give-two .ensures)
+returns c = handed-two (c .before .before .before .precess-eq-coords .ensures) (c .hand-two .ensures)
 
 pub brundelak-precess-eq-coords-published-spec : {M : Type 1} → statement M
 brundelak-precess-eq-coords-published-spec = tie.close (tie.spec asks-nothing asks-nothing returns)

@@ -1,8 +1,8 @@
 -- `brundelak::radio::brundelak_radio_star` meets its contract.
 use borrow.Author.Needs.{needs}
 use Rattle.double.specs.laws.Calls.{asks-nothing}
-use Rattle.list_words.specs.laws.Signed.{signed-word}
-use Rattle.brundelak.specs.laws.Radio.{sighted-told, not-sighted-told}
+use Rattle.signed.specs.laws.Signed.{signed-word}
+use Rattle.brundelak.specs.laws.Radio.{received-handed, not-received-handed}
 use Rattle.brundelak.proofs.radio.brundelak_radio_star.Statement.{statement}
 use Rattle.brundelak.proofs.radio.brundelak_radio_star.Tie as tie
 
@@ -15,10 +15,10 @@ enum-known-n c = search needs
 returns : tie.Need-returns
 returns c =
     let c2 = c .before .before in
-    sighted-told (c2 .before .before .star-at .ensures) (c2 .star .given .1) (signed-word (c2 .star .given .0 .0 .dec) (c .struct-told .given .1 .1 .0 .1))
+    received-handed (c2 .before .before .star-at .ensures) (c2 .star .given .1) (signed-word (c2 .star .given .0 .0 .dec) (c .struct-told .given .1 .1 .0 .1))
 
 returns-2 : tie.Need-returns-2
-returns-2 c = not-sighted-told (c .before .before .before .star-at .ensures) (c .before .n .given .1)
+returns-2 c = not-received-handed (c .before .before .before .star-at .ensures) (c .before .n .given .1)
 
 pub brundelak-radio-star-spec : {M : Type 1} → statement M
 brundelak-radio-star-spec = tie.close (tie.spec asks-nothing enum-known-star enum-known-n returns returns-2)

@@ -1,7 +1,7 @@
 -- `brundelak::radio::brundelak_radio_to_list` meets its contract.
 use borrow.Author.Needs.{needs}
 use Rattle.double.specs.laws.Calls.{asks-nothing}
-use Rattle.brundelak.specs.laws.Put.{put-told, not-put-told}
+use Rattle.brundelak.specs.laws.Put.{put-handed, not-put-handed}
 use Rattle.brundelak.proofs.radio.brundelak_radio_to_list.Statement.{statement}
 use Rattle.brundelak.proofs.radio.brundelak_radio_to_list.Tie as tie
 
@@ -15,13 +15,13 @@ same-length : tie.Need-same-length
 same-length c = search needs
 
 returns : tie.Need-returns
-returns c = put-told (c .before .before .before .before .before .radio-to-list .ensures) (c .before .size .given .1)
+returns c = put-handed (c .before .before .before .before .before .radio-to-list .ensures) (c .before .size .given .1)
 
 same-length-2 : tie.Need-same-length-2
 same-length-2 c = search needs
 
 returns-2 : tie.Need-returns-2
-returns-2 c = not-put-told (c .before .before .before .before .before .radio-to-list .ensures) (c .before .n .given .1)
+returns-2 c = not-put-handed (c .before .before .before .before .before .radio-to-list .ensures) (c .before .n .given .1)
 
 pub brundelak-radio-to-list-spec : {M : Type 1} → statement M
 brundelak-radio-to-list-spec = tie.close (tie.spec asks-nothing enum-known-size enum-known-n same-length returns same-length-2 returns-2)

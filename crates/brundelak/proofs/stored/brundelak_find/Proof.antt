@@ -1,8 +1,8 @@
 -- `brundelak::stored::brundelak_find` meets its contract.
 use borrow.Author.Needs.{needs}
 use Rattle.double.specs.laws.Calls.{asks-nothing}
-use Rattle.list_words.specs.laws.Signed.{signed-word}
-use Rattle.brundelak.specs.laws.Stored.{found-told, not-found-told}
+use Rattle.signed.specs.laws.Signed.{signed-word}
+use Rattle.brundelak.specs.laws.Stored.{found-handed, not-found-handed}
 use Rattle.brundelak.proofs.stored.brundelak_find.Statement.{statement}
 use Rattle.brundelak.proofs.stored.brundelak_find.Tie as tie
 
@@ -13,10 +13,10 @@ enum-known-n : tie.Need-enum-known-n
 enum-known-n c = search needs
 
 returns : tie.Need-returns
-returns c = found-told (c .before .before .before .find .ensures) (c .before .i .given .1) (signed-word (c .before .i .given .0 .1 .1 .0) (c .known-told .given .1 .1 .0 .1))
+returns c = found-handed (c .before .before .before .find .ensures) (c .before .i .given .1) (signed-word (c .before .i .given .0 .1 .1 .0) (c .known-told .given .1 .1 .0 .1))
 
 returns-2 : tie.Need-returns-2
-returns-2 c = not-found-told (c .before .before .before .find .ensures) (c .before .n .given .1)
+returns-2 c = not-found-handed (c .before .before .before .find .ensures) (c .before .n .given .1)
 
 pub brundelak-find-spec : {M : Type 1} → statement M
 brundelak-find-spec = tie.close (tie.spec asks-nothing enum-known-i enum-known-n returns returns-2)

@@ -1,4 +1,0 @@
--- What is proved of a day in decimal, for callers to cite. Theorems only.
-pub mod Day
-pub mod Unique
-pub mod Wrong

@@ -1,2 +1,0 @@
--- What a reader must believe of a day in decimal. Definitions only.
-pub mod Day
