@@ -42,7 +42,8 @@
  * Editions: where the ported crate's rule is not Meeus's, the plain name is the crate's, by which past files reproduce, and
  * the name with _published is Meeus's, for new files. Arguments and answers are the same.
  *
- * The archive is x86-64 code and needs nothing of libm; pkg-config brundelak says how to compile and link.
+ * For C99 or later, and C++. The archive, libbrundelak.a, and the shared library, libbrundelak.so, are x86-64 code and need
+ * nothing of libm; pkg-config brundelak says how to compile and link.
  *
  * Floats are assumed to round to nearest and to keep subnormal numbers, as they do where a C program starts; not in one
  * that is linked with -ffast-math, nor after fesetround. Under another rounding, or where subnormals are flushed, answers

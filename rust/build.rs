@@ -1,6 +1,6 @@
-//! Links the archive that `./build` leaves in target/brundelak; it needs nothing else.
+//! Links the archive: that of the folder that BRUNDELAK_LIB names, or the one that stands beside the crate; it needs nothing else.
 use std::env;
-use std::path::PathBuf;
+use std::path::{Path, PathBuf};
 use std::process;
 
 fn main() {
@@ -15,22 +15,45 @@ fn link() -> Result<(), String> {
     if (&arch[..], &os[..]) != ("x86_64", "linux") {
         return Err(format!("the archive is x86-64 code for Linux, and the target is {} {}", arch, os));
     }
-    let folder = match env::var("BRUNDELAK_LIB") {
-        Ok(folder) => PathBuf::from(folder),
-        Err(_) => PathBuf::from(variable("CARGO_MANIFEST_DIR")?).join("../target/brundelak"),
+    let named = env::var_os("BRUNDELAK_LIB").map(PathBuf::from);
+    let folder = match &named {
+        Some(folder) => from_caller(folder)?,
+        None => beside(Path::new(&variable("CARGO_MANIFEST_DIR")?)),
     };
     let archive = folder.join("libbrundelak.a");
-    if !archive.exists() {
+    if !archive.is_file() {
         return Err(format!(
             "{} is missing: run ./build in the repository, or name the folder of the archive by BRUNDELAK_LIB",
             archive.display()
         ));
     }
     println!("cargo:rerun-if-env-changed=BRUNDELAK_LIB");
+    if matches!(&named, Some(folder) if folder.is_relative()) {
+        println!("cargo:rerun-if-env-changed=PWD");
+    }
     println!("cargo:rerun-if-changed={}", archive.display());
     println!("cargo:rustc-link-search=native={}", folder.display());
     println!("cargo:rustc-link-lib=static=brundelak");
     Ok(())
+}
+
+/// The folder of the archive beside the crate: what `install` wrote into share/brundelak/rust has it in lib, the repository where `./build`
+/// leaves it.
+fn beside(own: &Path) -> PathBuf {
+    if own.ends_with("share/brundelak/rust") {
+        own.join("../../../lib")
+    } else {
+        own.join("../target/brundelak")
+    }
+}
+
+/// A folder as the caller of cargo names it. Cargo runs this in the crate's folder, but leaves the caller's in PWD.
+fn from_caller(folder: &Path) -> Result<PathBuf, String> {
+    match env::var_os("PWD") {
+        _ if folder.is_absolute() => Ok(folder.to_path_buf()),
+        Some(here) => Ok(Path::new(&here).join(folder)),
+        None => Err(format!("BRUNDELAK_LIB is {}, from where cargo was called; PWD does not say where that is", folder.display())),
+    }
 }
 
 /// A variable that cargo sets.

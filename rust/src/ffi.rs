@@ -8,6 +8,7 @@ macro_rules! boundary {
             extern "C" { $( pub fn $symbol($($arg: f64,)* $($out: *mut f64),*) -> u8; )* }
         }
         $(
+            #[allow(clippy::too_many_arguments)] // as many as the C function has
             pub fn $name($($arg: f64),*) -> Result<boundary!(@sort $($out)*), Refusal> {
                 $( let mut $out = 0.0; )*
                 let status = unsafe { symbols::$symbol($($arg,)* $(&mut $out),*) };

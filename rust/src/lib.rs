@@ -9,7 +9,7 @@
 //! # fn main() -> Result<(), brundelak::Refusal> {
 //! use brundelak::{chain, coords};
 //! let star = chain::chain(0.7165, 0.8592, 2451545.0, 2462088.69)?;
-//! let hour_angle = coords::hr_angl_frm_observer_long(1.2, 0.785398, star.asc)?;
+//! let hour_angle = coords::hr_angl_frm_observer_long(2.1157, 0.785398, star.asc)?;
 //! let az = coords::az_frm_eq(hour_angle, star.dec, 0.912807)?;
 //! let alt = coords::alt_frm_eq(hour_angle, star.dec, 0.912807)?;
 //! # let _ = (az, alt);

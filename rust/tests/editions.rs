@@ -49,7 +49,7 @@ fn meeus_40_exercise() {
     let place = GeographPoint { long: 0.0, lat: deg(50.0855) };
     let body = EclPoint { long: deg(181.77291666666667), lat: deg(2.290611111111111) };
     let (p, semidiameter) = parallax::topopcent_ecl_coords_by(
-        Published, &body, deg(0.9910277777777778), &place, 0.0, deg(209.76886111111111), deg(23.46688888888889), deg(0.2709722222222222),
+        Published, &body, deg(0.9910277777777778), &place, 0.0, deg(209.7688611111111), deg(23.46688888888889), deg(0.2709722222222222),
     )
     .unwrap();
     near(p.long, deg(181.0 + 48.0 / 60.0 + 5.0 / 3600.0), deg(0.05 / 3600.0));

@@ -3,11 +3,11 @@
 use brundelak::coords::{alt_frm_eq, az_frm_eq, ecl_frm_eq};
 use brundelak::elementary::{cos, sin, tan};
 use brundelak::Refusal;
-use std::f64::consts::{FRAC_PI_2, PI};
+use std::f64::consts::{FRAC_PI_2, FRAC_PI_4, PI, TAU};
 
 const SIGHTS: usize = 40000;
 const AT: [f64; 16] = [
-    0.0, 1e-310, 1e-300, 1e-17, 1e-8, 0.5, 0.785398163397448, 1.57, FRAC_PI_2, PI, 4.71238898038469, 6.283185307179586, 64.0, 1e9,
+    0.0, 1e-310, 1e-300, 1e-17, 1e-8, 0.5, FRAC_PI_4, 1.57, FRAC_PI_2, PI, 4.71238898038469, TAU, 64.0, 1e9,
     f64::INFINITY, f64::NAN,
 ];
 

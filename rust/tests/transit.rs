@@ -42,8 +42,8 @@ fn never_rises_never_sets() {
     // What is tested first.
     assert_eq!(at_midnight(-1.5, 1.5, f64::NAN), Err(Refusal::NotFinite));
     assert_eq!(at_midnight(-1.5, 1.5, 1.6), Err(Refusal::Angle));
-    assert_eq!(at_midnight(-1.5707, 1.5, 0.0), Err(Refusal::Steep));
-    assert_eq!(at_midnight(-1.5, 1.5707, 0.0), Err(Refusal::Steep));
+    assert_eq!(at_midnight(-1.5705, 1.5, 0.0), Err(Refusal::Steep));
+    assert_eq!(at_midnight(-1.5, 1.5705, 0.0), Err(Refusal::Steep));
 }
 
 /// A star that only touches the standard altitude: at its culmination, or half a day from it.

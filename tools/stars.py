@@ -1,0 +1,113 @@
+"""stars.py NAME: prints the stored list (12 bytes a star) of the text of stars on standard input, which messages call by the name. Seconds
+are read as fractions, so that a count of milliarcseconds is exact before it is rounded."""
+import os, re, struct, sys
+from fractions import Fraction
+
+RECORD, MOST_STARS = struct.Struct('<IIi'), 5000
+MOST_BYTES = 10000000
+MARK = b'\xef\xbb\xbf'
+
+
+def say(text):
+    """A message on standard error, where there is one: no other file may have got its number."""
+    if sys.stderr is not None:
+        try:
+            os.write(2, ('make-list: TEXT: %s\n' % text).encode('utf-8', 'backslashreplace'))
+        except OSError:
+            pass
+
+
+def fail(text):
+    say(text)
+    sys.exit(2)
+
+
+def milliarcseconds(units, minutes, seconds, scale):
+    return round((int(units) * 3600 + int(minutes) * 60 + Fraction(seconds)) * 1000 * scale)
+
+
+def angle(unit, words, scale):
+    """Units, minutes and seconds as milliarcseconds, of which a second has 1000 times the scale."""
+    forms = (unit, '[0-9]{1,3}'), ('minutes', '[0-9]{1,2}'), ('seconds', r'[0-9]{1,2}(\.[0-9]{0,30})?')
+    for (name, form), word in zip(forms, words):
+        if not re.fullmatch(form, word):
+            raise ValueError('%r is no number of %s' % (word, name))
+        if name != unit and Fraction(word) >= 60:
+            raise ValueError('%r %s are 60 or more' % (word, name))
+    return milliarcseconds(*words, scale)
+
+
+def parts(words):
+    """The three parts of the angle with which the words begin, and the words after it."""
+    if words and ':' in words[0]:
+        split = words[0].split(':')
+        if len(split) != 3:
+            raise ValueError('%r is no angle of three parts' % words[0])
+        return split, words[1:]
+    if len(words) < 3:
+        raise ValueError('a star is its number, h m s, and d m s')
+    return words[:3], words[3:]
+
+
+def star(words):
+    """A star's number, and its record."""
+    if not re.fullmatch('[0-9]{1,10}', words[0]) or int(words[0]) >= 2 ** 32:
+        raise ValueError('%r is no number of a star' % words[0])
+    hours, rest = parts(words[1:])
+    degrees, _ = parts(rest)
+    asc = angle('hours', hours, 15)
+    if asc >= milliarcseconds(24, 0, 0, 15):
+        raise ValueError('%r is no right ascension below 24 hours' % ' '.join(hours))
+    sign, whole = re.fullmatch('([+-]?)(.*)', degrees[0]).groups()
+    dec = angle('degrees', [whole] + degrees[1:], 1)
+    if dec > milliarcseconds(90, 0, 0, 1):
+        raise ValueError('%r is no declination of at most 90 degrees' % ' '.join(degrees))
+    return int(words[0]), RECORD.pack(int(words[0]), asc, -dec if sign == '-' else dec)
+
+
+def text(name):
+    """The bytes of the text, without its byte-order mark."""
+    if sys.stdin is None:
+        fail('cannot read %s: it is closed' % name)
+    try:
+        with open(0, 'rb') as given:
+            found = given.read(MOST_BYTES + 1)
+    except OSError as why:
+        fail('cannot read %s: %s' % (name, why.strerror))
+    if len(found) > MOST_BYTES:
+        fail('%s has more than %d bytes: it is no text of stars' % (name, MOST_BYTES))
+    return found[len(MARK):] if found.startswith(MARK) else found
+
+
+def stars(name):
+    """The list that a text says. A number that stands twice is named."""
+    out, lines = [], {}
+    for at, line in enumerate(text(name).split(b'\n'), 1):
+        try:
+            words = line.decode('utf-8').split('#')[0].split()
+            if not words:
+                continue
+            number, record = star(words)
+            out.append(record)
+            if len(out) > MOST_STARS:
+                raise ValueError('more than %d stars' % MOST_STARS)
+        except ValueError as why:
+            shown = line[:80].decode('utf-8', 'replace').strip()
+            fail('%s, line %d: %s: %r' % (name, at, 'no text' if isinstance(why, UnicodeError) else why, shown))
+        if lines.setdefault(number, at) != at:
+            say('%s, line %d: the number %d stands in line %d too' % (name, at, number, lines[number]))
+    if not out:
+        fail('%s has no star' % name)
+    return b''.join(out)
+
+
+def main(name):
+    out = stars(name)
+    try:
+        while out:
+            out = out[os.write(1, out):]
+    except OSError as why:
+        fail('cannot keep the list of %s: %s' % (name, why.strerror))
+
+
+main(sys.argv[1])
