@@ -3,7 +3,7 @@ import collections, functools, glob, os, re
 
 ROOT = os.path.join(os.path.dirname(os.path.abspath(__file__)), '..')
 SHEET = 'docs/EVIDENCE.md'
-COLUMNS = ('rule', 'theorem', 'test', 'wrong variant')
+COLUMNS = ('promise', 'rule', 'theorem', 'test', 'wrong variant')
 DEFINED = re.compile(r'^\s*(?:abbrev |unfoldable )?(?:pub )?(?:abbrev |unfoldable )?(?:pub )?(?:record |data )?([^\s:()]+)\s*(?:[({](?:[^(){}]|[({][^(){}]*[)}])*[)}]\s*)*:', re.M)
 
 Row = collections.namedtuple('Row', 'section line title cells')  # cells: a column's words and the names that it cites
@@ -64,7 +64,7 @@ def promised(crate, name):
 
 def place(column, cited):
     """Where a name of a column stands, as (path, line) or (path, None) for a whole file; None where it does not exist."""
-    if column == 'theorem' and '::' in cited:
+    if '::' in cited:
         return promised(*cited.split('::'))
     if column == 'test':
         for path in (cited, os.path.join('crates', cited)):
