@@ -64,6 +64,12 @@ extern "C" {
 #define BRUNDELAK_VERSION_MAJOR 0
 #define BRUNDELAK_VERSION_MINOR 1
 #define BRUNDELAK_VERSION_PATCH 0
+#define BRUNDELAK_VERSION_NUMBER (10000 * BRUNDELAK_VERSION_MAJOR + 100 * BRUNDELAK_VERSION_MINOR + BRUNDELAK_VERSION_PATCH)
+
+/* The version of the archive, or of the shared library, that is linked.
+ *
+ * Returned:  its number, which is BRUNDELAK_VERSION_NUMBER where header and archive are of one version */
+uint32_t brundelak_version(void);
 
 /* The status of brundelak_star where no star is left. */
 #define BRUNDELAK_END 255

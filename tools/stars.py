@@ -1,5 +1,6 @@
-"""stars.py NAME: prints the stored list (12 bytes a star) of the text of stars on standard input, which messages call by the name. Seconds
-are read as fractions, so that a count of milliarcseconds is exact before it is rounded."""
+"""stars.py COMMAND NAME [names]: prints the stored list (12 bytes a star) of the text of stars on standard input, or a line for each star
+that has a name, its number and the name. Messages begin with the command, and call the text by the name. Seconds are read as fractions, so
+that a count of milliarcseconds is exact before it is rounded."""
 import os, re, struct, sys
 from fractions import Fraction
 
@@ -12,7 +13,7 @@ def say(text):
     """A message on standard error, where there is one: no other file may have got its number."""
     if sys.stderr is not None:
         try:
-            os.write(2, ('make-list: TEXT: %s\n' % text).encode('utf-8', 'backslashreplace'))
+            os.write(2, ('%s: TEXT: %s\n' % (sys.argv[1], text)).encode('utf-8', 'backslashreplace'))
         except OSError:
             pass
 
@@ -50,11 +51,11 @@ def parts(words):
 
 
 def star(words):
-    """A star's number, and its record."""
+    """A star's number, its record, and its name."""
     if not re.fullmatch('[0-9]{1,10}', words[0]) or int(words[0]) >= 2 ** 32:
         raise ValueError('%r is no number of a star' % words[0])
     hours, rest = parts(words[1:])
-    degrees, _ = parts(rest)
+    degrees, rest = parts(rest)
     asc = angle('hours', hours, 15)
     if asc >= milliarcseconds(24, 0, 0, 15):
         raise ValueError('%r is no right ascension below 24 hours' % ' '.join(hours))
@@ -62,7 +63,7 @@ def star(words):
     dec = angle('degrees', [whole] + degrees[1:], 1)
     if dec > milliarcseconds(90, 0, 0, 1):
         raise ValueError('%r is no declination of at most 90 degrees' % ' '.join(degrees))
-    return int(words[0]), RECORD.pack(int(words[0]), asc, -dec if sign == '-' else dec)
+    return int(words[0]), RECORD.pack(int(words[0]), asc, -dec if sign == '-' else dec), ' '.join(rest)
 
 
 def text(name):
@@ -80,34 +81,38 @@ def text(name):
 
 
 def stars(name):
-    """The list that a text says. A number that stands twice is named."""
+    """The stars that a text says. A number that stands twice is named."""
     out, lines = [], {}
     for at, line in enumerate(text(name).split(b'\n'), 1):
         try:
             words = line.decode('utf-8').split('#')[0].split()
             if not words:
                 continue
-            number, record = star(words)
-            out.append(record)
+            out.append(star(words))
             if len(out) > MOST_STARS:
                 raise ValueError('more than %d stars' % MOST_STARS)
         except ValueError as why:
             shown = line[:80].decode('utf-8', 'replace').strip()
             fail('%s, line %d: %s: %r' % (name, at, 'no text' if isinstance(why, UnicodeError) else why, shown))
+        number = out[-1][0]
         if lines.setdefault(number, at) != at:
             say('%s, line %d: the number %d stands in line %d too' % (name, at, number, lines[number]))
     if not out:
         fail('%s has no star' % name)
-    return b''.join(out)
+    return out
 
 
-def main(name):
-    out = stars(name)
+def main(command, name, wanted='list'):
+    found = stars(name)
+    if wanted == 'names':
+        out = ''.join('%d %s\n' % (number, called) for number, _, called in found if called).encode('utf-8')
+    else:
+        out = b''.join(record for _, record, _ in found)
     try:
         while out:
             out = out[os.write(1, out):]
     except OSError as why:
-        fail('cannot keep the list of %s: %s' % (name, why.strerror))
+        fail('cannot keep the %s of %s: %s' % (wanted, name, why.strerror))
 
 
-main(sys.argv[1])
+main(*sys.argv[1:])

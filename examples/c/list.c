@@ -39,6 +39,10 @@ static uint8_t print_list(const uint8_t *list, size_t len)
 
 int main(void)
 {
+    if (brundelak_version() != BRUNDELAK_VERSION_NUMBER) {
+        fprintf(stderr, "the archive is not of version %s, which the header is of\n", BRUNDELAK_VERSION);
+        return 1;
+    }
     uint8_t list[BRUNDELAK_RECORD_BYTES * STARS], status[STARS], answer;
     double asc[STARS], dec[STARS];
     uint32_t tally[BRUNDELAK_COUNTS];

@@ -132,6 +132,17 @@ mod stored {
     }
 }
 
+mod archive {
+    extern "C" {
+        pub fn brundelak_version() -> u32;
+    }
+}
+
+/// The version of the archive, as its one number.
+pub fn version() -> u32 {
+    unsafe { archive::brundelak_version() }
+}
+
 /// The status of `brundelak_star` where none is left.
 const END: u8 = 255;
 

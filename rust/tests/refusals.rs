@@ -27,3 +27,9 @@ fn a_refusal_says_its_number_and_its_sentence() {
     assert_eq!(steep, Refusal::Steep);
     assert_eq!(steep.to_string(), format!("refused by 4: {}", steep.sentence()));
 }
+
+#[test]
+fn the_archive_is_of_the_crates_version() {
+    let (major, minor, patch) = brundelak::version();
+    assert!(include_str!("../Cargo.toml").contains(&format!("\nversion = \"{}.{}.{}\"\n", major, minor, patch)));
+}

@@ -10,3 +10,4 @@ pub mod refraction; // refraction at the sight
 pub mod stored; // the stored list and the batch
 pub mod published; // the published edition of what has two
 pub mod radio; // lists over the radio link
+pub mod version; // which version the archive is of

@@ -21,17 +21,22 @@ fn day_of(i: usize) -> Decimal {
     text_decimal::read(&text[..n])
 }
 
+// Whether argument i is the word. A missing one, and one of more than 64 bytes, is not.
+fn is_argument(i: usize, word: &[u8]) -> bool {
+    let mut text = [0u8; 64];
+    let n = os::arg(i, &mut text);
+    if os::errno() != 0 {
+        return false;
+    }
+    text_word::is_word(&text[..n], word)
+}
+
 // The edition that argument i names.
 fn edition_of(i: usize) -> Named {
     if os::arg_count() <= i {
         return Named::Is(Edition::Crate);
     }
-    let mut text = [0u8; 64];
-    let n = os::arg(i, &mut text);
-    if os::errno() != 0 {
-        return Named::Unclear;
-    }
-    if text_word::is_word(&text[..n], b"published") {
+    if is_argument(i, b"published") {
         return Named::Is(Edition::Published);
     }
     Named::Unclear
@@ -48,12 +53,7 @@ fn complain(which: &[u8]) {
 
 // Whether the first argument asks for a table.
 fn table_asked() -> bool {
-    let mut text = [0u8; 64];
-    let n = os::arg(1, &mut text);
-    if os::errno() != 0 {
-        return false;
-    }
-    text_word::is_word(&text[..n], b"--table")
+    is_argument(1, b"--table")
 }
 
 // Writes the text, or says that it could not.
@@ -63,13 +63,18 @@ fn write(text: &[u8]) {
     }
 }
 
-// The list in its style, with the days and the edition read.
+// The text of a list in its style.
+fn print_list(style: Style, edition: Edition, bytes: &[u8], day1: f64, day2: f64) {
+    let mut out = [0u8; report::ROOM];
+    let k = report::put_report(&mut out, style, edition, bytes, day1, day2);
+    write(&out[..k]);
+}
+
+// The list on standard input, with the days and the edition read.
 fn print(style: Style, edition: Edition, day1: f64, day2: f64) {
     let mut input = [0u8; list::READ];
     let n = io::read_full(0, &mut input);
-    let mut out = [0u8; report::ROOM];
-    let k = report::put_report(&mut out, style, edition, &input[..n], day1, day2);
-    write(&out[..k]);
+    print_list(style, edition, &input[..n], day1, day2);
 }
 
 // A table, or lines.

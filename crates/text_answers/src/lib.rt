@@ -1,4 +1,4 @@
-// The text of a list's answers, star by star, in one of three styles. Promised: every byte of it, as far as there is room. What is
+// The text of a list's answers, star by star, in one of four styles. Promised: every byte of it, as far as there is room. What is
 // printed was worked out before: a status and two angles a star, each angle lent as its bits, a refusal of all and a tally.
 ghost use Prim.Native.Nat.{_+_};
 ghost use mathlib.Core.Path.{_≡_};
@@ -7,18 +7,19 @@ ghost use Rattle.lent.specs.rules.Writing.{Wrote};
 ghost use Rattle.lent.specs.rules.Texts.{texts};
 ghost use Rattle.list.specs.rules.Stars.{countOf};
 ghost use Rattle.list_tally.specs.rules.Status.{highestStatus};
-ghost use Rattle.text_answers.specs.rules.Answers.{starText, editionText, headingText, headText, countText, countAt, tallyText, footText};
+ghost use Rattle.text_answers.specs.rules.Answers.{starText, editionText, headingIn, headText, countText, countAt, tallyText, footText};
 ghost use Rattle.text_answers.specs.rules.Answers.{refusalIn, refusedIn, angleAt, lentLine, answersText};
 use edition::Edition;
 use list_tally::Tally;
 use quantity::Rad;
 use transit::Observer;
 
-// What is written of a star: its angles, and a tally of all; a row of a table; or its plan for an observer.
+// What is written of a star: its angles, and a tally of all, or a row of a table; its plan for an observer, in a line or in a row.
 pub enum Style {
     Lines,
     Table,
     Plan(Observer),
+    PlanTable(Observer),
 }
 
 // How many statuses are known.
@@ -63,6 +64,12 @@ fn put_star(
         Style::Lines => text_line::put_line(out, at, number, status, asc, dec),
         Style::Table => text_row::put_row(out, at, number, status, asc, dec),
         Style::Plan(o) => text_time::put_line(
+            out,
+            at,
+            number,
+            transit::planned(status, asc, dec, o),
+        ),
+        Style::PlanTable(o) => text_row::put_plan_row(
             out,
             at,
             number,
@@ -132,29 +139,32 @@ fn put_edition(out: &mut [u8], edition: Edition) -> usize
     }
 }
 
-// The table's heading.
-fn put_heading(out: &mut [u8], at: usize) -> usize
-    ensures { λ r. ⌜ Wrote (now (out .entry)) at headingText (now (out .exit)) r ⌝ }
+// A table's heading.
+fn put_heading(out: &mut [u8], at: usize, style: Style) -> usize
+    ensures { λ r. ⌜ Wrote (now (out .entry)) at (headingIn style) (now (out .exit)) r ⌝ }
 {
-    lent::put(
-        out,
-        at,
-        b"      star  right ascension  declination\n             h  m  s           d  '  \"\n",
-    )
+    match style {
+        Style::Lines => lent::within(at, out.len()),
+        Style::Table => lent::put(
+            out,
+            at,
+            b"      star  right ascension  declination\n             h  m  s           d  '  \"\n",
+        ),
+        Style::Plan(_) => lent::within(at, out.len()),
+        Style::PlanTable(_) => lent::put(
+            out,
+            at,
+            b"      star  rise      culmination  set\n             h  m  s   h  m  s      h  m  s\n",
+        ),
+    }
 }
 
 // What stands before the stars.
 fn put_head(out: &mut [u8], style: Style, edition: Edition) -> usize
     ensures { λ r. ⌜ Wrote (now (out .entry)) 0 (headText style edition) (now (out .exit)) r ⌝ }
 {
-    match style {
-        Style::Lines => put_edition(out, edition),
-        Style::Table => {
-            let a = put_edition(out, edition);
-            put_heading(out, a)
-        }
-        Style::Plan(_) => 0,
-    }
+    let a = put_edition(out, edition);
+    put_heading(out, a, style)
 }
 
 // The count of one status.
@@ -196,6 +206,7 @@ fn put_foot(out: &mut [u8], at: usize, style: Style, tally: Tally) -> usize
         Style::Lines => put_tally(out, at, tally),
         Style::Table => lent::within(at, out.len()),
         Style::Plan(_) => lent::within(at, out.len()),
+        Style::PlanTable(_) => lent::within(at, out.len()),
     }
 }
 
@@ -209,6 +220,7 @@ fn refusal_in(style: Style, n: u8) -> u8
         Style::Lines => n,
         Style::Table => n,
         Style::Plan(o) => quantity::lower(n, transit::plan_refusal(o)),
+        Style::PlanTable(o) => quantity::lower(n, transit::plan_refusal(o)),
     }
 }
 
@@ -220,6 +232,7 @@ fn put_refused(out: &mut [u8], style: Style, n: u8) -> usize
         Style::Lines => text_number::put_refused(out, 0, n),
         Style::Table => text_refusal::put_refusal(out, 0, n),
         Style::Plan(_) => text_number::put_refused(out, 0, n),
+        Style::PlanTable(_) => text_refusal::put_plan_refusal(out, 0, n),
     }
 }
 

@@ -1,13 +1,16 @@
-// A star's row of the table that `reduce --table` prints: its number, then its right ascension in hours and its declination in degrees,
-// or its refusal in words. Promised: every byte of it, each angle rounded once.
+// A star's row of the tables that `reduce --table` and `plan --table` print: its number, then its right ascension in hours and its
+// declination in degrees, or its rise, culmination and set, or its refusal in words. Promised: every byte of it, each angle rounded once.
 ghost use Prim.Native.Nat.{_-_};
 ghost use mathlib.Core.Path.{_≡_};
 ghost use Rattle.lent.specs.rules.Writing.{Wrote};
 ghost use Rattle.text_row.specs.rules.Place.{milliseconds, millisecondsOf, threeDigits, hoursText, hundredths, signOf, arcText, degreesText};
+ghost use Rattle.quantity.specs.rules.Answer.{shownThree};
 ghost use Rattle.text_row.specs.rules.Row.{columnText, placeText, rowOf};
+ghost use Rattle.text_row.specs.rules.PlanRow.{timesRow, whyRow, outcomeRow, planRow};
 use helpers::angle;
 use quantity::Deg;
 use quantity::Rad;
+use quantity::Three;
 
 // ---- a right ascension
 
@@ -122,4 +125,47 @@ pub fn put_row(out: &mut [u8], at: usize, number: u32, status: u8, asc: Rad, dec
         return put_place(out, b, asc, dec);
     }
     text_refusal::put_refusal(out, b, status)
+}
+
+// ---- a star in a plan
+
+// The three times.
+fn put_times(out: &mut [u8], at: usize, rise: f64, culmination: f64, set: f64) -> usize
+    ensures { λ r. ⌜ Wrote (now (out .entry)) at (timesRow rise culmination set) (now (out .exit)) r ⌝ }
+{
+    let a = text_time::put_time(out, at, rise);
+    let b = lent::put(out, a, b"  ");
+    let c = text_time::put_time(out, b, culmination);
+    let d = lent::put(out, c, b"     ");
+    let e = text_time::put_time(out, d, set);
+    lent::put_byte(out, e, b'\n')
+}
+
+// Why there are none.
+fn put_why(out: &mut [u8], at: usize, n: u8) -> usize
+    ensures { λ r. ⌜ Wrote (now (out .entry)) at (whyRow n) (now (out .exit)) r ⌝ }
+{
+    if n < 15 {
+        return text_refusal::put_refusal(out, at, n);
+    }
+    text_time::put_why(out, at, n)
+}
+
+// What a plan's row says of a star.
+fn put_outcome(out: &mut [u8], at: usize, a: Three) -> usize
+    ensures { λ r. ⌜ Wrote (now (out .entry)) at (outcomeRow (shownThree a)) (now (out .exit)) r ⌝ }
+{
+    match a {
+        Three::Are(rise, culmination, set) => put_times(out, at, rise, culmination, set),
+        Three::Refused(n) => put_why(out, at, n),
+    }
+}
+
+// A star's row in a plan.
+pub fn put_plan_row(out: &mut [u8], at: usize, number: u32, a: Three) -> usize
+    ensures { λ r. ⌜ Wrote (now (out .entry)) at (planRow number (shownThree a)) (now (out .exit)) r ⌝ }
+{
+    let b = put_column(out, at, number);
+    let c = lent::put(out, b, b"  ");
+    put_outcome(out, c, a)
 }

@@ -39,7 +39,7 @@ pub fn put_clock(out: &mut [u8], at: usize, n: u64) -> usize
 }
 
 // A fraction of a day likewise.
-fn put_time(out: &mut [u8], at: usize, x: f64) -> usize
+pub fn put_time(out: &mut [u8], at: usize, x: f64) -> usize
     ensures { λ r. ⌜ Wrote (now (out .entry)) at (timeText x) (now (out .exit)) r ⌝ }
 {
     put_clock(out, at, seconds_of(x))
@@ -65,7 +65,7 @@ fn put_times(out: &mut [u8], at: usize, rise: f64, culmination: f64, set: f64) -
 }
 
 // Why there are none.
-fn put_why(out: &mut [u8], at: usize, n: u8) -> usize
+pub fn put_why(out: &mut [u8], at: usize, n: u8) -> usize
     ensures { λ r. ⌜ Wrote (now (out .entry)) at (whyText n) (now (out .exit)) r ⌝ }
 {
     if n == 15 {

@@ -2,6 +2,7 @@
 use Prim.Native.Nat.{ℕ}
 use mathlib.Core.Path.{refl, ap, _∙_}
 use mathlib.Core.Bool.{false}
+use std.Logic.{_≢_}
 use mathlib.Core.List.{List, [], _∷_}
 use lib.IntN.{pos}
 use lib.Ieee.{inf}
@@ -29,6 +30,7 @@ use Rattle.batch.specs.rules.Batch.{batchRefusal, answersOf}
 use Rattle.brundelak.specs.rules.Stored.{HandedFound, HandedBatch, HandedRaise}
 use Rattle.brundelak.specs.rules.Put.{HandedNumber, HandedPut}
 use Rattle.brundelak.specs.rules.Radio.{HandedOpened, HandedReceived}
+use Rattle.brundelak.specs.rules.Version.{version}
 
 -- star 7 has the right ascension 5, and 0 is left
 pub found-asc-lost-excluded : ¬ HandedFound (answered (record { index = 7; asc = 5; dec = pos 3 })) 0 0 0 (pos 0) 7 0 (pos 3)
@@ -88,3 +90,8 @@ byte-past-the-head-cleared-excluded wrong = apart (λ (l : List ℕ). getD l 3 0
 pub slice-of-a-refused-move-written-excluded : ¬ HandedPut (toList (2 ∷ 0 ∷ 5 ∷ [])) (9 ∷ []) 0 13 0 (0 ∷ []) 0
 unfolding radio.computed
 slice-of-a-refused-move-written-excluded wrong = apart (λ (l : List ℕ). getD l 0 0) refl (wrong .leaves-slice)
+
+-- ---- the version
+
+pub another-version-excluded : 0 ≢ version
+another-version-excluded = apart ofNumber refl

@@ -18,7 +18,7 @@ use Rattle.batch.specs.declared.Batched.{Batched}
 use Rattle.batch.specs.rules.Batch.{batchRefusal, Batch}
 use Rattle.batch.specs.laws.Batch.{tally-is, status-at, asc-read, dec-read}
 use Rattle.text_answers.specs.declared.Style.{Style}
-use Rattle.text_answers.specs.declared.Style.the-variants.{Lines, Table, Plan}
+use Rattle.text_answers.specs.declared.Style.the-variants.{Lines, Table, Plan, PlanTable}
 use Rattle.text_answers.specs.rules.Answers.{headText, footText, refusalIn, refusedIn, lentLine, answersText}
 use Rattle.report.specs.rules.Report.{starLine, starsText, reportOf}
 
@@ -27,6 +27,7 @@ pub not-refused : (style : Style) (n : ℕ) → refusalIn style n ≡ 0 → n �
 not-refused Lines n e = e
 not-refused Table n e = e
 not-refused (Plan o) n e = lower-none n (planRefusal o) e .0
+not-refused (PlanTable o) n e = lower-none n (planRefusal o) e .0
 
 module _ (style : Style) {edition : Edition} {s : List ℕ} {day1 day2 : Float} {status asc dec : List ℕ}
     {r : Batched} {status′ asc′ dec′ : List ℕ}

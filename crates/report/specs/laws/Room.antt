@@ -23,12 +23,13 @@ use Rattle.transit.specs.rules.Observer.{plannedOf}
 use Rattle.text_number.specs.rules.Bytes.{ascii, lineEnd}
 use Rattle.text_number.specs.laws.Number.{any-decimal-short, refused-short}
 use Rattle.text_line.specs.laws.Room.{line-short}
-use Rattle.text_row.specs.laws.Room.{row-short}
+use Rattle.text_row.specs.laws.Room.{row-short, plan-row-short}
 use Rattle.text_time.specs.laws.Room as time
-use Rattle.text_refusal.specs.laws.Room.{refusal-short}
+use Rattle.text_refusal.specs.laws.Room.{refusal-short, plan-refusal-short}
 use Rattle.text_answers.specs.declared.Style.{Style}
-use Rattle.text_answers.specs.declared.Style.the-variants.{Lines, Table, Plan}
-use Rattle.text_answers.specs.rules.Answers.{starText, headingText, editionText, headText, countText, countAt, tallyText, footText, refusedIn}
+use Rattle.text_answers.specs.declared.Style.the-variants.{Lines, Table, Plan, PlanTable}
+use Rattle.text_answers.specs.rules.Answers.{starText, headingText, planHeadingText, editionText, headText, countText, countAt, tallyText}
+use Rattle.text_answers.specs.rules.Answers.{footText, refusedIn}
 use Rattle.report.specs.rules.Report.{starLine, starsText, reportRefusal, reportOf, room}
 use Rattle.report.specs.laws.Report.{not-refused}
 
@@ -38,6 +39,7 @@ star-short : (style : Style) (number status : ℕ) (asc dec : Rad) → length (s
 star-short Lines number status asc dec = omega (arith, line-short number status asc dec)
 star-short Table number status asc dec = row-short number status asc dec
 star-short (Plan o) number status asc dec = omega (arith, time.line-short number (plannedOf status asc dec o))
+star-short (PlanTable o) number status asc dec = plan-row-short number (plannedOf status asc dec o)
 
 edition-short : (edition : Edition) → length (editionText edition) ≤ 18
 unfolding editionText
@@ -58,14 +60,16 @@ tally-short t =
 
 -- a head and a foot together
 around-short : (style : Style) (edition : Edition) (t : Tally) → length (headText style edition) + length (footText style t) ≤ 444
-around-short Lines edition t = omega (arith, edition-short edition, tally-short t)
+around-short Lines edition t = omega (arith, edition-short edition, length-append (editionText edition) [], tally-short t)
 around-short Table edition t = omega (arith, edition-short edition, length-append (editionText edition) headingText)
-around-short (Plan o) edition t = omega arith
+around-short (Plan o) edition t = omega (arith, edition-short edition, length-append (editionText edition) [])
+around-short (PlanTable o) edition t = omega (arith, edition-short edition, length-append (editionText edition) planHeadingText)
 
 refused-short-in : (style : Style) (n : ℕ) → length (refusedIn style n) ≤ 444
 refused-short-in Lines n = omega (arith, refused-short n)
 refused-short-in Table n = omega (arith, refusal-short n)
 refused-short-in (Plan o) n = omega (arith, refused-short n)
+refused-short-in (PlanTable o) n = omega (arith, plan-refusal-short n)
 
 -- ---- the whole
 

@@ -10,10 +10,11 @@ use Rattle.quantity.specs.notions.Stated.{r0}
 use Rattle.edition.specs.declared.Edition.the-variants.{Crate, Published}
 use Rattle.transit.specs.declared.Observer.{Observer}
 use Rattle.text_number.specs.notions.Code.{ofText}
-use Rattle.text_answers.specs.declared.Style.the-variants.{Table, Plan}
+use Rattle.text_answers.specs.declared.Style.the-variants.{Table, Plan, PlanTable}
 use Rattle.report.specs.rules.Report.{reportOf}
 use Rattle.report.specs.notions.Computed.{computed}
 use Rattle.report.specs.notions.Wrong.{eightBeforeThree, observerNotRefused, refusedAsEmpty, editionUnsaid}
+use Rattle.report.specs.notions.Wrong.{headingOfPlaces, observerWithoutWords}
 
 -- no star, and a byte that is no list
 abbrev empty : List ℕ
@@ -22,7 +23,10 @@ empty = []
 abbrev damaged : List ℕ
 damaged = 0 ∷ []
 
--- a latitude of 2.0 radians
+-- all angles 0.0, and a latitude of 2.0 radians
+abbrev atNone : Observer
+atNone = record { sidereal = r0; site = record { long = zero; lat = zero }; alt = r0 }
+
 abbrev beyondPole : Observer
 beyondPole = record { sidereal = r0; site = record { long = zero; lat = two }; alt = r0 }
 
@@ -38,6 +42,18 @@ pub refused-as-empty-excluded : refusedAsEmpty Table Crate damaged epoch epoch �
 unfolding computed
 refused-as-empty-excluded = apart ofText refl
 
-pub edition-unsaid-excluded : editionUnsaid Published empty epoch epoch ≢ reportOf Table Published empty epoch epoch
+pub edition-unsaid-excluded : editionUnsaid Table Published empty epoch epoch ≢ reportOf Table Published empty epoch epoch
 unfolding computed
 edition-unsaid-excluded = apart ofText refl
+
+pub edition-of-plan-unsaid-excluded : editionUnsaid (Plan atNone) Published empty epoch epoch ≢ reportOf (Plan atNone) Published empty epoch epoch
+unfolding computed
+edition-of-plan-unsaid-excluded = apart ofText refl
+
+pub heading-of-places-excluded : headingOfPlaces (PlanTable atNone) Crate empty epoch epoch ≢ reportOf (PlanTable atNone) Crate empty epoch epoch
+unfolding computed
+heading-of-places-excluded = apart ofText refl
+
+pub observer-without-words-excluded : observerWithoutWords (PlanTable beyondPole) empty epoch epoch ≢ reportOf (PlanTable beyondPole) Crate empty epoch epoch
+unfolding computed
+observer-without-words-excluded = apart ofText refl

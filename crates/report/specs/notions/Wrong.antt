@@ -12,7 +12,7 @@ use Rattle.list.specs.rules.Stars.{mostStars, countOf}
 use Rattle.batch.specs.rules.Batch.{batchRefusal}
 use Rattle.text_answers.specs.declared.Style.{Style}
 use Rattle.text_answers.specs.declared.Style.the-variants.{Table, Plan}
-use Rattle.text_answers.specs.rules.Answers.{headingText, headText, refusedIn}
+use Rattle.text_answers.specs.rules.Answers.{headingText, headingIn, headText, refusedIn}
 use Rattle.report.specs.rules.Report.{starLine, starsText, reportRefusal}
 
 -- a plan with another refusal of the call, of the list's and the observer's
@@ -33,8 +33,20 @@ observerNotRefused = refusedBy (λ (list observer : ℕ). list)
 abbrev pub refusedAsEmpty : Style → Edition → List ℕ → Float → Float → List ℕ
 refusedAsEmpty style edition s day1 day2 = headText style edition
 
--- a table of both editions alike
-abbrev pub editionUnsaid : Edition → List ℕ → Float → Float → List ℕ
-editionUnsaid edition s day1 day2 =
-    let no = reportRefusal Table s day1 day2 in
-    cond (eqb no 0) (headingText ++ texts (countOf s) (starLine Table edition s day1 day2)) (refusedIn Table no)
+-- a style without a foot, with another head
+abbrev headedBy : (Style → List ℕ) → Style → Edition → List ℕ → Float → Float → List ℕ
+headedBy head style edition s day1 day2 =
+    let no = reportRefusal style s day1 day2 in
+    cond (eqb no 0) (head style ++ texts (countOf s) (starLine style edition s day1 day2)) (refusedIn style no)
+
+-- both editions alike
+abbrev pub editionUnsaid : Style → Edition → List ℕ → Float → Float → List ℕ
+editionUnsaid = headedBy headingIn
+
+-- places promised over the times of a plan
+abbrev pub headingOfPlaces : Style → Edition → List ℕ → Float → Float → List ℕ
+headingOfPlaces = headedBy (λ (style : Style). headingText)
+
+-- an observer refused as a list is, so that 3 and 4 are not his
+abbrev pub observerWithoutWords : Style → List ℕ → Float → Float → List ℕ
+observerWithoutWords style s day1 day2 = refusedIn Table (reportRefusal style s day1 day2)

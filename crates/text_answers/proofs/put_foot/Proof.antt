@@ -14,8 +14,11 @@ returns-2 c = same (rw (c .before .enum-told2 .given .1)) (nothing _ _ _ (c .wit
 returns-3 : tie.Need-returns-3
 returns-3 c = same (rw (c .before .enum-told3 .given .1)) (nothing _ _ _ (c .within2 .ensures))
 
+returns-4 : tie.Need-returns-4
+returns-4 c = same (rw (c .before .enum-told4 .given .1)) (nothing _ _ _ (c .within3 .ensures))
+
 pub put-foot-spec : {M : Type 1} → statement M
 put-foot-spec =
     tie.close
     (tie.spec (λ c. search needs) asks-nothing (λ c. search needs) asks-nothing (λ c. search needs) asks-nothing (λ c. search needs)
-    returns returns-2 returns-3)
+    asks-nothing (λ c. search needs) returns returns-2 returns-3 returns-4)

@@ -13,10 +13,20 @@ returns-2 : tie.Need-returns-2
 returns-2 c = same (rw (c .before .before .before .before .enum-told2 .given .1)) (c .before .before .put-row .ensures)
 
 returns-3 : tie.Need-returns-3
-returns-3 c = same (rw (c .before .before .before .before .before .before .style .given .1, c .before .before .before .planned .ensures)) (c .before .before .put-line2 .ensures)
+returns-3 c =
+    let c2 = c .before .before in
+    let c3 = c2 .before in
+    same (rw (c3 .before .before .before .style .given .1, c3 .planned .ensures)) (c2 .put-line2 .ensures)
+
+returns-4 : tie.Need-returns-4
+returns-4 c =
+    let c2 = c .before .before in
+    let c3 = c2 .before in
+    same (rw (c3 .before .before .before .style2 .given .1, c3 .planned2 .ensures)) (c2 .put-plan-row .ensures)
 
 pub put-star-spec : {M : Type 1} → statement M
 put-star-spec =
     tie.close
     (tie.spec (λ c. search needs) asks-nothing (λ c. search needs) asks-nothing (λ c. search needs) asks-nothing asks-nothing
-    (λ c. search needs) returns (λ c. search needs) returns-2 (λ c. search needs) returns-3)
+    (λ c. search needs) asks-nothing asks-nothing (λ c. search needs) returns (λ c. search needs) returns-2 (λ c. search needs) returns-3
+    (λ c. search needs) returns-4)

@@ -20,10 +20,11 @@ use Rattle.text_number.specs.rules.Number.{decimalText}
 use Rattle.text_number.specs.rules.Refused.{refusedText}
 use Rattle.text_line.specs.rules.Line.{lineOf}
 use Rattle.text_row.specs.rules.Row.{rowOf}
+use Rattle.text_row.specs.rules.PlanRow.{planRow}
 use Rattle.text_time.specs.rules.Line.{planLine}
-use Rattle.text_refusal.specs.rules.Refusal.{refusalText}
+use Rattle.text_refusal.specs.rules.Refusal.{refusalText, planRefusalText}
 use Rattle.text_answers.specs.declared.Style.{Style}
-use Rattle.text_answers.specs.declared.Style.the-variants.{Lines, Table, Plan}
+use Rattle.text_answers.specs.declared.Style.the-variants.{Lines, Table, Plan, PlanTable}
 
 -- ---- what differs by the style
 
@@ -32,19 +33,27 @@ abbrev pub starText : Style → ℕ → ℕ → Rad → Rad → List ℕ
 starText Lines number status asc dec = lineOf number status asc dec
 starText Table number status asc dec = rowOf number status asc dec
 starText (Plan o) number status asc dec = planLine number (plannedOf status asc dec o)
+starText (PlanTable o) number status asc dec = planRow number (plannedOf status asc dec o)
 
 -- each unit stands over the last digit of its part
 abbrev pub headingText : List ℕ
 headingText = ascii "      star  right ascension  declination\n             h  m  s           d  '  \"\n"
+
+abbrev pub planHeadingText : List ℕ
+planHeadingText = ascii "      star  rise      culmination  set\n             h  m  s   h  m  s      h  m  s\n"
+
+abbrev pub headingIn : Style → List ℕ
+headingIn Lines = []
+headingIn Table = headingText
+headingIn (Plan o) = []
+headingIn (PlanTable o) = planHeadingText
 
 -- past files go by the crate's edition, so that it stays unsaid
 unfoldable pub editionText : Edition → List ℕ
 editionText edition = byEdition edition [] (ascii "edition published" ++ (lineEnd ∷ []))
 
 abbrev pub headText : Style → Edition → List ℕ
-headText Lines edition = editionText edition
-headText Table edition = editionText edition ++ headingText
-headText (Plan o) edition = []
+headText style edition = editionText edition ++ headingIn style
 
 -- the count of each status from 0 to the highest known
 unfoldable pub countText : ℕ → List ℕ
@@ -60,17 +69,20 @@ abbrev pub footText : Style → Tally → List ℕ
 footText Lines tally = tallyText tally
 footText Table tally = []
 footText (Plan o) tally = []
+footText (PlanTable o) tally = []
 
 -- of a call that the list's reduction refused so: the least number over all arguments
 abbrev pub refusalIn : Style → ℕ → ℕ
 refusalIn Lines n = n
 refusalIn Table n = n
 refusalIn (Plan o) n = lower n (planRefusal o)
+refusalIn (PlanTable o) n = lower n (planRefusal o)
 
 abbrev pub refusedIn : Style → ℕ → List ℕ
 refusedIn Lines n = refusedText n
 refusedIn Table n = refusalText n
 refusedIn (Plan o) n = refusedText n
+refusedIn (PlanTable o) n = planRefusalText n
 
 -- ---- the whole
 

@@ -4,7 +4,7 @@ use mathlib.Core.List.{List, [], _∷_, _++_}
 use Rattle.text_number.specs.rules.Bytes.{lineEnd}
 use Rattle.text_number.specs.rules.Number.{decimalText}
 use Rattle.text_number.specs.rules.Refused.{refusedWord, refusedText}
-use Rattle.text_refusal.specs.rules.Refusal.{callWords, starWords}
+use Rattle.text_refusal.specs.rules.Refusal.{callWords, starWords, refusalText}
 
 -- the number alone
 abbrev pub wordsLost : ℕ → List ℕ
@@ -13,3 +13,7 @@ wordsLost = refusedText
 -- the words of the number after it
 abbrev pub wordsOfAnother : ℕ → List ℕ
 wordsOfAnother n = refusedWord ++ (decimalText n ++ (callWords (suc n) ++ (starWords (suc n) ++ (lineEnd ∷ []))))
+
+-- an observer told to choose another star
+abbrev pub observerAsStar : ℕ → List ℕ
+observerAsStar = refusalText

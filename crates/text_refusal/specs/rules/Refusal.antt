@@ -1,4 +1,4 @@
--- The line of a refusal in words.
+-- The line of a refusal in words: of a reduced list or one of its stars, and of a plan's call.
 use Prim.Native.Nat.{ℕ}
 use mathlib.Core.Bool.{cond}
 use mathlib.Core.List.{List, [], _∷_, _++_}
@@ -22,6 +22,19 @@ starWords n =
     (cond (eqb n 9) (ascii ": the record is damaged")
     (cond (eqb n 14) (ascii ": exactly at the pole: choose another star") [])))
 
--- the number, then the words
+-- what a plan's observer can be refused by; 64 radians are 3666.9 degrees
+unfoldable pub observerWords : ℕ → List ℕ
+observerWords n =
+    cond (eqb n 3) (ascii ": LATITUDE or ALTITUDE is past 90 degrees, or an angle past 3666: check them")
+    (cond (eqb n 4) (ascii ": LATITUDE is within 0.05 degrees of a pole: check it") [])
+
+-- the number, and the words that both calls share
+unfoldable pub numberWords : ℕ → List ℕ
+numberWords n = refusedWord ++ (decimalText n ++ callWords n)
+
 unfoldable pub refusalText : ℕ → List ℕ
-refusalText n = refusedWord ++ (decimalText n ++ (callWords n ++ (starWords n ++ (lineEnd ∷ []))))
+refusalText n = numberWords n ++ (starWords n ++ (lineEnd ∷ []))
+
+-- of a plan's call, where 4 is the observer's and not a star's
+unfoldable pub planRefusalText : ℕ → List ℕ
+planRefusalText n = numberWords n ++ (observerWords n ++ (lineEnd ∷ []))

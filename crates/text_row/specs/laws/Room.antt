@@ -1,27 +1,28 @@
--- A number below 2^32 fills its column of ten, and a row has 145 bytes at most.
+-- A number below 2^32 fills its column of ten, and a row of either table has 145 bytes at most.
 use Prim.Native.Nat.{ℕ, _+_, _-_, _/_, _%_, _≤_, _<_}
 use mathlib.Core.Path.{_≡_}
-use mathlib.Core.Bool.{Bool, true, false, cond}
+use mathlib.Core.Bool.{Bool}
 use mathlib.Core.List.{List, [], _∷_, _++_}
 use native.Mathlib.Omega.{arith}
-use lib.Dec.{eqb}
+use lib.Dec.{eqb, ltb}
 use lib.ListN.{length, length-append, take}
 use lib.Seq.{length-take-le}
 use Rattle.double.specs.rules.Sign.{size}
 use Rattle.quantity.specs.declared.Rad.{Rad}
+use Rattle.quantity.specs.rules.Answer.{Answer, answered, refused, Triple, triple}
 use Rattle.units.specs.rules.Degrees.{toDegrees}
 use Rattle.units.specs.rules.Nearest.{nearestWhole}
 use Rattle.text_number.specs.rules.Bytes.{ascii, lineEnd, point}
 use Rattle.text_number.specs.rules.Number.{decimalText}
 use Rattle.text_number.specs.laws.Number.{decimal-short, any-decimal-short}
 use Rattle.text_line.specs.rules.Angle.{hasMinus}
-use Rattle.text_time.specs.rules.Time.{twoDigits, clockText}
+use Rattle.text_time.specs.rules.Time.{secondsOf, twoDigits, clockText}
 use Rattle.text_time.specs.laws.Clock.{two-digits}
-use Rattle.text_time.specs.laws.Room.{clock-short}
-use Rattle.text_refusal.specs.rules.Refusal.{refusalText}
-use Rattle.text_refusal.specs.laws.Room.{refusal-short}
+use Rattle.text_time.specs.laws.Room.{clock-short, why-short}
+use Rattle.text_refusal.specs.laws.Room.{either-short, refusal-short}
 use Rattle.text_row.specs.rules.Place.{hoursText, hundredths, arcText, degreesText}
 use Rattle.text_row.specs.rules.Row.{columnText, placeText, rowOf}
+use Rattle.text_row.specs.rules.PlanRow.{timesRow, whyRow, outcomeRow, planRow}
 use Rattle.text_row.specs.laws.Place.{hours-twelve-bytes}
 
 column-length : (n : ℕ) → length (columnText n) ≡ (10 - length (decimalText n)) + length (decimalText n)
@@ -61,24 +62,26 @@ place-text-short asc dec =
       degrees-short dec,
     )
 
+-- a number, then such a text
+in-row : (number : ℕ) (t : List ℕ) → length t ≤ 123 → length (columnText number ++ (ascii "  " ++ t)) ≤ 145
+in-row number t h =
+    omega (arith, length-append (columnText number) (ascii "  " ++ t), column-length number, any-decimal-short number)
+
 pub row-short : (number status : ℕ) (asc dec : Rad) → length (rowOf number status asc dec) ≤ 145
 unfolding rowOf
-row-short number status asc dec = by-case (eqb status 0)
-  where
-    by-case : (b : Bool) → length (columnText number ++ (ascii "  " ++ cond b (placeText asc dec) (refusalText status))) ≤ 145
-    by-case true =
-        omega (
-          arith,
-          length-append (columnText number) (ascii "  " ++ placeText asc dec),
-          column-length number,
-          any-decimal-short number,
-          place-text-short asc dec,
-        )
-    by-case false =
-        omega (
-          arith,
-          length-append (columnText number) (ascii "  " ++ refusalText status),
-          column-length number,
-          any-decimal-short number,
-          refusal-short status,
-        )
+row-short number status asc dec =
+    in-row number _
+    (either-short 123 (eqb status 0) _ _ (omega (arith, place-text-short asc dec)) (refusal-short status))
+
+outcome-short : (a : Answer Triple) → length (outcomeRow a) ≤ 123
+unfolding timesRow whyRow
+outcome-short (answered (triple x y z)) =
+    let a = clock-short (secondsOf x) in
+    let b = clock-short (secondsOf y) in
+    let c = clock-short (secondsOf z) in
+    simp length-append (omega arith)
+outcome-short (refused n) = either-short 123 (ltb n 15) _ _ (refusal-short n) (omega (arith, why-short n))
+
+pub plan-row-short : (number : ℕ) (a : Answer Triple) → length (planRow number a) ≤ 145
+unfolding planRow
+plan-row-short number a = in-row number (outcomeRow a) (outcome-short a)

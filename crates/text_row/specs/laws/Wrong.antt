@@ -6,12 +6,15 @@ use Rattle.double.specs.rules.Operations.{bits, zero, one}
 use Rattle.double.specs.laws.Apart.{apart}
 use Rattle.quantity.specs.declared.Rad.{Rad}
 use Rattle.quantity.specs.rules.Angle.{rad}
+use Rattle.quantity.specs.rules.Answer.{Answer, answered, refused, Triple, triple}
 use Rattle.text_number.specs.notions.Code.{ofText}
 use Rattle.text_row.specs.rules.Place.{hoursText, degreesText}
 use Rattle.text_row.specs.rules.Row.{columnText, rowOf}
+use Rattle.text_row.specs.rules.PlanRow.{planRow}
 use Rattle.text_row.specs.notions.Computed.{computed}
 use Rattle.text_row.specs.notions.Wrong.{secondsNotCarried, cutNotRounded, degreesForHours, wholeTurnPrinted, notFolded}
 use Rattle.text_row.specs.notions.Wrong.{signLost, minusBeforeZero, numberAtTheLeft, refusedStarAsGood}
+use Rattle.text_row.specs.notions.Wrong.{riseAndSetTraded, lineInRow, neverRisesAsRefused}
 
 -- 0.0, 1.0 and −1.0
 abbrev origin : Rad
@@ -73,3 +76,19 @@ number-at-the-left-excluded = apart ofText refl
 pub refused-star-as-good-excluded : refusedStarAsGood 1 9 origin origin ≢ rowOf 1 9 origin origin
 unfolding computed
 refused-star-as-good-excluded = apart ofText refl
+
+-- a whole day above the horizon
+abbrev wholeDay : Answer Triple
+wholeDay = answered (triple zero zero one)
+
+pub rise-and-set-traded-excluded : riseAndSetTraded 1 wholeDay ≢ planRow 1 wholeDay
+unfolding computed
+rise-and-set-traded-excluded = apart ofText refl
+
+pub line-in-row-excluded : lineInRow 1 (refused 9) ≢ planRow 1 (refused 9)
+unfolding computed
+line-in-row-excluded = apart ofText refl
+
+pub never-rises-as-refused-excluded : neverRisesAsRefused 1 15 ≢ planRow 1 (refused 15)
+unfolding computed
+never-rises-as-refused-excluded = apart ofText refl

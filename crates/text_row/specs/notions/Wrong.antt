@@ -9,15 +9,18 @@ use Rattle.double.specs.rules.Operations.{zero, _⊖_}
 use Rattle.double.specs.rules.Sign.{size}
 use Rattle.double.specs.rules.Whole.{wholePart, fromWhole}
 use Rattle.quantity.specs.declared.Rad.{Rad}
+use Rattle.quantity.specs.rules.Answer.{Answer, answered, refused, Triple, triple}
 use Rattle.units.specs.rules.Degrees.{toDegrees, milliarcseconds}
 use Rattle.units.specs.rules.Nearest.{nearestWhole}
 use Rattle.helpers.specs.rules.Angle.{withinTwoPI}
 use Rattle.text_number.specs.rules.Bytes.{ascii, colon, point}
 use Rattle.text_number.specs.rules.Number.{decimalText}
 use Rattle.text_time.specs.rules.Time.{twoDigits, clockText}
+use Rattle.text_time.specs.rules.Line.{outcomeText}
 use Rattle.text_refusal.specs.rules.Refusal.{refusalText}
 use Rattle.text_row.specs.rules.Place.{milliseconds, threeDigits, hundredths, arcText}
 use Rattle.text_row.specs.rules.Row.{columnText, placeText}
+use Rattle.text_row.specs.rules.PlanRow.{timesRow}
 
 -- ---- a right ascension
 
@@ -75,3 +78,25 @@ numberAtTheLeft n = decimalText n ++ take (10 - length (decimalText n)) (ascii "
 abbrev pub refusedStarAsGood : ℕ → ℕ → Rad → Rad → List ℕ
 refusedStarAsGood number status asc dec =
     columnText number ++ (ascii "  " ++ cond (eqb status 9) (placeText asc dec) (refusalText status))
+
+-- ---- a row in a plan
+
+-- with another text of what was found
+abbrev rowBy : (Answer Triple → List ℕ) → ℕ → Answer Triple → List ℕ
+rowBy text number a = columnText number ++ (ascii "  " ++ text a)
+
+-- the set under rise, and the rise under set
+abbrev pub riseAndSetTraded : ℕ → Answer Triple → List ℕ
+riseAndSetTraded = rowBy traded
+  where
+    traded : Answer Triple → List ℕ
+    traded (answered (triple rise culmination set)) = timesRow set culmination rise
+    traded (refused n) = refusalText n
+
+-- what the line says after the number, so that a refusal has no words
+abbrev pub lineInRow : ℕ → Answer Triple → List ℕ
+lineInRow = rowBy outcomeText
+
+-- a star that never rises as one that is refused
+abbrev pub neverRisesAsRefused : ℕ → ℕ → List ℕ
+neverRisesAsRefused number n = columnText number ++ (ascii "  " ++ refusalText n)

@@ -44,7 +44,7 @@ time-short x end =
     let n = secondsOf x in
     omega (arith, length-append (clockText n) (end ∷ []), clock-short n)
 
-why-short : (n : ℕ) → length (whyText n) ≤ 29
+pub why-short : (n : ℕ) → length (whyText n) ≤ 29
 unfolding whyText
 why-short n = by-case (eqb n 15) (eqb n 16)
   where

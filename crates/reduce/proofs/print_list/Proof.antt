@@ -1,4 +1,4 @@
--- `plan::print` meets its contract: what is printed are bytes of the text's slice.
+-- `reduce::print_list` meets its contract: what is printed are bytes of the text's slice.
 use borrow.Author.Needs.{needs}
 use mathlib.Core.Path.{sym}
 use Prim.Native.Nat.{ℕ}
@@ -7,8 +7,8 @@ use lib.Seq.{length-take-le}
 use Rattle.double.specs.laws.Calls.{asks-nothing}
 use Rattle.lent.specs.laws.Writing.{inside}
 use Rattle.report.specs.rules.Report.{room}
-use Rattle.plan.proofs.print.Statement.{statement}
-use Rattle.plan.proofs.print.Tie as tie
+use Rattle.reduce.proofs.print_list.Statement.{statement}
+use Rattle.reduce.proofs.print_list.Tie as tie
 
 slice-aggregate-put-report : tie.Need-slice-aggregate-put-report
 slice-aggregate-put-report c = sym (length-replicate {A = ℕ} room 0)
@@ -19,8 +19,7 @@ array-share-prefix-out c = inside (c .before .put-report .ensures)
 slice-aggregate-write : tie.Need-slice-aggregate-write
 slice-aggregate-write c = sym (length-take-le _ _ (array-share-prefix-out (c .before)))
 
-pub print-spec : {M : Type 1} → statement M
-print-spec =
+pub print-list-spec : {M : Type 1} → statement M
+print-list-spec =
     tie.close
-    (tie.spec (λ c. search needs) asks-nothing slice-aggregate-put-report (λ c. search needs) (λ c. search needs) asks-nothing
-    array-share-prefix-out slice-aggregate-write asks-nothing (λ c. search needs))
+    (tie.spec slice-aggregate-put-report asks-nothing array-share-prefix-out slice-aggregate-write asks-nothing (λ c. search needs))

@@ -1,0 +1,25 @@
+-- `text_row::put_times` meets its contract.
+use borrow.Author.Needs.{needs}
+use Rattle.double.specs.laws.Calls.{asks-nothing}
+use Rattle.lent.specs.laws.Writing.{after}
+use Rattle.text_row.specs.rules.PlanRow.{timesRow}
+use Rattle.text_row.proofs.put_times.Statement.{statement}
+use Rattle.text_row.proofs.put_times.Tie as tie
+
+returns : tie.Need-returns
+unfolding timesRow
+returns c =
+    let c2 = c .before .before in
+    let c6 = c2 .before .before .before .before in
+    let c10 = c6 .before .before .before .before in
+    let c15 = c10 .before .before .before .before .before in
+    let c19 = c15 .before .before .before .before in
+    let c24 = c19 .before .before .before .before .before in
+    after (c24 .put-time .ensures)
+    (after (c19 .put .ensures) (after (c15 .put-time2 .ensures) (after (c10 .put2 .ensures) (after (c6 .put-time3 .ensures) (c2 .put-byte .ensures)))))
+
+pub put-times-spec : {M : Type 1} → statement M
+put-times-spec =
+    tie.close
+    (tie.spec asks-nothing (λ c. search needs) asks-nothing asks-nothing (λ c. search needs) asks-nothing asks-nothing asks-nothing
+    (λ c. search needs) returns)
