@@ -1,6 +1,5 @@
 -- What is proved of the batch, for callers to cite. Theorems only.
 pub mod Known
-pub mod InRange
 pub mod Star
 pub mod ReadBack
 pub mod Batch

@@ -10,17 +10,15 @@ ghost use Rattle.double.specs.rules.Pattern.{patternOf};
 ghost use Rattle.quantity.specs.rules.Answer.{answered, pair, unless};
 ghost use Rattle.list.specs.rules.Record.{inRange};
 ghost use Rattle.list.specs.rules.Stars.{mostStars};
-ghost use Rattle.batch.specs.rules.Star.{ascOf, decOf, twoStarsUnder};
+ghost use Rattle.batch.specs.rules.Star.{twoStarsUnder};
 ghost use Rattle.batch.specs.rules.Batch.{batchRefusal};
 ghost use Rattle.batch.specs.rules.Batch.{Batch as Batch·Batch};
 ghost use Rattle.batch.specs.notions.StarStored.{StarStored};
 use chain::Night;
 use edition::Edition;
-use helpers::angle;
 use list::Star;
 use list_tally::Tally;
 use quantity::Places;
-use quantity::Rad;
 
 // The refusal number, where 0 is none, beside the tally of every star's status.
 pub struct Batched {
@@ -29,20 +27,6 @@ pub struct Batched {
 }
 
 // ---- one star
-
-// A star's right ascension.
-fn asc_of(star: Star) -> Rad
-    ensures { λ r. ⌜ r ≡ ascOf star ⌝ }
-{
-    angle::radians(units::degrees_of(star.asc))
-}
-
-// A star's declination.
-fn dec_of(star: Star) -> Rad
-    ensures { λ r. ⌜ r ≡ decOf star ⌝ }
-{
-    angle::radians(units::degrees_of_signed(star.dec))
-}
 
 // A refusal number of a star's place, or 9 where the star's record is out of range.
 fn ranged(star: Star, refusal: u8) -> u8
@@ -57,10 +41,10 @@ fn two_stars_under(first: Star, second: Star, night: Night) -> Places
     ensures { λ r. ⌜ r ≡ twoStarsUnder first second night ⌝ }
 {
     let p = chain::two_places_under(
-        asc_of(first),
-        dec_of(first),
-        asc_of(second),
-        dec_of(second),
+        star_place::asc_of(first),
+        star_place::dec_of(first),
+        star_place::asc_of(second),
+        star_place::dec_of(second),
         night,
     );
     Places {

@@ -21,7 +21,8 @@ use Rattle.chain.specs.rules.Night.{nightFrom, nightOf, moved, movedUnder, poin
 use Rattle.list_tally.specs.rules.Status.{highestStatus}
 use Rattle.list.specs.declared.Star.{Star}
 use Rattle.list.specs.rules.Record.{inRange}
-use Rattle.batch.specs.rules.Star.{ascOf, decOf, starUnder}
+use Rattle.star_place.specs.rules.Place.{ascOf, decOf}
+use Rattle.batch.specs.rules.Star.{starUnder}
 
 -- ---- numbers, and what rules do with answers
 

@@ -18,9 +18,10 @@ use Rattle.list_tally.specs.rules.Status.{highestStatus}
 use Rattle.list.specs.declared.Star.{Star}
 use Rattle.list.specs.rules.Record.{inRange}
 use Rattle.list.specs.rules.Stars.{stars}
+use Rattle.star_place.specs.rules.Place.{ascOf, decOf}
+use Rattle.star_place.specs.laws.InRange.{angles-taken}
 use Rattle.batch.specs.rules.Batch.{answersOf}
-use Rattle.batch.specs.rules.Star.{ascOf, decOf, starRule, starUnder, twoStarsUnder}
-use Rattle.batch.specs.laws.InRange.{angles-taken}
+use Rattle.batch.specs.rules.Star.{starRule, starUnder, twoStarsUnder}
 use Rattle.batch.specs.laws.Known.{known-under}
 
 -- a place's number is 9 where the star is out of range

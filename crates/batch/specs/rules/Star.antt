@@ -1,28 +1,19 @@
--- One star of a list: its place in radians, what the chain answers there, and what of the answer is stored.
+-- One star of a list: what the chain answers at its place, and what of the answer is stored.
 use Prim.Native.Nat.{ℕ}
 use mathlib.Core.Bool.{cond}
-use lib.IntN.{pos}
 use lib.Ieee.{Float}
 use Rattle.double.specs.rules.Operations.{zero}
 use Rattle.double.specs.rules.Pattern.{patternOf}
-use Rattle.quantity.specs.declared.Rad.{Rad}
 use Rattle.quantity.specs.declared.Places.{Places}
 use Rattle.quantity.specs.rules.Answer.{Answer, answered, refused, Pair, first, second}
-use Rattle.units.specs.rules.Degrees.{degreesOf}
 use Rattle.edition.specs.declared.Edition.{Edition}
-use Rattle.helpers.specs.rules.Angle.{radiansOf}
 use Rattle.chain.specs.declared.Night.{Night}
 use Rattle.chain.specs.rules.Chain.{chainRule}
 use Rattle.chain.specs.rules.Night.{placeUnder}
 use Rattle.chain.specs.rules.Two.{twoPlacesUnder}
 use Rattle.list.specs.declared.Star.{Star}
 use Rattle.list.specs.rules.Record.{inRange}
-
-abbrev pub ascOf : Star → Rad
-ascOf star = radiansOf (degreesOf (pos (star .asc)))
-
-abbrev pub decOf : Star → Rad
-decOf star = radiansOf (degreesOf (star .dec))
+use Rattle.star_place.specs.rules.Place.{ascOf, decOf}
 
 -- the chain's answer at the star, or 9 where its record is out of range
 unfoldable pub starRule : Edition → Star → Float → Float → Answer Pair

@@ -17,7 +17,8 @@ use Rattle.precess_angles.specs.rules.Equatorial.{eqPrecessionOf}
 use Rattle.chain.specs.rules.Chain.{chainRule}
 use Rattle.list.specs.declared.Star.{Star}
 use Rattle.list.specs.rules.Record.{inRange}
-use Rattle.batch.specs.rules.Star.{ascOf, decOf, starRule, firstOf, secondOf}
+use Rattle.star_place.specs.rules.Place.{ascOf, decOf}
+use Rattle.batch.specs.rules.Star.{starRule, firstOf, secondOf}
 use Rattle.batch.specs.laws.Star.{place-taken}
 use Rattle.domain_accepted.specs.notions.Outcome.{FourSevenOrFourteen}
 use Rattle.domain_accepted.specs.notions.Within.{BothFinite}

@@ -24,7 +24,7 @@ use Rattle.quantity.specs.laws.Refusal.{past-none, finite-farthest, finite-half
 use Rattle.units.specs.rules.Degrees.{milliarcsecondsOfDegree}
 use Rattle.list.specs.declared.Star.{Star}
 use Rattle.list.specs.rules.Record.{turn, quarter, inRange}
-use Rattle.batch.specs.rules.Star.{ascOf, decOf}
+use Rattle.star_place.specs.rules.Place.{ascOf, decOf}
 
 asc-near : (star : Star) → star .asc ≤ turn → size (ascOf star .0) ≼ farthest
 unfolding isFinite le neg mul div ofInt ofBits round

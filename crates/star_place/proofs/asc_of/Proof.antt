@@ -1,7 +1,7 @@
--- `batch::asc_of` meets its contract.
+-- `star_place::asc_of` meets its contract.
 use Rattle.double.specs.laws.Calls.{asks-nothing}
-use Rattle.batch.proofs.asc_of.Statement.{statement}
-use Rattle.batch.proofs.asc_of.Tie as tie
+use Rattle.star_place.proofs.asc_of.Statement.{statement}
+use Rattle.star_place.proofs.asc_of.Tie as tie
 
 returns : tie.Need-returns
 returns c = rw (c .before .degrees-of .ensures) at (c .radians .ensures)

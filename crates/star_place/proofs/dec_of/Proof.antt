@@ -1,12 +1,12 @@
--- `batch::dec_of` meets its contract.
+-- `star_place::dec_of` meets its contract.
 use mathlib.Core.Path.{ap, _∙_}
 use lib.IntN.{ℤ}
 use Rattle.double.specs.laws.Calls.{asks-nothing}
 use Rattle.units.specs.rules.Degrees.{degreesOf}
 use Rattle.helpers.specs.rules.Angle.{radiansOf}
 use Rattle.signed.specs.laws.Signed.{signed-word}
-use Rattle.batch.proofs.dec_of.Statement.{statement}
-use Rattle.batch.proofs.dec_of.Tie as tie
+use Rattle.star_place.proofs.dec_of.Statement.{statement}
+use Rattle.star_place.proofs.dec_of.Tie as tie
 
 returns : tie.Need-returns
 returns c =
