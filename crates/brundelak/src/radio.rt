@@ -1,7 +1,7 @@
 // A list over the radio link: reader, writer and movers.
 ghost use Rattle.list_radio.specs.rules.Reader.{openRule, starAtRule, acceptRule};
 ghost use Rattle.list_radio.specs.rules.Put.{headText, starText};
-ghost use Rattle.list_radio.specs.rules.Moves.{toList, toRadio};
+ghost use Rattle.list_moves.specs.rules.Moves.{toList, toRadio};
 ghost use Rattle.brundelak.specs.rules.Put.{HandedNumber, HandedPut};
 ghost use Rattle.brundelak.specs.rules.Radio.{HandedOpened, HandedReceived};
 use lent::Written;
@@ -112,7 +112,7 @@ pub extern "C" fn brundelak_radio_put_star(
 pub extern "C" fn brundelak_radio_to_list(bytes: &[u8], out: &mut [u8], written: &mut usize) -> u8
     ensures { λ n. ⌜ HandedPut (toList (now (bytes .entry))) (now (out .entry)) 0 n (now (written .entry)) (now (out .exit)) (now (written .exit)) ⌝ }
 {
-    match list_radio::radio_to_list(bytes, out) {
+    match list_moves::radio_to_list(bytes, out) {
         Written::To(size) => {
             *written = size;
             0
@@ -126,7 +126,7 @@ pub extern "C" fn brundelak_radio_to_list(bytes: &[u8], out: &mut [u8], written:
 pub extern "C" fn brundelak_list_to_radio(bytes: &[u8], out: &mut [u8], written: &mut usize) -> u8
     ensures { λ n. ⌜ HandedPut (toRadio (now (bytes .entry))) (now (out .entry)) 0 n (now (written .entry)) (now (out .exit)) (now (written .exit)) ⌝ }
 {
-    match list_radio::list_to_radio(bytes, out) {
+    match list_moves::list_to_radio(bytes, out) {
         Written::To(size) => {
             *written = size;
             0

@@ -1,4 +1,2 @@
 pub mod Reading
 pub mod Checking
-pub mod Laying
-pub mod Measuring

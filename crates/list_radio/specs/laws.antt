@@ -4,12 +4,9 @@ pub mod Radio
 pub mod Reader
 pub mod StarByStar
 pub mod Put
-pub mod Moves
-pub mod RoundTrips
 pub mod Order
 pub mod Streams
 pub mod Room
-pub mod Calls
 pub mod Unique
 pub mod Cases
 pub mod Wrong

@@ -3,4 +3,3 @@ pub mod Star
 pub mod Radio
 pub mod Reader
 pub mod Put
-pub mod Moves

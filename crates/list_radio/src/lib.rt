@@ -1,19 +1,15 @@
-// Lists over the radio link (request (i)): reader, writer and movers. Promised: any bytes are read or refused, the first refusal met; a
-// list in range moves there and back to the same bytes, and nothing is written before all is known.
+// Lists over the radio link (request (i)): reader and writer. Promised: any bytes are read or refused, the first refusal met; head and
+// star are put into a slice, or refused with nothing written.
 ghost use mathlib.Core.Path.{_≡_};
-ghost use mathlib.Core.Bool.{true};
 ghost use lib.ListN.{length, drop};
 ghost use Rattle.quantity.specs.rules.Answer.{with};
 ghost use Rattle.lent.specs.rules.Writing.{Wrote};
-ghost use Rattle.lent.specs.rules.Put.{shownWritten, Put};
-ghost use Rattle.list.specs.rules.Stars.{isList, stars, listBytes};
+ghost use Rattle.lent.specs.rules.Put.{Put};
 ghost use Rattle.list_groups.specs.rules.Reading.{readAt};
-ghost use Rattle.list_groups.specs.rules.Several.{spellAll};
 ghost use Rattle.list_radio.specs.rules.Star.{starGroups, readStar};
 ghost use Rattle.list_radio.specs.rules.Radio.{headBytes, markRefusal, readCount, starsOf};
 ghost use Rattle.list_radio.specs.rules.Reader.{shownOpened, openRule, shownReceived, starAtRule, shownAccepted, acceptRule};
 ghost use Rattle.list_radio.specs.rules.Put.{headText, starText};
-ghost use Rattle.list_radio.specs.rules.Moves.{toList, toRadio, starsUpto, sizeOf};
 use lent::Written;
 use list::Star;
 use list_groups::Read;
@@ -41,10 +37,10 @@ const MARK: u8 = 2;
 
 const MOST_STARS: u32 = list::MOST_STARS as u32;
 
-// Bytes of a radio list, at most (`moved-has-room`): the first byte, a count of two groups, of each star three numbers of five.
+// Bytes of a radio list, at most (`accepted-has-room`): the first byte, a count of two groups, of each star three numbers of five.
 pub const MOST_BYTES: usize = 3 + 15 * list::MOST_STARS;
 
-// Bytes to read where a radio list is expected: one more than the longest has, which decides for all after it (`first-bytes-decide`).
+// Bytes to read where a radio list is expected: one more than the longest has, which decides for all after it (`stars-decided`).
 pub const READ: usize = MOST_BYTES + 1;
 
 // 0 where the first byte stands, 13 for an empty list, 11 for another first byte.
@@ -86,7 +82,7 @@ pub fn open(bytes: &[u8]) -> Opened
 }
 
 // The star that stands from an offset on, whatever the first byte.
-fn star_from(bytes: &[u8], at: usize) -> Received
+pub fn star_from(bytes: &[u8], at: usize) -> Received
     ensures { λ r. ⌜ shownReceived r ≡ readAt readStar (now (bytes .entry)) at ⌝ }
 {
     match list_groups::number_at(bytes, at) {
@@ -122,7 +118,7 @@ pub fn star_at(bytes: &[u8], offset: usize) -> Received
 }
 
 // Whether so many stars stand from an offset on, and nothing after them.
-fn check_stars(bytes: &[u8], n: u32, first: usize) -> Accepted
+pub fn check_stars(bytes: &[u8], n: u32, first: usize) -> Accepted
     ensures { λ r. ⌜ shownAccepted r ≡ with length (starsOf n (drop first (now (bytes .entry)))) ⌝ }
 {
     let mut p = first;
@@ -156,7 +152,7 @@ pub fn accept(bytes: &[u8]) -> Accepted
 }
 
 // How many bytes a star takes.
-fn star_size(star: Star) -> usize
+pub fn star_size(star: Star) -> usize
     ensures { λ r. ⌜ r ≡ length (starGroups star) ⌝ }
 {
     let number = star.number;
@@ -168,7 +164,7 @@ fn star_size(star: Star) -> usize
 }
 
 // A star's bytes from the offset on, in range or not, and the offset after them.
-fn write_star(out: &mut [u8], at: usize, star: Star) -> usize
+pub fn write_star(out: &mut [u8], at: usize, star: Star) -> usize
     ensures { λ r. ⌜ Wrote (now (out .entry)) at (starGroups star) (now (out .exit)) r ⌝ }
 {
     let a = list_groups::put_number(out, at, star.number);
@@ -177,7 +173,7 @@ fn write_star(out: &mut [u8], at: usize, star: Star) -> usize
 }
 
 // The first byte and the count from the offset on, and the offset after them.
-fn write_head(out: &mut [u8], at: usize, n: u32) -> usize
+pub fn write_head(out: &mut [u8], at: usize, n: u32) -> usize
     ensures { λ r. ⌜ Wrote (now (out .entry)) at (headBytes n) (now (out .exit)) r ⌝ }
 {
     let a = lent::put_byte(out, at, MARK);
@@ -210,99 +206,4 @@ pub fn put_star(out: &mut [u8], offset: usize, star: Star) -> Written
         return Written::Refused(8);
     }
     Written::To(write_star(out, offset, star))
-}
-
-// The records of the stars that stand from an offset on, from the slice's start on: so many, and up to the first that is refused.
-fn lay_stars(out: &mut [u8], bytes: &[u8], n: u32, first: usize) -> usize
-    ensures { λ r. ⌜ Wrote (now (out .entry)) 0 (listBytes (starsUpto n (drop first (now (bytes .entry))))) (now (out .exit)) r ⌝ }
-{
-    let mut p = first;
-    let mut offset = 0;
-    let mut i: u32 = 0;
-    while i < n {
-        match star_from(bytes, p) {
-            Received::Refused(_) => {
-                return offset;
-            }
-            Received::Star(star, next) => {
-                offset = list::write_star(out, offset, star);
-                p = next;
-            }
-        }
-        i += 1;
-    }
-    offset
-}
-
-// A radio list as a stored list, from the slice's start on: how many bytes were written.
-// Refusals: as `accept`, then 8 for a slice that is shorter than the answer.
-pub fn radio_to_list(bytes: &[u8], out: &mut [u8]) -> Written
-    ensures { λ r. ⌜ Put (toList (now (bytes .entry))) (now (out .entry)) 0 (now (out .exit)) r ⌝ }
-{
-    match open(bytes) {
-        Opened::Refused(k) => Written::Refused(k),
-        Opened::Stars(n, first) => match check_stars(bytes, n, first) {
-            Accepted::Refused(k) => Written::Refused(k),
-            Accepted::Stars(m) => {
-                if out.len() < list::WIDTH * (m as usize) {
-                    return Written::Refused(8);
-                }
-                Written::To(lay_stars(out, bytes, n, first))
-            }
-        },
-    }
-}
-
-// How many bytes the stars of a list take, or 9 for a record out of range.
-fn stars_size(bytes: &[u8]) -> Written
-    requires { ⌜ isList (now bytes) ≡ true ⌝ }
-    ensures { λ r. ⌜ shownWritten r ≡ sizeOf (stars (now (bytes .entry))) ⌝ }
-{
-    let n = list::count(bytes);
-    let mut size: usize = 0;
-    let mut i: usize = 0;
-    while i < n {
-        let star = list::nth(bytes, i);
-        if !list::in_range(star) {
-            return Written::Refused(9);
-        }
-        size += star_size(star);
-        i += 1;
-    }
-    Written::To(size)
-}
-
-// The stars of a list from the offset on, and the offset after them.
-fn write_stars(out: &mut [u8], at: usize, bytes: &[u8]) -> usize
-    ensures { λ r. ⌜ Wrote (now (out .entry)) at (spellAll starGroups (stars (now (bytes .entry)))) (now (out .exit)) r ⌝ }
-{
-    let n = list::count(bytes);
-    let mut offset = lent::within(at, out.len());
-    let mut i: usize = 0;
-    while i < n {
-        offset = write_star(out, offset, list::nth(bytes, i));
-        i += 1;
-    }
-    offset
-}
-
-// A stored list as a radio list, from the slice's start on: how many bytes were written.
-// Refusals: 8 for bytes that are no list, 9 for a record out of range, then 8 for a slice that is shorter than the answer.
-pub fn list_to_radio(bytes: &[u8], out: &mut [u8]) -> Written
-    ensures { λ r. ⌜ Put (toRadio (now (bytes .entry))) (now (out .entry)) 0 (now (out .exit)) r ⌝ }
-{
-    if !list::is_list(bytes) {
-        return Written::Refused(8);
-    }
-    match stars_size(bytes) {
-        Written::Refused(k) => Written::Refused(k),
-        Written::To(size) => {
-            let n = list::count(bytes) as u32;
-            if out.len() < 1 + list_groups::count(n) + size {
-                return Written::Refused(8);
-            }
-            let offset = write_head(out, 0, n);
-            Written::To(write_stars(out, offset, bytes))
-        }
-    }
 }

@@ -2,7 +2,7 @@
 // else a stored list its radio form. What is refused has its line on standard error.
 ghost use mathlib.Core.Bool.{cond};
 ghost use Rattle.lent.specs.rules.Put.{Put};
-ghost use Rattle.list_radio.specs.rules.Moves.{toList, toRadio};
+ghost use Rattle.list_moves.specs.rules.Moves.{toList, toRadio};
 use lent::Written;
 
 // Bytes of the longer form, at most.
@@ -23,9 +23,9 @@ fn put_moved(out: &mut [u8], unpack: bool, bytes: &[u8]) -> Written
     ensures { λ r. ⌜ Put (cond unpack (toList (now (bytes .entry))) (toRadio (now (bytes .entry)))) (now (out .entry)) 0 (now (out .exit)) r ⌝ }
 {
     if unpack {
-        list_radio::radio_to_list(bytes, out)
+        list_moves::radio_to_list(bytes, out)
     } else {
-        list_radio::list_to_radio(bytes, out)
+        list_moves::list_to_radio(bytes, out)
     }
 }
 

@@ -21,8 +21,9 @@ use Rattle.list_tally.specs.rules.Tally.{raiseRefusal, raiseRule, tallyOf, empt
 use Rattle.list_groups.specs.rules.Fold.{folded}
 use Rattle.list_radio.specs.rules.Reader.{openRule, starAtRule, acceptRule}
 use Rattle.list_radio.specs.rules.Put.{headText}
-use Rattle.list_radio.specs.rules.Moves.{toList}
 use Rattle.list_radio.specs.notions.Computed as radio
+use Rattle.list_moves.specs.rules.Moves.{toList}
+use Rattle.list_moves.specs.notions.Computed as moves
 use Rattle.edition.specs.declared.Edition.{Edition}
 use Rattle.batch.specs.declared.Batched.{Batched}
 use Rattle.list.specs.rules.Stars.{isList, countOf, stars}
@@ -88,7 +89,7 @@ byte-past-the-head-cleared-excluded wrong = apart (λ (l : List ℕ). getD l 3 0
 
 -- a byte over, and the slice is written before that is known
 pub slice-of-a-refused-move-written-excluded : ¬ HandedPut (toList (2 ∷ 0 ∷ 5 ∷ [])) (9 ∷ []) 0 13 0 (0 ∷ []) 0
-unfolding radio.computed
+unfolding moves.computed
 slice-of-a-refused-move-written-excluded wrong = apart (λ (l : List ℕ). getD l 0 0) refl (wrong .leaves-slice)
 
 -- ---- the version

@@ -7,7 +7,6 @@ use Rattle.quantity.specs.rules.Answer.{answered, refused}
 use Rattle.list.specs.declared.Star.{Star}
 use Rattle.list_radio.specs.rules.Radio.{radioBytes, radioStars}
 use Rattle.list_radio.specs.rules.Reader.{openRule, starAtRule, acceptRule}
-use Rattle.list_radio.specs.rules.Moves.{toList, toRadio}
 use Rattle.list_radio.specs.notions.Computed.{computed}
 
 -- number 300, right ascension an hour, declination −1 milliarcsecond
@@ -56,15 +55,3 @@ pub refusals :
     ≡ refused 13 ∷ refused 11 ∷ refused 13 ∷ refused 12 ∷ refused 12 ∷ refused 8 ∷ refused 13 ∷ refused 13 ∷ refused 9 ∷ refused 13 ∷ []
 unfolding computed
 refusals = refl
-
--- the star's record, and both moves
-abbrev pub record300 : List ℕ
-record300 = 0x2c ∷ 0x01 ∷ 0x00 ∷ 0x00 ∷ 0x80 ∷ 0xf9 ∷ 0x37 ∷ 0x03 ∷ 0xff ∷ 0xff ∷ 0xff ∷ 0xff ∷ []
-
-pub moved-to-radio : toRadio record300 ≡ answered list300
-unfolding computed
-moved-to-radio = refl
-
-pub moved-to-list : toList list300 ≡ answered record300
-unfolding computed
-moved-to-list = refl

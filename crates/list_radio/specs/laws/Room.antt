@@ -7,11 +7,10 @@ use native.Mathlib.Omega.{arith}
 use lib.Dec.{eqb, ltb, leb}
 use lib.ListN.{length, length-append}
 use borrow.Author.Tests.{ltb-true, ltb-false, eqb-true, eqb-false, ne-eqb}
-use Rattle.quantity.specs.rules.Answer.{Answer, answered, refused, unless, with, then}
+use Rattle.quantity.specs.rules.Answer.{Answer, answered, refused, unless, then}
 use Rattle.list.specs.declared.Star.{Star}
 use Rattle.list.specs.rules.Record.{inRange}
-use Rattle.list.specs.rules.Stars.{mostStars, isList, stars, Bytes}
-use Rattle.list.specs.laws.Stars.{length-stars, few}
+use Rattle.list.specs.rules.Stars.{mostStars, Bytes}
 use Rattle.list_groups.specs.rules.Groups.{groups}
 use Rattle.list_groups.specs.rules.Reading.{Got, readNumber}
 use Rattle.list_groups.specs.rules.Several.{spellAll, readAll}
@@ -22,16 +21,19 @@ use Rattle.list_groups.specs.laws.Inverse.{read-was-spelt}
 use Rattle.list_groups.specs.laws.Streams.{all-stream}
 use Rattle.list_groups.specs.laws.Taken.{number-takes-five, all-take-at-most, then-takes-at-most}
 use Rattle.list_radio.specs.rules.Star.{numberCount, starGroups, starOf, ranged, readStar}
-use Rattle.list_radio.specs.rules.Radio.{mark, headBytes, radioBytes, markRefusal, readCount, nothingOver, starsOf, radioStars}
-use Rattle.list_radio.specs.rules.Radio as radio
-use Rattle.list_radio.specs.rules.Moves.{toList, allInRange, toRadio}
+use Rattle.list_radio.specs.rules.Radio.{mark, headBytes, radioBytes, markRefusal, few, readCount, nothingOver, starsOf, radioStars}
 use Rattle.list_radio.specs.notions.Room.{mostBytes}
+use Rattle.list_radio.specs.laws.Star.{at-most-fifteen}
 use Rattle.list_radio.specs.laws.Put.{length-head}
-use Rattle.list_radio.specs.laws.Moves.{fifteen-a-star}
 use Rattle.list_radio.specs.laws.Radio.{few-back, radio-read-was-spelt}
 use Rattle.list_radio.specs.laws.Streams.{star-streams, count-streams, radio-refuses}
 
 -- ---- room
+
+-- how many bytes stars take, at most
+pub fifteen-a-star : (rs : List Star) → length (spellAll starGroups rs) ≤ 15 * length rs
+fifteen-a-star [] = omega arith
+fifteen-a-star (r ∷ rs) = omega (arith, length-append (starGroups r) (spellAll starGroups rs), at-most-fifteen r, fifteen-a-star rs)
 
 count-short : (n : ℕ) → n ≤ mostStars → length (groups n) ≤ 2
 count-short n h = go (ltb n 128) refl
@@ -40,24 +42,11 @@ count-short n h = go (ltb n 128) refl
     go true e = omega (arith, one-group n (ltb-true n 128 e))
     go false e = omega (arith, two-groups n (ltb-false n 128 e) (omega arith))
 
-radio-short : (rs : List Star) → length rs ≤ mostStars → length (radioBytes rs) ≤ mostBytes
+pub radio-short : (rs : List Star) → length rs ≤ mostStars → length (radioBytes rs) ≤ mostBytes
 unfolding radioBytes
 radio-short rs h =
     omega
     (arith, length-append (headBytes (length rs)) (spellAll starGroups rs), length-head (length rs), fifteen-a-star rs, count-short (length rs) h)
-
--- what a list moves to
-pub moved-has-room : (s t : List ℕ) → toRadio s ≡ answered t → length t ≤ mostBytes
-unfolding toRadio
-moved-has-room s t h = go (isList s) refl (allInRange (stars s)) h
-  where
-    go : (b : Bool) → isList s ≡ b → (c : Bool)
-        → cond b (cond c (answered (radioBytes (stars s))) (refused 9)) (refused 8) ≡ answered t → length t ≤ mostBytes
-    go true l true h =
-        let e : radioBytes (stars s) ≡ t = cc in
-        omega (arith, radio-short (stars s) (omega (arith, few s l, length-stars s)), ap length e)
-    go true l false h = absurd (refused-not-answered h)
-    go false l c h = absurd (refused-not-answered h)
 
 -- what is accepted
 pub accepted-has-room : (s : List ℕ) (rs : List Star) → Bytes s → radioStars s ≡ answered rs → length s ≤ mostBytes
@@ -91,12 +80,12 @@ star-takes-fifteen =
 
 count-takes-five : TakesAtMost 5 readCount
 unfolding readCount
-count-takes-five = then-takes-at-most 5 readNumber number-takes-five radio.few keeps other
+count-takes-five = then-takes-at-most 5 readNumber number-takes-five few keeps other
   where
-    keeps : (g h : Got ℕ) → radio.few g ≡ answered h → length (g .rest) ≡ length (h .rest)
+    keeps : (g h : Got ℕ) → few g ≡ answered h → length (g .rest) ≡ length (h .rest)
     keeps g h e = ap (λ (x : Got ℕ). length (x .rest)) (sym (few-back g h e .is))
 
-    other : (g : Got ℕ) → radio.few g ≡ refused 13 → ⊥
+    other : (g : Got ℕ) → few g ≡ refused 13 → ⊥
     other g = go (leb (g .value) mostStars)
       where
         go : (t : Bool) → cond {A = Answer (Got ℕ)} t (answered g) (refused 8) ≡ refused 13 → ⊥
@@ -135,7 +124,7 @@ module _ (more : List ℕ) where
     where
       counted : (g : Got ℕ) → readCount bs ≡ answered g → g .value * 15 ≤ length (g .rest)
       counted g e =
-          let s = stepped (readNumber bs) radio.few g e in
+          let s = stepped (readNumber bs) few g e in
           let f = few-back (s .value) g (s .next) in
           let n = read-was-spelt bs (s .value) y (s .first) in
           let long-is = ap length (n .bytes) ∙ length-append (groups (s .value .value)) (s .value .rest) in
@@ -157,10 +146,9 @@ module _ (more : List ℕ) where
       go true h = after-mark bs (λ (i : ℕ). y (suc i)) (omega arith) h
       go false h = h
 
-  -- a program that reads so many bytes answers as if it had read all
-  pub first-bytes-decide : (s : List ℕ) → Bytes s → mostBytes < length s → toList (s ++ more) ≡ toList s
-  unfolding toList
-  first-bytes-decide s y long = ap (with _) (go (radioStars s) refl)
+  -- what is read of so many bytes is read of all
+  pub stars-decided : (s : List ℕ) → Bytes s → mostBytes < length s → radioStars (s ++ more) ≡ radioStars s
+  stars-decided s y long = go (radioStars s) refl
     where
       go : (x : Answer (List Star)) → radioStars s ≡ x → radioStars (s ++ more) ≡ radioStars s
       go (answered rs) e = absurd (let z = accepted-has-room s rs y e in omega arith)

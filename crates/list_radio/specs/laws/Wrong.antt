@@ -2,7 +2,7 @@
 -- answers a constant, does not meet it.
 use Prim.Native.Nat.{ℕ, _+_, _*_}
 use mathlib.Core.Path.{refl}
-use mathlib.Core.List.{List, [], _∷_, _++_}
+use mathlib.Core.List.{List, [], _∷_}
 use std.Logic.{_≢_}
 use lib.IntN.{pos, negsuc}
 use Rattle.double.specs.notions.Code.{ofNumber}
@@ -10,8 +10,7 @@ use Rattle.double.specs.laws.Apart.{apart}
 use Rattle.quantity.specs.notions.Code.{ofAnswer}
 use Rattle.quantity.specs.notions.Varies.{Varies}
 use Rattle.quantity.specs.rules.Answer.{then}
-use Rattle.lent.specs.rules.Put.{roomFor, Put}
-use Rattle.lent.specs.declared.Written.the-variants.{To}
+use Rattle.lent.specs.rules.Put.{roomFor}
 use Rattle.lent.specs.notions.Code.{ofBytes}
 use Rattle.list.specs.declared.Star.{Star}
 use Rattle.list.specs.rules.Record.{turn}
@@ -20,12 +19,10 @@ use Rattle.list_radio.specs.rules.Star.{starGroups, readStar}
 use Rattle.list_radio.specs.rules.Radio.{radioBytes, markRefusal, readCount}
 use Rattle.list_radio.specs.rules.Reader.{openRule, starAtRule, acceptRule}
 use Rattle.list_radio.specs.rules.Put.{headText, starText}
-use Rattle.list_radio.specs.rules.Moves.{toList, toRadio}
 use Rattle.list_radio.specs.notions.Computed.{computed}
 use Rattle.list_radio.specs.notions.Wrong.{emptyIsEleven, anyFirstByte, countAbove5000Taken, rangeUnchecked, nineBeforeTheLastNumber, ownOffset}
 use Rattle.list_radio.specs.notions.Wrong.{byteOverTaken, acceptsAbove5000, twelveForBytesOver, ascensionFirst, declinationUnfolded}
-use Rattle.list_radio.specs.notions.Wrong.{countLeftOut, bytesCounted, eightBeforeNine, anyCountPut, anyStarPut, movesOutOfRange}
-use Rattle.list_radio.specs.notions.Wrong.{nineBeforeEight, starsReversed}
+use Rattle.list_radio.specs.notions.Wrong.{countLeftOut, bytesCounted, eightBeforeNine, anyCountPut, anyStarPut}
 
 abbrev ofCount : Got ℕ → ℕ
 ofCount g = g .value
@@ -40,7 +37,7 @@ abbrev ofReceived : AtOffset Star → ℕ
 ofReceived p = p .offset + 65536 * p .value .number
 
 -- two stars; the first byte and a count of 5001; a star whose right ascension is a whole turn, and the same without its last number
-abbrev twoStars : List ℕ
+abbrev pub twoStars : List ℕ
 twoStars = 0x02 ∷ 0x02 ∷ 0x07 ∷ 0x00 ∷ 0x00 ∷ 0x09 ∷ 0x00 ∷ 0x01 ∷ []
 
 abbrev count5001 : List ℕ
@@ -152,37 +149,3 @@ any-star-put-excluded = apart (ofAnswer ofBytes) refl
 pub eight-before-nine-excluded : eightBeforeNine [] 0 onTurn ≢ roomFor [] 0 (starText onTurn)
 unfolding computed
 eight-before-nine-excluded = apart (ofAnswer ofBytes) refl
-
--- ---- the moves
-
--- a record whose right ascension is a whole turn, alone and with a byte over
-abbrev turnRecord : List ℕ
-turnRecord = 0x07 ∷ 0 ∷ 0 ∷ 0 ∷ 0x00 ∷ 0x64 ∷ 0x3f ∷ 0x4d ∷ 0 ∷ 0 ∷ 0 ∷ 0 ∷ []
-
-abbrev zeroRecord : List ℕ
-zeroRecord = 0 ∷ 0 ∷ 0 ∷ 0 ∷ 0 ∷ 0 ∷ 0 ∷ 0 ∷ 0 ∷ 0 ∷ 0 ∷ 0 ∷ []
-
-pub to-list-varies : Varies (toList (0x02 ∷ 0x00 ∷ [])) (toList twoStars)
-unfolding computed
-to-list-varies = record { here = refl; there = refl; apart = apart (ofAnswer ofBytes) refl }
-
-pub to-radio-varies : Varies (toRadio []) (toRadio zeroRecord)
-unfolding computed
-to-radio-varies = record { here = refl; there = refl; apart = apart (ofAnswer ofBytes) refl }
-
-pub moves-out-of-range-excluded : movesOutOfRange turnRecord ≢ toRadio turnRecord
-unfolding computed
-moves-out-of-range-excluded = apart (ofAnswer ofBytes) refl
-
-pub nine-before-eight-excluded : nineBeforeEight (turnRecord ++ (0 ∷ [])) ≢ toRadio (turnRecord ++ (0 ∷ []))
-unfolding computed
-nine-before-eight-excluded = apart (ofAnswer ofBytes) refl
-
--- the radio list of no star has two bytes, and one is put into a slice of one
-pub short-slice-written-excluded : ¬ Put (toRadio []) (0 ∷ []) 0 (2 ∷ []) (To 1)
-unfolding computed
-short-slice-written-excluded wrong = apart ofBytes refl (wrong .slice)
-
-pub stars-reversed-excluded : starsReversed twoStars ≢ toList twoStars
-unfolding computed
-stars-reversed-excluded = apart (ofAnswer ofBytes) refl

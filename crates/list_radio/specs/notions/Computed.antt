@@ -10,9 +10,8 @@ use Rattle.list_radio.specs.rules.Star.{starGroups, readStar}
 use Rattle.list_radio.specs.rules.Radio.{headBytes, radioBytes, markRefusal, readCount, starsOf, radioStars}
 use Rattle.list_radio.specs.rules.Reader.{openRule, starAtRule, acceptRule}
 use Rattle.list_radio.specs.rules.Put.{headText, starText}
-use Rattle.list_radio.specs.rules.Moves.{toList, toRadio}
 
 -- a name for the line below it, which is what counts
 unfoldable pub computed : ℕ
-unfolding list.computed groups readNumber readAt readAll folded unfolded starGroups readStar headBytes radioBytes markRefusal readCount starsOf radioStars openRule starAtRule acceptRule roomFor headText starText toList toRadio
+unfolding list.computed groups readNumber readAt readAll folded unfolded starGroups readStar headBytes radioBytes markRefusal readCount starsOf radioStars openRule starAtRule acceptRule roomFor headText starText
 computed = 0

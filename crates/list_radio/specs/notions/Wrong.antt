@@ -1,22 +1,20 @@
--- Wrong variants of the radio list: of its reader, its writer and its movers.
+-- Wrong variants of the radio list: of its reader and its writer.
 use Prim.Native.Nat.{ℕ, _+_}
 use mathlib.Core.Bool.{cond}
-use mathlib.Core.List.{List, [], _∷_, _++_, reverse}
+use mathlib.Core.List.{List, [], _∷_, _++_}
 use lib.Dec.{eqb, ltb, leb}
 use lib.ListN.{length, drop}
 use Rattle.quantity.specs.rules.Answer.{Answer, answered, refused, unless, with, then}
 use Rattle.signed.specs.rules.Signed.{wordOf}
 use Rattle.list.specs.declared.Star.{Star}
 use Rattle.list.specs.rules.Record.{turn}
-use Rattle.list.specs.rules.Stars.{isList, stars, listBytes}
 use Rattle.list_groups.specs.rules.Groups.{groups}
 use Rattle.list_groups.specs.rules.Reading.{Got, readNumber, AtOffset}
 use Rattle.list_groups.specs.rules.Several.{spellAll, readAll}
 use Rattle.list_groups.specs.rules.Fold.{folded}
 use Rattle.list_radio.specs.rules.Star.{numberCount, starOf, starGroups, ranged, readStar}
-use Rattle.list_radio.specs.rules.Radio.{mark, headBytes, radioBytes, markRefusal, readCount, nothingOver, radioStars}
+use Rattle.list_radio.specs.rules.Radio.{mark, headBytes, markRefusal, readCount, nothingOver}
 use Rattle.list_radio.specs.rules.Put.{starText}
-use Rattle.list_radio.specs.rules.Moves.{allInRange}
 
 -- ---- the head
 
@@ -94,17 +92,3 @@ anyCountPut n = answered (headBytes n)
 
 abbrev pub anyStarPut : Star → Answer (List ℕ)
 anyStarPut r = answered (starGroups r)
-
--- ---- the moves
-
--- a record out of range moved
-abbrev pub movesOutOfRange : List ℕ → Answer (List ℕ)
-movesOutOfRange s = cond (isList s) (answered (radioBytes (stars s))) (refused 8)
-
--- 9 for a record, before 8 for bytes that are no list
-abbrev pub nineBeforeEight : List ℕ → Answer (List ℕ)
-nineBeforeEight s = cond (allInRange (stars s)) (cond (isList s) (answered (radioBytes (stars s))) (refused 8)) (refused 9)
-
--- the last star first
-abbrev pub starsReversed : List ℕ → Answer (List ℕ)
-starsReversed s = with (λ (rs : List Star). listBytes (reverse rs)) (radioStars s)

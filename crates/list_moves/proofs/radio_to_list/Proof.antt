@@ -1,14 +1,14 @@
--- `list_radio::radio_to_list` meets its contract: nothing is written before the whole list is known to be good, and to have room.
+-- `list_moves::radio_to_list` meets its contract: nothing is written before the whole list is known to be good, and to have room.
 use borrow.Author.Needs.{needs}
 use mathlib.Core.Path.{sym, ap, _∙_}
 use native.Mathlib.Omega.{arith}
 use Rattle.double.specs.laws.Calls.{asks-nothing}
 use Rattle.lent.specs.laws.Writing.{length-kept}
 use Rattle.list_radio.specs.rules.Reader.{shownOpened, shownAccepted}
 use Rattle.lent.specs.laws.Put.{put-refused, no-room, puts}
-use Rattle.list_radio.specs.laws.Moves.{no-head, no-stars, AllRead, all-stars}
-use Rattle.list_radio.proofs.radio_to_list.Statement.{statement}
-use Rattle.list_radio.proofs.radio_to_list.Tie as tie
+use Rattle.list_moves.specs.laws.Moves.{no-head, no-stars, AllRead, all-stars}
+use Rattle.list_moves.proofs.radio_to_list.Statement.{statement}
+use Rattle.list_moves.proofs.radio_to_list.Tie as tie
 
 enum-known-k : tie.Need-enum-known-k
 enum-known-k c = search needs

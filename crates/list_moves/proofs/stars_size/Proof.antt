@@ -1,13 +1,13 @@
--- `list_radio::stars_size` meets its contract: after i passes the bytes of the first i stars are counted.
+-- `list_moves::stars_size` meets its contract: after i passes the bytes of the first i stars are counted.
 use borrow.Author.Tests.{not-true, not-false}
 use mathlib.Core.Path.{sym, _∙_}
 use Prim.Native.Nat.{_-_}
 use native.Mathlib.Omega.{arith}
 use Rattle.double.specs.laws.Calls.{asks-nothing}
 use Rattle.list_radio.specs.laws.Star.{at-most-fifteen}
-use Rattle.list_radio.proofs.Measuring.{Measuring, begin, bounded, out-of-range, on, measured}
-use Rattle.list_radio.proofs.stars_size.Statement.{statement}
-use Rattle.list_radio.proofs.stars_size.Tie as tie
+use Rattle.list_moves.proofs.Measuring.{Measuring, begin, bounded, out-of-range, on, measured}
+use Rattle.list_moves.proofs.stars_size.Statement.{statement}
+use Rattle.list_moves.proofs.stars_size.Tie as tie
 
 abbrev Inv-loop : tie.InvT-loop
 Inv-loop bytes n size₀ i₀ size i = Measuring bytes n size i

@@ -1,4 +1,4 @@
--- `list_radio::write_stars` meets its contract: after i passes the first i stars are written.
+-- `list_moves::write_stars` meets its contract: after i passes the first i stars are written.
 use borrow.Author.Needs.{needs}
 use mathlib.Core.Path.{_≡_, ap, _∙_}
 use mathlib.Core.List.{_++_}
@@ -12,10 +12,10 @@ use Rattle.list.specs.declared.Star.{Star}
 use Rattle.list.specs.rules.Stars.{countOf, stars}
 use Rattle.list.specs.laws.Stars.{all-stars}
 use Rattle.list_groups.specs.rules.Several.{spellAll}
 use Rattle.list_radio.specs.rules.Star.{starGroups}
-use Rattle.list_radio.specs.laws.Moves.{groups-more}
-use Rattle.list_radio.proofs.write_stars.Statement.{statement}
-use Rattle.list_radio.proofs.write_stars.Tie as tie
+use Rattle.list_moves.specs.laws.Moves.{groups-more}
+use Rattle.list_moves.proofs.write_stars.Statement.{statement}
+use Rattle.list_moves.proofs.write_stars.Tie as tie
 
 abbrev Inv-loop : tie.InvT-loop
 Inv-loop out₀ at bytes n offset₀ i₀ out offset i = (i ≤ n) × ((n ≡ countOf bytes) × Wrote out₀ at (spellAll starGroups (take i (stars bytes))) out offset)

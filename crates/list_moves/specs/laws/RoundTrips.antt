@@ -19,12 +19,12 @@ use Rattle.list.specs.laws.Stars.{whole, length-stars, few}
 use Rattle.list.specs.laws.RoundTrips.{length-list, stars-back, bytes-back}
 use Rattle.quantity.specs.laws.Steps.{same-value, refused-not-answered, changed}
 use Rattle.list_groups.specs.notions.Spelt.{AllGood}
 use Rattle.list_radio.specs.notions.Good.{Good}
-use Rattle.list_radio.specs.notions.Moves.{ThereAndBack}
+use Rattle.list_moves.specs.notions.Moves.{ThereAndBack}
 use Rattle.list_radio.specs.rules.Radio.{radioBytes, radioStars}
 use Rattle.list_radio.specs.rules.Reader.{acceptRule}
-use Rattle.list_radio.specs.rules.Moves.{toList, allInRange, toRadio}
+use Rattle.list_moves.specs.rules.Moves.{toList, allInRange, toRadio}
 use Rattle.list_radio.specs.laws.Radio.{radio-spelt-is-read, radio-read-was-spelt}
 
 -- ---- stars that either form can hold
 

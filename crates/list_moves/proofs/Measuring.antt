@@ -11,10 +11,10 @@ use Rattle.list.specs.rules.Record.{inRange}
 use Rattle.list.specs.rules.Stars.{isList, countOf, stars, nth}
 use Rattle.list.specs.laws.Stars.{length-stars, all-stars, few}
 use Rattle.list_groups.specs.rules.Several.{spellAll}
 use Rattle.list_radio.specs.rules.Star.{starGroups}
-use Rattle.list_radio.specs.rules.Moves.{allInRange, sizeOf}
+use Rattle.list_moves.specs.rules.Moves.{allInRange, sizeOf}
 use Rattle.list_radio.specs.laws.Star.{at-most-fifteen}
-use Rattle.list_radio.specs.laws.Moves.{groups-more, ranges-more}
+use Rattle.list_moves.specs.laws.Moves.{groups-more, ranges-more}
 
 pub record Measuring (s : List ℕ) (n size i : ℕ) : Type 0 where
   pub list : isList s ≡ true

@@ -1,4 +1,4 @@
--- `list_radio::lay_stars` meets its contract: the records laid, and the stars that are left.
+-- `list_moves::lay_stars` meets its contract: the records laid, and the stars that are left.
 use borrow.Author.Needs.{needs}
 use mathlib.Core.Path.{sym, ap, _∙_}
 use Prim.Native.Nat.{_-_}
@@ -6,12 +6,12 @@ use native.Mathlib.Omega.{arith}
 use Rattle.double.specs.laws.Calls.{asks-nothing}
 use Rattle.lent.specs.laws.Writing.{length-kept}
 use Rattle.list_groups.specs.laws.Tails.{found, not-found}
 use Rattle.list_radio.specs.rules.Star.{readStar}
 use Rattle.list_radio.specs.rules.Reader.{shownReceived}
 use Rattle.list_radio.specs.laws.Star.{star-leaves-tail}
-use Rattle.list_radio.proofs.Laying.{Laying, begin, stops, ends, on}
-use Rattle.list_radio.proofs.lay_stars.Statement.{statement}
-use Rattle.list_radio.proofs.lay_stars.Tie as tie
+use Rattle.list_moves.proofs.Laying.{Laying, begin, stops, ends, on}
+use Rattle.list_moves.proofs.lay_stars.Statement.{statement}
+use Rattle.list_moves.proofs.lay_stars.Tie as tie
 
 abbrev Inv-loop : tie.InvT-loop
 Inv-loop out₀ bytes n first p₀ offset₀ i₀ out p offset i = Laying out₀ bytes n first out p offset i

@@ -10,9 +10,9 @@ use Rattle.lent.specs.laws.Writing.{after, same, nothing}
 use Rattle.list.specs.declared.Star.{Star}
 use Rattle.list.specs.rules.Record.{starBytes}
 use Rattle.list.specs.rules.Stars.{listBytes}
 use Rattle.list_radio.specs.rules.Star.{readStar}
-use Rattle.list_radio.specs.rules.Moves.{starsUpto}
-use Rattle.list_radio.specs.laws.Moves.{upto-none, upto-refused, upto-more}
+use Rattle.list_moves.specs.rules.Moves.{starsUpto}
+use Rattle.list_moves.specs.laws.Moves.{upto-none, upto-refused, upto-more}
 
 -- the records of so many stars from an offset on
 abbrev records : List ℕ → ℕ → ℕ → List ℕ

@@ -2,7 +2,7 @@
 use mathlib.Core.Path.{_≡_, refl, sym, ap, _∙_}
 use mathlib.Core.Bool.{Bool, true, false, cond, _&&_}
 use mathlib.Core.List.{List, [], _∷_, _++_, append-nil}
-use Prim.Native.Nat.{ℕ, zero, suc, _+_, _*_, _-_, _≤_, _<_}
+use Prim.Native.Nat.{ℕ, zero, suc, _+_, _*_, _-_, _<_}
 use native.Mathlib.Omega.{arith}
 use lib.ListN.{length, take, drop, length-append}
 use Rattle.quantity.specs.rules.Answer.{answered, refused, with}
@@ -16,14 +16,13 @@ use Rattle.list_groups.specs.rules.Reading.{Got}
 use Rattle.list_groups.specs.rules.Several.{spellAll, before, readAll}
 use Rattle.quantity.specs.laws.Steps.{refused-not-answered, stepped, changed, with-refused}
 use Rattle.list_groups.specs.laws.Several.{spell-append}
 use Rattle.list_radio.specs.rules.Star.{starGroups, readStar}
 use Rattle.list_radio.specs.rules.Radio.{headBytes, radioBytes, nothingOver, starsOf}
 use Rattle.list_radio.specs.rules.Reader.{openRule}
-use Rattle.list_radio.specs.rules.Moves.{toList, allInRange, toRadio, starsUpto, sizeOf}
-use Rattle.list_radio.specs.laws.Star.{at-most-fifteen}
+use Rattle.list_moves.specs.rules.Moves.{toList, allInRange, toRadio, starsUpto, sizeOf}
 use Rattle.list_radio.specs.laws.Radio.{over-back}
 use Rattle.list_radio.specs.laws.Put.{length-head}
 use Rattle.list_radio.specs.laws.Reader.{head-refused, head-answered}
 
 -- ---- the stars up to the first that is refused
 
@@ -91,11 +90,6 @@ module _ (s : List ℕ) where
         }
 
 -- ---- a stored list to the radio list
-
--- how many bytes stars take, at most
-pub fifteen-a-star : (rs : List Star) → length (spellAll starGroups rs) ≤ 15 * length rs
-fifteen-a-star [] = omega arith
-fifteen-a-star (r ∷ rs) = omega (arith, length-append (starGroups r) (spellAll starGroups rs), at-most-fifteen r, fifteen-a-star rs)
 
 module _ (s : List ℕ) (i : ℕ) (h : i < countOf s) where
   pub groups-more : spellAll starGroups (take i (stars s)) ++ starGroups (nth s i) ≡ spellAll starGroups (take (i + 1) (stars s))

@@ -1,5 +1,5 @@
 -- The movers' calls undo each other, each in a slice that is long enough: both are answered.
-use mathlib.Core.Path.{_≡_, refl, sym, ap, _∙_, subst}
+use mathlib.Core.Path.{_≡_, sym, ap, _∙_}
 use mathlib.Core.Bool.{true}
 use mathlib.Core.List.{List}
 use Prim.Native.Nat.{ℕ, _+_, _*_, _≤_}
@@ -11,16 +11,16 @@ use Rattle.quantity.specs.rules.Answer.{Answer, answered, with}
 use Rattle.quantity.specs.laws.Steps.{same-value, changed}
 use Rattle.lent.specs.declared.Written.{Written}
 use Rattle.lent.specs.declared.Written.the-variants.{To}
-use Rattle.lent.specs.rules.Put.{shownWritten, roomFor, laid, Put}
+use Rattle.lent.specs.rules.Put.{roomFor, laid, Put}
 use Rattle.lent.specs.laws.Put.{written-loses-nothing}
 use Rattle.list.specs.rules.Record.{width}
 use Rattle.list.specs.rules.Stars.{isList, stars, listBytes, Bytes}
 use Rattle.list.specs.laws.RoundTrips.{length-list}
 use Rattle.list_radio.specs.rules.Radio.{radioBytes, radioStars}
 use Rattle.list_radio.specs.rules.Reader.{acceptRule}
-use Rattle.list_radio.specs.rules.Moves.{toList, allInRange, toRadio}
-use Rattle.list_radio.specs.notions.Moves.{ThereAndBack, HasWritten, CalledThere, CalledThereAndBack}
-use Rattle.list_radio.specs.laws.RoundTrips.{list-to-radio-and-back, radio-to-list-and-back}
+use Rattle.list_moves.specs.rules.Moves.{toList, allInRange, toRadio}
+use Rattle.list_moves.specs.notions.Moves.{ThereAndBack, HasWritten, CalledThereAndBack}
+use Rattle.list_moves.specs.laws.RoundTrips.{list-to-radio-and-back, radio-to-list-and-back}
 
 -- a text that has room is written
 written-with-room : (text : Answer (List ℕ)) (t old new : List ℕ) (r : Written) → text ≡ answered t → length t ≤ length old

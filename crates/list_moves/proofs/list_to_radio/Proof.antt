@@ -1,4 +1,4 @@
--- `list_radio::list_to_radio` meets its contract: nothing is written before the whole list is known to be good, and to have room.
+-- `list_moves::list_to_radio` meets its contract: nothing is written before the whole list is known to be good, and to have room.
 use borrow.Author.Needs.{needs}
 use borrow.Author.Tests.{not-true, not-false}
 use mathlib.Core.Path.{_≡_, sym, ap, _∙_}
@@ -15,13 +15,14 @@ use Rattle.list.specs.laws.Stars.{few, length-stars}
 use Rattle.list_groups.specs.rules.Several.{spellAll}
 use Rattle.list_groups.specs.rules.Groups.{groups}
 use Rattle.list_groups.specs.laws.Length.{at-most-five}
 use Rattle.list_radio.specs.rules.Star.{starGroups}
 use Rattle.list_radio.specs.rules.Radio.{headBytes, radioBytes}
+use Rattle.list_radio.specs.laws.Room.{fifteen-a-star}
 use Rattle.lent.specs.rules.Put.{shownWritten}
 use Rattle.lent.specs.laws.Put.{put-refused, no-room, puts}
-use Rattle.list_radio.specs.laws.Moves.{no-list, no-size, Sized, sized, length-radio, fifteen-a-star}
-use Rattle.list_radio.proofs.list_to_radio.Statement.{statement}
-use Rattle.list_radio.proofs.list_to_radio.Tie as tie
+use Rattle.list_moves.specs.laws.Moves.{no-list, no-size, Sized, sized, length-radio}
+use Rattle.list_moves.proofs.list_to_radio.Statement.{statement}
+use Rattle.list_moves.proofs.list_to_radio.Tie as tie
 
 -- head and stars, one after the other
 all-written : (s old mid new : List ℕ) (n a b : ℕ) → n ≡ countOf s → Wrote old 0 (headBytes n) mid a → Wrote mid a (spellAll starGroups (stars s)) new b → Wrote old 0 (radioBytes (stars s)) new b

@@ -1,0 +1,7 @@
+-- What is proved of the moves, for callers to cite. Theorems only.
+pub mod Moves
+pub mod RoundTrips
+pub mod Room
+pub mod Calls
+pub mod Cases
+pub mod Wrong
