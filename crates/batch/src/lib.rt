@@ -105,8 +105,8 @@ fn store_star(
     requires { ⌜ i < length (now status) ⌝ }
     requires { ⌜ i < length (now asc) ⌝ }
     requires { ⌜ i < length (now dec) ⌝ }
-    ensures { λ r. ⌜ StarStored i (unless refusal (answered (pair a d))) tally (now (status .entry)) (now (asc .entry)) (now (dec .entry)) r (now (status .exit))
-        (now (asc .exit)) (now (dec .exit)) ⌝ }
+    ensures { λ r. ⌜ StarStored i (unless refusal (answered (pair a d))) tally (now (status .entry)) (now (asc .entry)) (now (dec .entry)) r
+        (now (status .exit)) (now (asc .exit)) (now (dec .exit)) ⌝ }
 {
     status[i] = refusal;
     asc[i] = stored_bits(refusal, a);

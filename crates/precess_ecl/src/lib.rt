@@ -2,7 +2,8 @@
 // Rust's formulas, or the refusal; 14 is never met.
 ghost use mathlib.Core.Path.{_≡_};
 ghost use Rattle.quantity.specs.rules.Answer.{shownTwo, shownThree, shownRadians};
-ghost use Rattle.precess_ecl.specs.rules.Ecliptic.{eclNu, eclPi, eclRho, eclPrecessionBy, eclPrecessionOf, eclPrecessedFrom, eclPrecessedIn, precessEclCoordsRule};
+ghost use Rattle.precess_ecl.specs.rules.Ecliptic.{eclNu, eclPi, eclRho, eclPrecessionBy, eclPrecessionOf};
+ghost use Rattle.precess_ecl.specs.rules.Ecliptic.{eclPrecessedFrom, eclPrecessedIn, precessEclCoordsRule};
 ghost use Rattle.precess_ecl.specs.rules.Orbit.{leanedOf, newInclination, newNode, nodeAndPerihelion, orbitFrom, orbitIn, orbitRefusal};
 ghost use Rattle.precess_ecl.specs.rules.Orbit.{precessOrbElementsRule};
 use elementary::Folded;
