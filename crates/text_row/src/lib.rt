@@ -130,7 +130,7 @@ pub fn put_row(out: &mut [u8], at: usize, number: u32, status: u8, asc: Rad, dec
 // ---- a star in a plan
 
 // The three times.
-fn put_times(out: &mut [u8], at: usize, rise: f64, culmination: f64, set: f64) -> usize
+fn put_times_row(out: &mut [u8], at: usize, rise: f64, culmination: f64, set: f64) -> usize
     ensures { λ r. ⌜ Wrote (now (out .entry)) at (timesRow rise culmination set) (now (out .exit)) r ⌝ }
 {
     let a = text_time::put_time(out, at, rise);
@@ -142,7 +142,7 @@ fn put_times(out: &mut [u8], at: usize, rise: f64, culmination: f64, set: f64) -
 }
 
 // Why there are none.
-fn put_why(out: &mut [u8], at: usize, n: u8) -> usize
+fn put_why_row(out: &mut [u8], at: usize, n: u8) -> usize
     ensures { λ r. ⌜ Wrote (now (out .entry)) at (whyRow n) (now (out .exit)) r ⌝ }
 {
     if n < 15 {
@@ -152,12 +152,12 @@ fn put_why(out: &mut [u8], at: usize, n: u8) -> usize
 }
 
 // What a plan's row says of a star.
-fn put_outcome(out: &mut [u8], at: usize, a: Three) -> usize
+fn put_outcome_row(out: &mut [u8], at: usize, a: Three) -> usize
     ensures { λ r. ⌜ Wrote (now (out .entry)) at (outcomeRow (shownThree a)) (now (out .exit)) r ⌝ }
 {
     match a {
-        Three::Are(rise, culmination, set) => put_times(out, at, rise, culmination, set),
-        Three::Refused(n) => put_why(out, at, n),
+        Three::Are(rise, culmination, set) => put_times_row(out, at, rise, culmination, set),
+        Three::Refused(n) => put_why_row(out, at, n),
     }
 }
 
@@ -167,5 +167,5 @@ pub fn put_plan_row(out: &mut [u8], at: usize, number: u32, a: Three) -> usize
 {
     let b = put_column(out, at, number);
     let c = lent::put(out, b, b"  ");
-    put_outcome(out, c, a)
+    put_outcome_row(out, c, a)
 }

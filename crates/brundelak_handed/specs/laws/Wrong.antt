@@ -16,7 +16,7 @@ use Rattle.quantity.specs.notions.Computed.{computed}
 use Rattle.quantity.specs.notions.Code.{ofFloat, ofPair, ofAnswer}
 use Rattle.quantity.specs.notions.Varies.{Varies}
 use Rattle.atmos.specs.declared.Arcmin.{Arcmin}
-use Rattle.brundelak_handed.specs.rules.Boundary.{Handed, HandedTwo, HandedThree, numberOfDegrees, numberOfRadians, numberOfArcminutes, numbersOfPoint, numbersOfEcliptic}
+use Rattle.brundelak_handed.specs.rules.Boundary.{Handed, HandedBits, HandedTwo, HandedThree, numberOfDegrees, numberOfRadians, numberOfArcminutes, numbersOfPoint, numbersOfEcliptic}
 use Rattle.brundelak_handed.specs.notions.Wrong.{degreesLost, radiansRefusedAsOne, arcminutesInDegrees, pointTraded, eclipticTraded}
 
 abbrev degrees : Float → Answer Deg
@@ -78,6 +78,10 @@ ecliptic-traded-excluded = apart (ofAnswer ofPair) refl
 pub nothing-handed-out-excluded : ¬ Handed (answered one) 0 0 0
 unfolding computed
 nothing-handed-out-excluded wrong = apart ofNumber refl (wrong .leaves)
+
+-- of bits that are answered too
+pub no-bits-handed-out-excluded : ¬ HandedBits (answered 7) 0 0 0
+no-bits-handed-out-excluded wrong = apart ofNumber refl (wrong .leaves)
 
 pub both-traded-excluded : ¬ HandedTwo (answered (pair one zero)) 0 0 0 (patternOf zero) (patternOf one)
 unfolding computed

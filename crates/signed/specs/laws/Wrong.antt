@@ -6,7 +6,7 @@ use lib.IntN.{pos, negsuc, natAbs}
 use Rattle.double.specs.notions.Code.{ofFlag, ofNumber}
 use Rattle.double.specs.laws.Apart.{apart}
 use Rattle.signed.specs.rules.Signed.{negative, reach, signedOf}
-use Rattle.signed.specs.notions.Wrong.{oneIsNegative, reachIsSize, sizeOneMore, topBitMisread}
+use Rattle.signed.specs.notions.Wrong.{oneIsNegative, reachIsSize, sizeOneMore, topBitMisread, widenedWithItsSign}
 
 pub one-is-negative-excluded : oneIsNegative (pos 0) ≢ negative (pos 0)
 one-is-negative-excluded = apart ofFlag refl
@@ -21,3 +21,7 @@ size-one-more-excluded = apart ofNumber refl
 -- the word of −2^31
 pub top-bit-misread-excluded : topBitMisread (2 ^ 31) ≢ signedOf (2 ^ 31)
 top-bit-misread-excluded = apart natAbs refl
+
+-- what `wide` answers is the byte
+pub widened-with-its-sign-excluded : widenedWithItsSign 255 ≢ 255
+widened-with-its-sign-excluded = apart ofNumber refl

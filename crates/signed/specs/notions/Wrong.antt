@@ -21,3 +21,7 @@ sizeOneMore z = cond (negative z) (reach z + 2) (reach z)
 -- −(2^32 − 1 − u) from 2^31 on
 abbrev pub topBitMisread : ℕ → ℤ
 topBitMisread u = cond (ltb u (2 ^ 31)) (signedOf u) (negℤ (pos (2 ^ 32 - 1 - u)))
+
+-- a byte from 128 on as a number below zero
+abbrev pub widenedWithItsSign : ℕ → ℕ
+widenedWithItsSign x = cond (ltb x 128) x (x + (2 ^ 32 - 256))

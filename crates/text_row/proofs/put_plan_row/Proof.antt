@@ -12,7 +12,7 @@ returns c =
     let c2 = c .before .before in
     let c6 = c2 .before .before .before .before in
     let c11 = c6 .before .before .before .before .before in
-    after (c11 .put-column .ensures) (after (c6 .put .ensures) (c2 .put-outcome .ensures))
+    after (c11 .put-column .ensures) (after (c6 .put .ensures) (c2 .put-outcome-row .ensures))
 
 pub put-plan-row-spec : {M : Type 1} → statement M
 put-plan-row-spec = tie.close (tie.spec asks-nothing (λ c. search needs) asks-nothing asks-nothing (λ c. search needs) returns)

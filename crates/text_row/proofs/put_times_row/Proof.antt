@@ -1,10 +1,10 @@
--- `text_row::put_times` meets its contract.
+-- `text_row::put_times_row` meets its contract.
 use borrow.Author.Needs.{needs}
 use Rattle.double.specs.laws.Calls.{asks-nothing}
 use Rattle.lent.specs.laws.Writing.{after}
 use Rattle.text_row.specs.rules.PlanRow.{timesRow}
-use Rattle.text_row.proofs.put_times.Statement.{statement}
-use Rattle.text_row.proofs.put_times.Tie as tie
+use Rattle.text_row.proofs.put_times_row.Statement.{statement}
+use Rattle.text_row.proofs.put_times_row.Tie as tie
 
 returns : tie.Need-returns
 unfolding timesRow
@@ -18,8 +18,8 @@ returns c =
     after (c24 .put-time .ensures)
     (after (c19 .put .ensures) (after (c15 .put-time2 .ensures) (after (c10 .put2 .ensures) (after (c6 .put-time3 .ensures) (c2 .put-byte .ensures)))))
 
-pub put-times-spec : {M : Type 1} → statement M
-put-times-spec =
+pub put-times-row-spec : {M : Type 1} → statement M
+put-times-row-spec =
     tie.close
     (tie.spec asks-nothing (λ c. search needs) asks-nothing asks-nothing (λ c. search needs) asks-nothing asks-nothing asks-nothing
     (λ c. search needs) returns)
