@@ -2,16 +2,23 @@
 #include "brundelak.h"
 #include "leb128.h"
 
-enum { WIDTH = BRUNDELAK_RECORD_BYTES, MOST_STARS = BRUNDELAK_MOST_STARS, MARK = 2 };
+enum { WIDTH = BRUNDELAK_RECORD_BYTES, MOST_STARS = BRUNDELAK_MOST_STARS };
+/* The first byte of the form that is written, and of the one before it, which has no rates and is read too. */
+enum { MARK = 3, OLD_MARK = 2 };
 
 struct star {
     uint32_t number, asc;
-    int32_t dec;
+    int32_t dec, asc_rate, dec_rate;
 };
+
+static int within(int32_t z, int32_t most)
+{
+    return z >= -most && z <= most;
+}
 
 static int in_range(const struct star *star)
 {
-    return star->asc < 1296000000 && star->dec >= -324000000 && star->dec <= 324000000;
+    return star->asc < 1296000000 && within(star->dec, 324000000) && within(star->asc_rate, 20000) && within(star->dec_rate, 20000);
 }
 
 static uint32_t fold(int32_t z)
@@ -67,17 +74,30 @@ static uint8_t number_at(const uint8_t **at, const uint8_t *end, uint32_t *numbe
     return 12;
 }
 
-static uint8_t star_at(const uint8_t **at, const uint8_t *end, struct star *star)
+static uint8_t folded_at(const uint8_t **at, const uint8_t *end, int32_t *z)
+{
+    uint32_t folded = 0;
+    uint8_t refusal = number_at(at, end, &folded);
+    *z = unfold(folded);
+    return refusal;
+}
+
+static uint8_t star_at(uint8_t mark, const uint8_t **at, const uint8_t *end, struct star *star)
 {
     uint8_t refusal;
-    uint32_t folded;
     if ((refusal = number_at(at, end, &star->number)) != 0)
         return refusal;
     if ((refusal = number_at(at, end, &star->asc)) != 0)
         return refusal;
-    if ((refusal = number_at(at, end, &folded)) != 0)
+    if ((refusal = folded_at(at, end, &star->dec)) != 0)
         return refusal;
-    star->dec = unfold(folded);
+    star->asc_rate = star->dec_rate = 0;
+    if (mark == MARK) {
+        if ((refusal = folded_at(at, end, &star->asc_rate)) != 0)
+            return refusal;
+        if ((refusal = folded_at(at, end, &star->dec_rate)) != 0)
+            return refusal;
+    }
     return in_range(star) ? 0 : 9;
 }
 
@@ -98,13 +118,13 @@ static void put_word(uint8_t *to, uint32_t word)
 
 static struct star record_at(const uint8_t *from)
 {
-    struct star star = {word_at(from), word_at(from + 4), (int32_t)word_at(from + 8)};
+    struct star star = {word_at(from), word_at(from + 4), (int32_t)word_at(from + 8), (int32_t)word_at(from + 12), (int32_t)word_at(from + 16)};
     return star;
 }
 
 /* ---- the moves */
 
-uint8_t plain_list_to_radio(const uint8_t *bytes, size_t len, uint8_t *out, size_t out_len, size_t *written)
+uint8_t plain_list_to_radio(const uint8_t *bytes, uint64_t len, uint8_t *out, uint64_t out_len, uint64_t *written)
 {
     if (len > WIDTH * MOST_STARS || len % WIDTH != 0)
         return 8;
@@ -114,7 +134,7 @@ uint8_t plain_list_to_radio(const uint8_t *bytes, size_t len, uint8_t *out, size
         struct star star = record_at(bytes + at);
         if (!in_range(&star))
             return 9;
-        size += size_of(star.number) + size_of(star.asc) + size_of(fold(star.dec));
+        size += size_of(star.number) + size_of(star.asc) + size_of(fold(star.dec)) + size_of(fold(star.asc_rate)) + size_of(fold(star.dec_rate));
     }
     if (out_len < size)
         return 8;
@@ -125,16 +145,19 @@ uint8_t plain_list_to_radio(const uint8_t *bytes, size_t len, uint8_t *out, size
         out = put_number(out, star.number);
         out = put_number(out, star.asc);
         out = put_number(out, fold(star.dec));
+        out = put_number(out, fold(star.asc_rate));
+        out = put_number(out, fold(star.dec_rate));
     }
     *written = size;
     return 0;
 }
 
-uint8_t plain_radio_to_list(const uint8_t *bytes, size_t len, uint8_t *out, size_t out_len, size_t *written)
+uint8_t plain_radio_to_list(const uint8_t *bytes, uint64_t len, uint8_t *out, uint64_t out_len, uint64_t *written)
 {
     if (len == 0)
         return 13;
-    if (bytes[0] != MARK)
+    uint8_t mark = bytes[0];
+    if (mark != MARK && mark != OLD_MARK)
         return 11;
     const uint8_t *first = bytes + 1, *end = bytes + len, *at;
     uint8_t refusal;
@@ -146,7 +169,7 @@ uint8_t plain_radio_to_list(const uint8_t *bytes, size_t len, uint8_t *out, size
         return 8;
     at = first;
     for (uint32_t i = 0; i < stars; i++)
-        if ((refusal = star_at(&at, end, &star)) != 0)
+        if ((refusal = star_at(mark, &at, end, &star)) != 0)
             return refusal;
     if (at != end)
         return 13;
@@ -154,10 +177,12 @@ uint8_t plain_radio_to_list(const uint8_t *bytes, size_t len, uint8_t *out, size
         return 8;
     at = first;
     for (uint32_t i = 0; i < stars; i++) {
-        star_at(&at, end, &star);
+        star_at(mark, &at, end, &star);
         put_word(out + WIDTH * i, star.number);
         put_word(out + WIDTH * i + 4, star.asc);
         put_word(out + WIDTH * i + 8, (uint32_t)star.dec);
+        put_word(out + WIDTH * i + 12, (uint32_t)star.asc_rate);
+        put_word(out + WIDTH * i + 16, (uint32_t)star.dec_rate);
     }
     *written = WIDTH * (size_t)stars;
     return 0;

@@ -1,6 +1,7 @@
 //! bench NAME port|rust N: N calls of a function, of the port through its C boundary or of the supplied text with Rust's own library
 //! functions, on the same random sights.
-//! bench stars LIST N: the first N stars of a list from J2000 to a night by the supplied text's chain, star by star.
+//! bench stars LIST N: the first N stars of a list from J2000, each where its rates have brought it, to a night by the supplied text's
+//! chain, star by star.
 //! Either with `time` for N: the nanoseconds of a call, the median of seven rounds.
 //! As many sights, or stars, are made ready whatever N is, so that the difference of two counts is the calls' own.
 extern crate astro_own as own;
@@ -28,7 +29,7 @@ struct Sight {
 const J2000: f64 = 2451545.0;
 const SIGHTS: usize = 600;
 /// Bytes of a record.
-const RECORD: usize = 12;
+const RECORD: usize = 20;
 
 /// The chain, composed of the supplied functions.
 fn chain(s: &Sight) -> f64 {
@@ -88,12 +89,15 @@ fn work(name: &str, side: &str) -> fn(&Sight) -> f64 {
 fn stars(path: &str) -> Vec<Sight> {
     let bytes = std::fs::read(path).unwrap();
     let word = |at: usize| (0..4).map(|k| (bytes[at + k] as u32) << (8 * k)).sum::<u32>();
+    let signed = |at: usize| (word(at) as i32 as f64 / 3600000.0).to_radians();
+    let day = 2462088.69;
+    let years = (day - J2000) / 365.25;
     (0..bytes.len() / RECORD)
         .map(|i| Sight {
-            asc: (word(RECORD * i + 4) as f64 / 3600000.0).to_radians(),
-            dec: (word(RECORD * i + 8) as i32 as f64 / 3600000.0).to_radians(),
+            asc: (word(RECORD * i + 4) as f64 / 3600000.0).to_radians() + signed(RECORD * i + 12) * years,
+            dec: signed(RECORD * i + 8) + signed(RECORD * i + 16) * years,
             lat: 0.0,
-            day: 2462088.69,
+            day: day,
         })
         .collect()
 }

@@ -1,5 +1,6 @@
 /* night WHAT LIST STARS NIGHTS: the first stars of a list from J2000 to each of some nights, by the batch, by the chain star by star, or
- * by another library where it is compiled in. Whatever the counts, the same list is read and as many places are added up, so that the
+ * by another library where it is compiled in. What takes no rates is given a star where its rates have brought it, which is worked out
+ * here. Whatever the counts, the same list is read and as many places are added up, so that the
  * difference of two counts is the work's own.
  * night WHAT LIST time: the nanoseconds of a star, the night's own taken off: the median of seven rounds.
  * night WHAT LIST apart: the widest distance of its places from the chain's, in seconds of arc, over all stars of the first night. */
@@ -23,7 +24,23 @@ enum { WIDTH = BRUNDELAK_RECORD_BYTES, ROOM = BRUNDELAK_MOST_STARS };
 static const double J2000 = 2451545.0, FIRST_NIGHT = 2462088.69, RADIAN = 3.14159265358979323846 / 180.0;
 
 static uint8_t bytes[WIDTH * ROOM], status[ROOM];
-static double given_asc[ROOM], given_dec[ROOM], asc[ROOM], dec[ROOM];
+static double given_asc[ROOM], given_dec[ROOM], asc_rate[ROOM], dec_rate[ROOM], asc[ROOM], dec[ROOM];
+
+static double years(double day)
+{
+    return (day - J2000) / 365.25;
+}
+
+/* A star's place after so many years. */
+static double asc_after(size_t i, double years)
+{
+    return given_asc[i] + asc_rate[i] * years;
+}
+
+static double dec_after(size_t i, double years)
+{
+    return given_dec[i] + dec_rate[i] * years;
+}
 
 static void batch(size_t stars, double day)
 {
@@ -41,8 +58,9 @@ static void batch_published(size_t stars, double day)
 
 static void chain(size_t stars, double day)
 {
+    double since = years(day);
     for (size_t i = 0; i < stars; i++)
-        if (brundelak_chain(given_asc[i], given_dec[i], J2000, day, &asc[i], &dec[i]) != 0)
+        if (brundelak_chain(asc_after(i, since), dec_after(i, since), J2000, day, &asc[i], &dec[i]) != 0)
             exit(1);
 }
 
@@ -51,10 +69,22 @@ static void chain(size_t stars, double day)
 static void erfa_quick(size_t stars, double day)
 {
     eraASTROM night;
+    double from_origin, eo, since = years(day);
+    eraApci13(day, 0.0, &night, &eo);
+    for (size_t i = 0; i < stars; i++) {
+        eraAtciqz(asc_after(i, since), dec_after(i, since), &night, &from_origin, &dec[i]);
+        asc[i] = eraAnp(from_origin - eo);
+    }
+}
+
+/* The same with the rates, which are of the coordinate in ERFA too; no parallax and no radial velocity. */
+static void erfa_motion(size_t stars, double day)
+{
+    eraASTROM night;
     double from_origin, eo;
     eraApci13(day, 0.0, &night, &eo);
     for (size_t i = 0; i < stars; i++) {
-        eraAtciqz(given_asc[i], given_dec[i], &night, &from_origin, &dec[i]);
+        eraAtciq(given_asc[i], given_dec[i], asc_rate[i], dec_rate[i], 0.0, 0.0, &night, &from_origin, &dec[i]);
         asc[i] = eraAnp(from_origin - eo);
     }
 }
@@ -63,7 +93,7 @@ static void erfa_full(size_t stars, double day)
 {
     double from_origin, eo;
     for (size_t i = 0; i < stars; i++) {
-        eraAtci13(given_asc[i], given_dec[i], 0.0, 0.0, 0.0, 0.0, day, 0.0, &from_origin, &dec[i], &eo);
+        eraAtci13(given_asc[i], given_dec[i], asc_rate[i], dec_rate[i], 0.0, 0.0, day, 0.0, &from_origin, &dec[i], &eo);
         asc[i] = eraAnp(from_origin - eo);
     }
 }
@@ -75,9 +105,9 @@ static void nova(size_t stars, double day)
 {
     struct ln_nutation n;
     ln_get_nutation(day, &n);
-    double sin_oblq = sin(n.ecliptic * RADIAN), cos_oblq = cos(n.ecliptic * RADIAN);
+    double sin_oblq = sin(n.ecliptic * RADIAN), cos_oblq = cos(n.ecliptic * RADIAN), since = years(day);
     for (size_t i = 0; i < stars; i++) {
-        struct ln_equ_posn star = {given_asc[i] / RADIAN, given_dec[i] / RADIAN}, moved, seen;
+        struct ln_equ_posn star = {asc_after(i, since) / RADIAN, dec_after(i, since) / RADIAN}, moved, seen;
         ln_get_equ_prec2(&star, J2000, day, &moved);
         ln_get_equ_aber(&moved, day, &seen);
         double a = moved.ra * RADIAN, sin_a = sin(a), cos_a = cos(a), tan_d = tan(moved.dec * RADIAN);
@@ -93,6 +123,7 @@ static const struct { const char *name; void (*work)(size_t, double); } works[] 
     {"chain", chain},
 #ifdef WITH_ERFA
     {"erfa_quick", erfa_quick},
+    {"erfa_motion", erfa_motion},
     {"erfa_full", erfa_full},
 #endif
 #ifdef WITH_NOVA
@@ -103,6 +134,12 @@ static const struct { const char *name; void (*work)(size_t, double); } works[] 
 static uint32_t word(size_t at)
 {
     return bytes[at] | (uint32_t)bytes[at + 1] << 8 | (uint32_t)bytes[at + 2] << 16 | (uint32_t)bytes[at + 3] << 24;
+}
+
+/* A signed count of milliarcseconds in radians. */
+static double radians(size_t at)
+{
+    return (int32_t)word(at) / 3600000.0 * RADIAN;
 }
 
 static double squared(double x)
@@ -153,7 +190,9 @@ int main(int argc, char **argv)
         return 1;
     for (size_t i = 0; i < ROOM; i++) {
         given_asc[i] = word(WIDTH * i + 4) / 3600000.0 * RADIAN;
-        given_dec[i] = (int32_t)word(WIDTH * i + 8) / 3600000.0 * RADIAN;
+        given_dec[i] = radians(WIDTH * i + 8);
+        asc_rate[i] = radians(WIDTH * i + 12);
+        dec_rate[i] = radians(WIDTH * i + 16);
     }
     for (size_t w = 0; w < sizeof works / sizeof *works; w++) {
         if (strcmp(works[w].name, argv[1]) != 0)

@@ -128,23 +128,35 @@ static void draw(const struct function *f)
 /* ---- lists ---- */
 
 enum { WIDTH = BRUNDELAK_RECORD_BYTES, STARS = BRUNDELAK_MOST_STARS, LIST = BRUNDELAK_MOST_BYTES, RADIO = BRUNDELAK_MOST_RADIO_BYTES };
-static uint8_t list[LIST + 1], radio[RADIO], text[LIST > RADIO ? LIST : RADIO], statuses[STARS];
+/* Bytes of a record of the days before there were rates. */
+enum { OLD = 12 };
+static uint8_t list[LIST + 1], still[LIST], old[OLD * STARS + 1], radio[RADIO], text[LIST > RADIO ? LIST : RADIO], statuses[STARS];
 static double ascs[STARS], decs[STARS];
 static uint32_t tally[BRUNDELAK_COUNTS], word[3];
-static int32_t signed_word;
-static size_t list_len, radio_len, after;
+static int32_t signed_word[3];
+static uint64_t list_len, still_len, old_len, radio_len, after;
 
 #define AT(name) ((__typeof__(&brundelak_##name))called)
 
-/* A list of so many stars, and its radio form. */
+static int32_t any_rate(void)
+{
+    return (int32_t)drawn_below(40001) - 20000;
+}
+
+/* A list of so many stars and its radio form; the list of before, without rates, and that one moved up. */
 static void fill(size_t stars)
 {
-    for (size_t i = 0; i < stars; i++)
+    for (size_t i = 0; i < stars; i++) {
         if (brundelak_put_star(list, sizeof list, WIDTH * i, (uint32_t)(drawn_bits() >> 32 >> drawn_below(32)), (uint32_t)drawn_below(1296000000),
-                               (int32_t)drawn_below(648000001) - 324000000, &after) != 0)
+                               (int32_t)drawn_below(648000001) - 324000000, any_rate(), any_rate(), &after) != 0)
             exit(1);
+        memcpy(old + OLD * i, list + WIDTH * i, OLD);
+    }
     list_len = WIDTH * stars;
+    old_len = OLD * stars;
     if (brundelak_list_to_radio(list, list_len, radio, sizeof radio, &radio_len) != 0)
+        exit(1);
+    if (brundelak_list_12_to_20(old, old_len, still, sizeof still, &still_len) != 0 || still_len != list_len)
         exit(1);
 }
 
@@ -153,6 +165,8 @@ static void damage(void)
 {
     for (size_t n = list_len == 0 ? 0 : 1 + list_len / 500; n > 0; n--) {
         list[drawn_below(list_len)] = 0xFF;
+        still[drawn_below(still_len)] = 0xFF;
+        old[drawn_below(old_len)] = 0xFF;
         radio[radio_len / 2 + drawn_below(radio_len / 2)] = 0xFF;
     }
 }
@@ -179,19 +193,19 @@ static void tally_raise(void)
 static void star(void)
 {
     for (size_t i = 0; i <= list_len; i += 4)
-        AT(star)(list, list_len, i, &word[0], &word[1], &signed_word, &after);
+        AT(star)(list, list_len, i, &word[0], &word[1], &signed_word[0], &signed_word[1], &signed_word[2], &after);
 }
 
 static void put_star(void)
 {
-    for (size_t i = 0; i <= sizeof text; i += 6)
-        AT(put_star)(text, sizeof text, i, 7, (uint32_t)i << 15, -7, &after);
+    for (size_t i = 0; i <= sizeof text; i += 4)
+        AT(put_star)(text, sizeof text, i, 7, (uint32_t)i << 15, -7, (int32_t)i / 2 - 1000, -7, &after);
 }
 
 static void find(void)
 {
     for (uint32_t i = 0; i < 40; i++)
-        AT(find)(list, list_len, i, &after, &word[1], &signed_word);
+        AT(find)(list, list_len, i, &after, &word[1], &signed_word[0], &signed_word[1], &signed_word[2]);
 }
 
 static void radio_open(void)
@@ -203,7 +217,7 @@ static void radio_open(void)
 static void radio_star(void)
 {
     for (size_t i = 0; i <= radio_len; i++)
-        AT(radio_star)(radio, radio_len, i, &word[0], &word[1], &signed_word, &after);
+        AT(radio_star)(radio, radio_len, i, &word[0], &word[1], &signed_word[0], &signed_word[1], &signed_word[2], &after);
 }
 
 static void radio_accept(void)
@@ -221,8 +235,8 @@ static void radio_put_head(void)
 static void radio_put_star(void)
 {
     for (uint32_t i = 0; i < 32; i++)
-        for (size_t room = 0; room < 16; room++)
-            AT(radio_put_star)(text, room, 0, (uint32_t)1 << i, (uint32_t)1 << i, -(int32_t)(i * 12000000), &after);
+        for (size_t room = 0; room < 24; room++)
+            AT(radio_put_star)(text, room, 0, (uint32_t)1 << i, (uint32_t)1 << i, -(int32_t)(i * 12000000), (int32_t)(i * 640), -(int32_t)i, &after);
 }
 
 static void radio_to_list(void)
@@ -237,12 +251,26 @@ static void list_to_radio(void)
         AT(list_to_radio)(list, less(list_len, i / 2), text, i % 2 ? WIDTH : sizeof text, &after);
 }
 
+static void list_12_to_20(void)
+{
+    for (size_t i = 0; i < 4; i++)
+        AT(list_12_to_20)(old, less(old_len, i / 2), text, i % 2 ? WIDTH : sizeof text, &after);
+}
+
+static void list_20_to_12(void)
+{
+    for (size_t i = 0; i < 4; i++) {
+        AT(list_20_to_12)(still, less(still_len, i / 2), text, i % 2 ? WIDTH : sizeof text, &after);
+        AT(list_20_to_12)(list, less(list_len, i / 2), text, i % 2 ? WIDTH : sizeof text, &after);
+    }
+}
+
 #define LISTED(name, by) {#name, (any_function *)brundelak_##name, by}
 static const struct { const char *name; any_function *f; void (*by)(void); } listed[] = {
     LISTED(batch, batch), LISTED(batch_published, batch), LISTED(tally_raise, tally_raise), LISTED(star, star), LISTED(put_star, put_star),
     LISTED(find, find), LISTED(radio_open, radio_open), LISTED(radio_star, radio_star), LISTED(radio_accept, radio_accept),
     LISTED(radio_put_head, radio_put_head), LISTED(radio_put_star, radio_put_star), LISTED(radio_to_list, radio_to_list),
-    LISTED(list_to_radio, list_to_radio)};
+    LISTED(list_to_radio, list_to_radio), LISTED(list_12_to_20, list_12_to_20), LISTED(list_20_to_12, list_20_to_12)};
 
 enum { LISTED_COUNT = sizeof listed / sizeof *listed };
 

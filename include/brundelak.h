@@ -13,24 +13,27 @@
  *    3   an angle exceeds 64.0 in size (deg_frm_dms, deg_frm_hms, to_radians and both limit_to_.. excepted, which take
  *        every finite number); a declination, altitude, observer or frame latitude exceeds a quarter turn
  *        (1.5707963267948966) in size; for sine, cosine and tangent called alone: exceeds 400000.0; of refraction: an
- *        altitude outside 0.0 to 89.8 degrees
+ *        altitude outside 0.0 to 89.8 degrees; of a star in a batch: its declination, shifted by its rate, exceeds a quarter
+ *        turn
  *    4   an angle that goes into a tangent, or whose cosine divides, exceeds 1.57 in size
  *    5   a distance outside 0.0001 to 1000000.0 AU, a height outside -1000.0 to 100000.0 m, the root of a number below 0
  *    6   the sine of the new inclination, or N in topopcent_ecl_coords, is zero; in topopcent_ecl_coords_published also the
  *        cosine of the topocentric longitude
  *    7   the argument of an arcsine exceeds 1 in size
- *    8   list bytes not a multiple of 12, or more than 60000; a lent slice shorter than the star count; a place past the
- *        end of the list or not at a record's start (the end itself is accepted); a record to be written elsewhere than
- *        at one of a list's 5000 record starts, or without room; a count to be raised already at 60000; a star count of
- *        a radio list above 5000; a slice too short for a radio list, a part of one or the list of one
+ *    8   list bytes not a multiple of 20, or more than 60000; of a narrow list that is to move up no multiple of 12, or
+ *        more than 36000; a lent slice shorter than the star count; a place past the end of the list or not at a record's
+ *        start (the end itself is accepted); a record to be written elsewhere than at one of a list's 3000 record starts,
+ *        or without room; a count to be raised already at 60000; a star count of a radio list above 3000; a slice too
+ *        short for a radio list, a part of one or the list of one, or for a list of the other width
  *    9   a star record out of range; a status given to the tally that is neither 0 nor a number of this table (before 8)
  *   10   no star has the number sought
- *   11   the first byte of a radio list is not 2
+ *   11   the first byte of a radio list is neither 2 nor 3
  *   12   a number of a radio list is not in its shortest length or above 32 bits
  *   13   a radio list is cut short, an empty one too, or has bytes over
  *   14   both arguments of an arctangent are zero, of either sign: there is no direction
  *   15   the star never rises: it stays below the standard altitude
  *   16   the star never sets: it stays above the standard altitude
+ *   17   a star's rate is not zero, and a narrow list, to which it is to move down, has no rates
  * 1 to 5 are tested first, lowest number first, over all arguments; the others as the work meets them.
  * Limits themselves are accepted.
  *
@@ -42,6 +45,14 @@
  * Editions: where the ported crate's rule is not Meeus's, the plain name is the crate's, by which past files reproduce, and
  * the name with _published is Meeus's, for new files. Arguments and answers are the same.
  *
+ * What changed from 0.1 to 0.2: a star's record has 20 bytes in place of 12, since it holds two rates, the yearly change of
+ * right ascension and of declination; a list has at most 3000 stars in place of 5000, in every form; the radio form that is
+ * written begins with byte 3. Five functions have another shape: brundelak_star, brundelak_find and brundelak_radio_star
+ * hand out asc_rate and dec_rate after dec, brundelak_put_star and brundelak_radio_put_star take both after dec. New are
+ * brundelak_list_12_to_20 and brundelak_list_20_to_12, by which lists of before move up and back, refusal 17, and a star's
+ * status 3. Lengths, places and indices are uint64_t, which on x86-64 is the same call. The number of a version is
+ * major * 65536 + minor * 256 + patch; of 0.1.0 it was 100.
+ *
  * For C99 or later, and C++. The archive, libbrundelak.a, and the shared library, libbrundelak.so, are x86-64 code and need
  * nothing of libm; pkg-config brundelak says how to compile and link.
  *
@@ -52,7 +63,6 @@
 #ifndef BRUNDELAK_H
 #define BRUNDELAK_H
 
-#include <stddef.h>
 #include <stdint.h>
 #include <string.h>
 
@@ -60,11 +70,12 @@
 extern "C" {
 #endif
 
-#define BRUNDELAK_VERSION "0.1.0"
+/* The version, and its number: major * 65536 + minor * 256 + patch. */
+#define BRUNDELAK_VERSION "0.2.0"
 #define BRUNDELAK_VERSION_MAJOR 0
-#define BRUNDELAK_VERSION_MINOR 1
+#define BRUNDELAK_VERSION_MINOR 2
 #define BRUNDELAK_VERSION_PATCH 0
-#define BRUNDELAK_VERSION_NUMBER (10000 * BRUNDELAK_VERSION_MAJOR + 100 * BRUNDELAK_VERSION_MINOR + BRUNDELAK_VERSION_PATCH)
+#define BRUNDELAK_VERSION_NUMBER (65536 * BRUNDELAK_VERSION_MAJOR + 256 * BRUNDELAK_VERSION_MINOR + BRUNDELAK_VERSION_PATCH)
 
 /* The version of the archive, or of the shared library, that is linked.
  *
@@ -75,17 +86,22 @@ uint32_t brundelak_version(void);
 #define BRUNDELAK_END 255
 
 /* The stored list: the bytes of a record, the stars of a list at most, and its bytes at most. */
-#define BRUNDELAK_RECORD_BYTES 12
-#define BRUNDELAK_MOST_STARS 5000
+#define BRUNDELAK_RECORD_BYTES 20
+#define BRUNDELAK_MOST_STARS 3000
 #define BRUNDELAK_MOST_BYTES (BRUNDELAK_RECORD_BYTES * BRUNDELAK_MOST_STARS)
 
-/* The bytes of a radio list at most: the first, two of the star count, and for each star three numbers of five. */
-#define BRUNDELAK_MOST_RADIO_BYTES (3 + 15 * BRUNDELAK_MOST_STARS)
+/* The narrow list, as version 0.1 had it: the bytes of its record, which has no rates, and its bytes at most. */
+#define BRUNDELAK_NARROW_RECORD_BYTES 12
+#define BRUNDELAK_MOST_NARROW_BYTES (BRUNDELAK_NARROW_RECORD_BYTES * BRUNDELAK_MOST_STARS)
+
+/* The bytes of a radio list at most: the first, two of the star count, and for each star three numbers of five and two rates
+ * of three. */
+#define BRUNDELAK_MOST_RADIO_BYTES (3 + 21 * BRUNDELAK_MOST_STARS)
 
 /* The tally: how many counts it has, the count at which one is full, and the highest status that is known. */
 #define BRUNDELAK_COUNTS 20
 #define BRUNDELAK_FULLEST 60000
-#define BRUNDELAK_HIGHEST_STATUS 16
+#define BRUNDELAK_HIGHEST_STATUS 17
 
 /* What brundelak_float_environment finds wrong. */
 #define BRUNDELAK_ENVIRONMENT_ROUNDING 1
@@ -111,7 +127,8 @@ enum brundelak_status {
     BRUNDELAK_REFUSAL_END = 13,
     BRUNDELAK_REFUSAL_NO_DIRECTION = 14,
     BRUNDELAK_REFUSAL_NEVER_RISES = 15,
-    BRUNDELAK_REFUSAL_NEVER_SETS = 16
+    BRUNDELAK_REFUSAL_NEVER_SETS = 16,
+    BRUNDELAK_REFUSAL_MOVING_STAR = 17
 };
 
 /* What a status means, as a sentence for people: also of BRUNDELAK_END, and of a number that has no name here. */
@@ -141,7 +158,7 @@ static inline const char *brundelak_sentence(uint8_t status)
     case BRUNDELAK_REFUSAL_NO_STAR:
         return "no star has the number sought";
     case BRUNDELAK_REFUSAL_FIRST_BYTE:
-        return "the first byte of a radio list is not 2";
+        return "the first byte of a radio list is neither 2 nor 3";
     case BRUNDELAK_REFUSAL_SPELLING:
         return "a number of a radio list is not in its shortest length or above 32 bits";
     case BRUNDELAK_REFUSAL_END:
@@ -152,6 +169,8 @@ static inline const char *brundelak_sentence(uint8_t status)
         return "the star never rises: it stays below the standard altitude";
     case BRUNDELAK_REFUSAL_NEVER_SETS:
         return "the star never sets: it stays above the standard altitude";
+    case BRUNDELAK_REFUSAL_MOVING_STAR:
+        return "a star's rate is not zero, and a record of 12 bytes has no rates";
     case BRUNDELAK_END:
         return "no star is left";
     default:
@@ -182,8 +201,7 @@ static inline int brundelak_float_environment(void)
     volatile double least_normal = 2.2250738585072014e-308, half = 0.5, high = 1.0715086071862673e301, operand, result;
     uint64_t bits = 1;
     double number;
-    int wrong = 0;
-    size_t i;
+    int wrong = 0, i;
     for (i = 0; i < 8; i++) {
         result = sums[i][0] + sums[i][1];
         if (result != sums[i][2])
@@ -581,67 +599,102 @@ uint8_t brundelak_chain_published(double old_asc, double old_dec, double day1, d
                                   double *dec);
 
 /* ---- the stored list ---------------------------------------------------------------------------------------------
- * A list is at most 5000 records of 12 bytes, little-endian: number (uint32), right ascension in milliarcseconds
- * (uint32, below 1296000000), declination in milliarcseconds (int32, size at most 324000000). */
+ * A list is at most 3000 records of 20 bytes, little-endian: number (uint32), right ascension in milliarcseconds
+ * (uint32, below 1296000000), declination in milliarcseconds (int32, size at most 324000000), and the yearly change of each,
+ * in milliarcseconds a year (int32, size at most 20000). The rate of right ascension is of the coordinate itself: what
+ * catalogues print is that times cos declination, and must be divided by it. */
 
 /* The star at a place of a list, in range or not, and the place after it: walk a list from place 0.
- * Given:     bytes, len         the list
- *            place              a multiple of 12, at most len
- * Returned:  number, asc, dec   the record's fields
- *            next               the place after it
+ * Given:     bytes, len           the list
+ *            place                a multiple of 20, at most len
+ * Returned:  number, asc, dec, asc_rate, dec_rate
+ *                                 the record's fields
+ *            next                 the place after it
  * Status:    0, or BRUNDELAK_END where none is left (nothing is written)
  * Refusals:  8 */
-uint8_t brundelak_star(const uint8_t *bytes, size_t len, size_t place, uint32_t *number, uint32_t *asc, int32_t *dec,
-                       size_t *next);
+uint8_t brundelak_star(const uint8_t *bytes, uint64_t len, uint64_t place, uint32_t *number, uint32_t *asc, int32_t *dec,
+                       int32_t *asc_rate, int32_t *dec_rate, uint64_t *next);
 
 /* A star written as a record: stars written one after the other from place 0 on are a list, which ends at the last next.
- * Given:     out, len           a slice of any length
- *            place              where in it the record begins: a multiple of 12, below 60000
- *            number, asc, dec   the star's fields
- * Returned:  out                the record from place on; all else stays
- *            next               the place after it
+ * Given:     out, len             a slice of any length
+ *            place                where in it the record begins: a multiple of 20, below 60000
+ *            number, asc, dec, asc_rate, dec_rate
+ *                                 the star's fields; both rates are 0 of a star that stands still
+ * Returned:  out                  the record from place on; all else stays
+ *            next                 the place after it
  * Refusals:  9 (out of range), then 8 (no record of a list begins there, or no room); the slice stays unchanged */
-uint8_t brundelak_put_star(uint8_t *out, size_t len, size_t place, uint32_t number, uint32_t asc, int32_t dec,
-                           size_t *next);
+uint8_t brundelak_put_star(uint8_t *out, uint64_t len, uint64_t place, uint32_t number, uint32_t asc, int32_t dec,
+                           int32_t asc_rate, int32_t dec_rate, uint64_t *next);
 
 /* The first star with a number.
  * Given:     bytes, len   the list
  *            number       the number sought
  * Returned:  index        its index, from 0
- *            asc, dec     the record's other fields
+ *            asc, dec, asc_rate, dec_rate
+ *                         the record's other fields
  * Refusals:  8, then 10 (no star has the number), then 9 (its record is out of range) */
-uint8_t brundelak_find(const uint8_t *bytes, size_t len, uint32_t number, size_t *index, uint32_t *asc, int32_t *dec);
+uint8_t brundelak_find(const uint8_t *bytes, uint64_t len, uint32_t number, uint64_t *index, uint32_t *asc, int32_t *dec,
+                       int32_t *asc_rate, int32_t *dec_rate);
 
-/* Every star of a list by the chain, from one day to another.
+/* Every star of a list by the chain, from one day to another. Before it each coordinate is shifted: its rate times the
+ * years between the days, (day2 - day1) / 365.25, is added to it. A star with both rates zero has the chain's answer at its
+ * place, bit for bit.
  * Given:     bytes, len            the list
  *            day1, day2            Julian days
  *            status, status_len    a byte for each star, at least as many as there are stars
  *            asc, asc_len          likewise, and
  *            dec, dec_len          likewise
- * Returned:  status[i]             0, or star i's refusal: 4, 7, 14, or 9 for a record out of range
+ * Returned:  status[i]             0, or star i's refusal, the first met: 9 for a record out of range, 3 for a declination
+ *                                  shifted past a quarter turn, then the chain's 14, 7, 4
  *            asc[i], dec[i]        star i's place on day2; 0.0 and 0.0 where it is refused; places past the stars stay
  *            tally                 BRUNDELAK_COUNTS counts: how many stars have status 0, 1, .. 19
  * Refusals:  1, 2, then 8; all that is lent stays unchanged */
-uint8_t brundelak_batch(const uint8_t *bytes, size_t len, double day1, double day2, uint8_t *status, size_t status_len,
-                        double *asc, size_t asc_len, double *dec, size_t dec_len, uint32_t *tally);
+uint8_t brundelak_batch(const uint8_t *bytes, uint64_t len, double day1, double day2, uint8_t *status, uint64_t status_len,
+                        double *asc, uint64_t asc_len, double *dec, uint64_t dec_len, uint32_t *tally);
 
 /* The same in the published edition: each star by brundelak_chain_published.
  * Given, Returned, Refusals:  as brundelak_batch */
-uint8_t brundelak_batch_published(const uint8_t *bytes, size_t len, double day1, double day2, uint8_t *status,
-                                  size_t status_len, double *asc, size_t asc_len, double *dec, size_t dec_len,
+uint8_t brundelak_batch_published(const uint8_t *bytes, uint64_t len, double day1, double day2, uint8_t *status,
+                                  uint64_t status_len, double *asc, uint64_t asc_len, double *dec, uint64_t dec_len,
                                   uint32_t *tally);
 
 /* One status counted in a tally.
- * Given:     status   0, or a refusal number up to 16
+ * Given:     status   0, or a refusal number up to 17
  *            tally    BRUNDELAK_COUNTS counts
  * Returned:  tally    the count of that status raised by one
  * Refusals:  9 for a status that is not known, then 8 for a count that is full, 60000; the counts stay unchanged */
 uint8_t brundelak_tally_raise(uint8_t status, uint32_t *tally);
 
+/* ---- lists of before ---------------------------------------------------------------------------------------------
+ * A narrow list is one of version 0.1: number, right ascension and declination as above, 12 bytes a record. A list
+ * bears no mark of its width, so that who keeps lists of both must know which is which. A slice that is written and the
+ * bytes that are read must not overlap. */
+
+/* A narrow list, all its records in range, moved up: both rates are zero. Back by brundelak_list_20_to_12 it has the same
+ * bytes.
+ * Given:     bytes, len     the narrow list
+ *            out, out_len   a slice (60000 do for every list)
+ * Returned:  out            the list, from the slice's start on; the rest stays
+ *            written        how many bytes it has
+ * Refusals:  8 (no multiple of 12, or more than 36000), then 9 (a record out of range), then 8 (the slice is too short);
+ *            the slice stays unchanged */
+uint8_t brundelak_list_12_to_20(const uint8_t *bytes, uint64_t len, uint8_t *out, uint64_t out_len, uint64_t *written);
+
+/* A list, all its records in range and all its rates zero, moved down to a narrow one. Back by brundelak_list_12_to_20 it
+ * has the same bytes.
+ * Given:     bytes, len     the list
+ *            out, out_len   a slice (36000 do for every narrow list)
+ * Returned:  out            the narrow list, from the slice's start on; the rest stays
+ *            written        how many bytes it has
+ * Refusals:  8 (not a list), then 9 (a record out of range), then 17 (a rate is not zero), each wherever in the list it is,
+ *            then 8 (the slice is too short); the slice stays unchanged */
+uint8_t brundelak_list_20_to_12(const uint8_t *bytes, uint64_t len, uint8_t *out, uint64_t out_len, uint64_t *written);
+
 /* ---- lists over the radio link -----------------------------------------------------------------------------------
- * Byte 2, the star count (at most 5000), then for each star its number, right ascension and folded declination (0, -1,
- * 1, -2 become 0, 1, 2, 3), units and ranges as in the stored list. Every number stands in groups of seven bits, low
- * group first, high bit set on all groups but the last, in the shortest length and in 32 bits: 300 is AC 02.
+ * Byte 3, the star count (at most 3000), then for each star its number, right ascension, folded declination (0, -1, 1, -2
+ * become 0, 1, 2, 3) and both rates folded, units and ranges as in the stored list. Every number stands in groups of seven
+ * bits, low group first, high bit set on all groups but the last, in the shortest length and in 32 bits: 300 is AC 02.
+ * Byte 2 begins a list of version 0.1, three numbers a star: it is read, with rates zero, and never written.
  * Of the refusals the first met is given: 12 at the byte that shows it, 9 after the star's last number. A slice that is
  * written and the bytes that are read must not overlap. */
 
@@ -649,59 +702,61 @@ uint8_t brundelak_tally_raise(uint8_t status, uint32_t *tally);
  * Given:     bytes, len   the radio list
  * Returned:  count        how many stars it says it has
  *            place        the place of the first, for brundelak_radio_star
- * Refusals:  13 (empty), 11, then 12 or 13 (the count), then 8 (above 5000) */
-uint8_t brundelak_radio_open(const uint8_t *bytes, size_t len, uint32_t *count, size_t *place);
+ * Refusals:  13 (empty), 11, then 12 or 13 (the count), then 8 (above 3000) */
+uint8_t brundelak_radio_open(const uint8_t *bytes, uint64_t len, uint32_t *count, uint64_t *place);
 
 /* The star at a place of a radio list, and the place after it: walk a list from brundelak_radio_open's place, so many
- * times as it has stars. Of the head only the first byte is looked at.
- * Given:     bytes, len         the radio list
- *            place              any place; at or past the end it is refused by 13
- * Returned:  number, asc, dec   the star's fields, in range
- *            next               the place after it
+ * times as it has stars. Of the head only the first byte is looked at, which says whether a star has rates.
+ * Given:     bytes, len           the radio list
+ *            place                any place; at or past the end it is refused by 13
+ * Returned:  number, asc, dec, asc_rate, dec_rate
+ *                                 the star's fields, in range
+ *            next                 the place after it
  * Refusals:  13 (empty), 11, then 12 or 13 number by number, then 9 */
-uint8_t brundelak_radio_star(const uint8_t *bytes, size_t len, size_t place, uint32_t *number, uint32_t *asc,
-                             int32_t *dec, size_t *next);
+uint8_t brundelak_radio_star(const uint8_t *bytes, uint64_t len, uint64_t place, uint32_t *number, uint32_t *asc,
+                             int32_t *dec, int32_t *asc_rate, int32_t *dec_rate, uint64_t *next);
 
 /* Whether a whole radio list is good.
  * Given:     bytes, len   the radio list
  * Returned:  count        how many stars it has
  * Refusals:  as brundelak_radio_open, then at each star as brundelak_radio_star, then 13 (bytes over) */
-uint8_t brundelak_radio_accept(const uint8_t *bytes, size_t len, uint32_t *count);
+uint8_t brundelak_radio_accept(const uint8_t *bytes, uint64_t len, uint32_t *count);
 
-/* The head of a radio list written: its first byte and the star count.
+/* The head of a radio list written: byte 3 and the star count.
  * Given:     out, len   a slice
  *            place      where in it the head begins
  *            count      how many stars will follow
  * Returned:  out        the head from place on; all else stays
  *            next       the place after it
- * Refusals:  8 (the count is above 5000), then 8 (no room); the slice stays unchanged */
-uint8_t brundelak_radio_put_head(uint8_t *out, size_t len, size_t place, uint32_t count, size_t *next);
+ * Refusals:  8 (the count is above 3000), then 8 (no room); the slice stays unchanged */
+uint8_t brundelak_radio_put_head(uint8_t *out, uint64_t len, uint64_t place, uint32_t count, uint64_t *next);
 
-/* A star of a radio list written.
- * Given:     out, len           a slice
- *            place              where in it the star begins
- *            number, asc, dec   the star's fields
- * Returned:  out                the star from place on; all else stays
- *            next               the place after it
+/* A star of a radio list written, with its rates.
+ * Given:     out, len             a slice
+ *            place                where in it the star begins
+ *            number, asc, dec, asc_rate, dec_rate
+ *                                 the star's fields
+ * Returned:  out                  the star from place on; all else stays
+ *            next                 the place after it
  * Refusals:  9 (out of range), then 8 (no room); the slice stays unchanged */
-uint8_t brundelak_radio_put_star(uint8_t *out, size_t len, size_t place, uint32_t number, uint32_t asc, int32_t dec,
-                                 size_t *next);
+uint8_t brundelak_radio_put_star(uint8_t *out, uint64_t len, uint64_t place, uint32_t number, uint32_t asc, int32_t dec,
+                                 int32_t asc_rate, int32_t dec_rate, uint64_t *next);
 
 /* A radio list as a stored list.
  * Given:     bytes, len     the radio list
- *            out, out_len   a slice of at least 12 bytes a star (60000 do for every list)
+ *            out, out_len   a slice of at least 20 bytes a star (60000 do for every list)
  * Returned:  out            the stored list, from the slice's start on; the rest stays
  *            written        how many bytes it has
  * Refusals:  as brundelak_radio_accept, then 8 (the slice is too short); the slice stays unchanged */
-uint8_t brundelak_radio_to_list(const uint8_t *bytes, size_t len, uint8_t *out, size_t out_len, size_t *written);
+uint8_t brundelak_radio_to_list(const uint8_t *bytes, uint64_t len, uint8_t *out, uint64_t out_len, uint64_t *written);
 
 /* A stored list, all its records in range, as a radio list. Back by brundelak_radio_to_list it has the same bytes.
  * Given:     bytes, len     the stored list
- *            out, out_len   a slice (75003 bytes do for every list)
+ *            out, out_len   a slice (63003 bytes do for every list)
  * Returned:  out            the radio list, from the slice's start on; the rest stays
  *            written        how many bytes it has
  * Refusals:  8 (not a list), then 9 (a record out of range), then 8 (the slice is too short); the slice stays unchanged */
-uint8_t brundelak_list_to_radio(const uint8_t *bytes, size_t len, uint8_t *out, size_t out_len, size_t *written);
+uint8_t brundelak_list_to_radio(const uint8_t *bytes, uint64_t len, uint8_t *out, uint64_t out_len, uint64_t *written);
 
 #ifdef __cplusplus
 }

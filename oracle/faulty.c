@@ -1,4 +1,4 @@
-/* Eight functions, each put in the place of the archive's by the linker, with one slip of the boundary: fuzz must report each. */
+/* Ten functions, each put in the place of the archive's by the linker, with one slip of the boundary: fuzz must report each. */
 #include "brundelak.h"
 
 /* A NaN tidied, any other number kept: made quiet, made the one without sign and payload, or its sign taken away. */
@@ -12,25 +12,33 @@ static inline void tidy(double *x, uint64_t set, uint64_t clear)
 }
 
 uint8_t __real_brundelak_root(double x, double *out);
-uint8_t __real_brundelak_find(const uint8_t *bytes, size_t len, uint32_t number, size_t *index, uint32_t *asc, int32_t *dec);
-uint8_t __real_brundelak_batch(const uint8_t *bytes, size_t len, double day1, double day2, uint8_t *status, size_t status_len,
-                               double *asc, size_t asc_len, double *dec, size_t dec_len, uint32_t *tally);
+uint8_t __real_brundelak_find(const uint8_t *bytes, uint64_t len, uint32_t number, uint64_t *index, uint32_t *asc, int32_t *dec,
+                              int32_t *asc_rate, int32_t *dec_rate);
+uint8_t __real_brundelak_batch(const uint8_t *bytes, uint64_t len, double day1, double day2, uint8_t *status, uint64_t status_len,
+                               double *asc, uint64_t asc_len, double *dec, uint64_t dec_len, uint32_t *tally);
 uint8_t __real_brundelak_tally_raise(uint8_t status, uint32_t *tally);
-uint8_t __real_brundelak_put_star(uint8_t *out, size_t len, size_t place, uint32_t number, uint32_t asc, int32_t dec, size_t *next);
-uint8_t __real_brundelak_radio_star(const uint8_t *bytes, size_t len, size_t place, uint32_t *number, uint32_t *asc, int32_t *dec,
-                                    size_t *next);
-uint8_t __real_brundelak_radio_to_list(const uint8_t *bytes, size_t len, uint8_t *out, size_t out_len, size_t *written);
-uint8_t __real_brundelak_list_to_radio(const uint8_t *bytes, size_t len, uint8_t *out, size_t out_len, size_t *written);
-uint8_t __wrap_brundelak_radio_star(const uint8_t *bytes, size_t len, size_t place, uint32_t *number, uint32_t *asc, int32_t *dec,
-                                    size_t *next);
-uint8_t __wrap_brundelak_radio_to_list(const uint8_t *bytes, size_t len, uint8_t *out, size_t out_len, size_t *written);
-uint8_t __wrap_brundelak_list_to_radio(const uint8_t *bytes, size_t len, uint8_t *out, size_t out_len, size_t *written);
+uint8_t __real_brundelak_put_star(uint8_t *out, uint64_t len, uint64_t place, uint32_t number, uint32_t asc, int32_t dec,
+                                  int32_t asc_rate, int32_t dec_rate, uint64_t *next);
+uint8_t __real_brundelak_radio_star(const uint8_t *bytes, uint64_t len, uint64_t place, uint32_t *number, uint32_t *asc, int32_t *dec,
+                                    int32_t *asc_rate, int32_t *dec_rate, uint64_t *next);
+uint8_t __real_brundelak_radio_to_list(const uint8_t *bytes, uint64_t len, uint8_t *out, uint64_t out_len, uint64_t *written);
+uint8_t __real_brundelak_list_to_radio(const uint8_t *bytes, uint64_t len, uint8_t *out, uint64_t out_len, uint64_t *written);
+uint8_t __real_brundelak_list_12_to_20(const uint8_t *bytes, uint64_t len, uint8_t *out, uint64_t out_len, uint64_t *written);
+uint8_t __real_brundelak_list_20_to_12(const uint8_t *bytes, uint64_t len, uint8_t *out, uint64_t out_len, uint64_t *written);
+uint8_t __wrap_brundelak_radio_star(const uint8_t *bytes, uint64_t len, uint64_t place, uint32_t *number, uint32_t *asc, int32_t *dec,
+                                    int32_t *asc_rate, int32_t *dec_rate, uint64_t *next);
+uint8_t __wrap_brundelak_radio_to_list(const uint8_t *bytes, uint64_t len, uint8_t *out, uint64_t out_len, uint64_t *written);
+uint8_t __wrap_brundelak_list_to_radio(const uint8_t *bytes, uint64_t len, uint8_t *out, uint64_t out_len, uint64_t *written);
+uint8_t __wrap_brundelak_list_12_to_20(const uint8_t *bytes, uint64_t len, uint8_t *out, uint64_t out_len, uint64_t *written);
+uint8_t __wrap_brundelak_list_20_to_12(const uint8_t *bytes, uint64_t len, uint8_t *out, uint64_t out_len, uint64_t *written);
 uint8_t __wrap_brundelak_tally_raise(uint8_t status, uint32_t *tally);
-uint8_t __wrap_brundelak_put_star(uint8_t *out, size_t len, size_t place, uint32_t number, uint32_t asc, int32_t dec, size_t *next);
+uint8_t __wrap_brundelak_put_star(uint8_t *out, uint64_t len, uint64_t place, uint32_t number, uint32_t asc, int32_t dec,
+                                  int32_t asc_rate, int32_t dec_rate, uint64_t *next);
 uint8_t __wrap_brundelak_root(double x, double *out);
-uint8_t __wrap_brundelak_find(const uint8_t *bytes, size_t len, uint32_t number, size_t *index, uint32_t *asc, int32_t *dec);
-uint8_t __wrap_brundelak_batch(const uint8_t *bytes, size_t len, double day1, double day2, uint8_t *status, size_t status_len,
-                               double *asc, size_t asc_len, double *dec, size_t dec_len, uint32_t *tally);
+uint8_t __wrap_brundelak_find(const uint8_t *bytes, uint64_t len, uint32_t number, uint64_t *index, uint32_t *asc, int32_t *dec,
+                              int32_t *asc_rate, int32_t *dec_rate);
+uint8_t __wrap_brundelak_batch(const uint8_t *bytes, uint64_t len, double day1, double day2, uint8_t *status, uint64_t status_len,
+                               double *asc, uint64_t asc_len, double *dec, uint64_t dec_len, uint32_t *tally);
 
 uint8_t __wrap_brundelak_root(double x, double *out)
 {
@@ -54,9 +62,10 @@ uint8_t __wrap_brundelak_root(double x, double *out)
     return status;
 }
 
-uint8_t __wrap_brundelak_find(const uint8_t *bytes, size_t len, uint32_t number, size_t *index, uint32_t *asc, int32_t *dec)
+uint8_t __wrap_brundelak_find(const uint8_t *bytes, uint64_t len, uint32_t number, uint64_t *index, uint32_t *asc, int32_t *dec,
+                              int32_t *asc_rate, int32_t *dec_rate)
 {
-    uint8_t status = __real_brundelak_find(bytes, len, number, index, asc, dec);
+    uint8_t status = __real_brundelak_find(bytes, len, number, index, asc, dec, asc_rate, dec_rate);
 #if SLIP == 5 /* a byte read past the list */
     if (((const volatile uint8_t *)bytes)[len] == 1)
         return 8;
@@ -66,12 +75,18 @@ uint8_t __wrap_brundelak_find(const uint8_t *bytes, size_t len, uint32_t number,
 #elif SLIP == 7 /* the index of the next star */
     if (status == 0)
         ++*index;
+#elif SLIP == 24 /* the rates handed out, each in the other's place */
+    if (status == 0) {
+        int32_t rate = *asc_rate;
+        *asc_rate = *dec_rate;
+        *dec_rate = rate;
+    }
 #endif
     return status;
 }
 
-uint8_t __wrap_brundelak_batch(const uint8_t *bytes, size_t len, double day1, double day2, uint8_t *status, size_t status_len,
-                               double *asc, size_t asc_len, double *dec, size_t dec_len, uint32_t *tally)
+uint8_t __wrap_brundelak_batch(const uint8_t *bytes, uint64_t len, double day1, double day2, uint8_t *status, uint64_t status_len,
+                               double *asc, uint64_t asc_len, double *dec, uint64_t dec_len, uint32_t *tally)
 {
     uint8_t answer = __real_brundelak_batch(bytes, len, day1, day2, status, status_len, asc, asc_len, dec, dec_len, tally);
 #if SLIP == 8 /* the place past the stars is cleared */
@@ -107,14 +122,14 @@ uint8_t __wrap_brundelak_tally_raise(uint8_t status, uint32_t *tally)
     return answer;
 }
 
-uint8_t __wrap_brundelak_radio_star(const uint8_t *bytes, size_t len, size_t place, uint32_t *number, uint32_t *asc, int32_t *dec,
-                                    size_t *next)
+uint8_t __wrap_brundelak_radio_star(const uint8_t *bytes, uint64_t len, uint64_t place, uint32_t *number, uint32_t *asc, int32_t *dec,
+                                    int32_t *asc_rate, int32_t *dec_rate, uint64_t *next)
 {
 #if SLIP == 13 /* a byte read past a list that is cut short */
     if (place < len && ((const volatile uint8_t *)bytes)[len] == 1)
         return 13;
 #endif
-    uint8_t status = __real_brundelak_radio_star(bytes, len, place, number, asc, dec, next);
+    uint8_t status = __real_brundelak_radio_star(bytes, len, place, number, asc, dec, asc_rate, dec_rate, next);
 #if SLIP == 14 /* a star left though it is out of range */
     if (status == 9)
         *number = 0;
@@ -122,7 +137,7 @@ uint8_t __wrap_brundelak_radio_star(const uint8_t *bytes, size_t len, size_t pla
     return status;
 }
 
-uint8_t __wrap_brundelak_radio_to_list(const uint8_t *bytes, size_t len, uint8_t *out, size_t out_len, size_t *written)
+uint8_t __wrap_brundelak_radio_to_list(const uint8_t *bytes, uint64_t len, uint8_t *out, uint64_t out_len, uint64_t *written)
 {
 #if SLIP == 15 /* written before the list is known to be good */
     if (len > 2 && out_len > 0)
@@ -137,7 +152,7 @@ uint8_t __wrap_brundelak_radio_to_list(const uint8_t *bytes, size_t len, uint8_t
     return status;
 }
 
-uint8_t __wrap_brundelak_list_to_radio(const uint8_t *bytes, size_t len, uint8_t *out, size_t out_len, size_t *written)
+uint8_t __wrap_brundelak_list_to_radio(const uint8_t *bytes, uint64_t len, uint8_t *out, uint64_t out_len, uint64_t *written)
 {
     uint8_t status = __real_brundelak_list_to_radio(bytes, len, out, out_len, written);
 #if SLIP == 17 /* another star count */
@@ -150,9 +165,43 @@ uint8_t __wrap_brundelak_list_to_radio(const uint8_t *bytes, size_t len, uint8_t
     return status;
 }
 
-uint8_t __wrap_brundelak_put_star(uint8_t *out, size_t len, size_t place, uint32_t number, uint32_t asc, int32_t dec, size_t *next)
+uint8_t __wrap_brundelak_list_12_to_20(const uint8_t *bytes, uint64_t len, uint8_t *out, uint64_t out_len, uint64_t *written)
 {
-    uint8_t status = __real_brundelak_put_star(out, len, place, number, asc, dec, next);
+#if SLIP == 25 /* written before the list is known to be good */
+    if (len >= 12 && out_len >= 12)
+        memcpy(out, bytes, 12);
+#endif
+    uint8_t status = __real_brundelak_list_12_to_20(bytes, len, out, out_len, written);
+#if SLIP == 26 /* the last rate left as the slice had it */
+    if (status == 0 && *written > 0)
+        out[*written - 1] = 0xA5;
+#elif SLIP == 27 /* a length that is no list's named a record out of range */
+    if (status == 8 && len % 12 != 0)
+        return 9;
+#endif
+    return status;
+}
+
+uint8_t __wrap_brundelak_list_20_to_12(const uint8_t *bytes, uint64_t len, uint8_t *out, uint64_t out_len, uint64_t *written)
+{
+    uint8_t status = __real_brundelak_list_20_to_12(bytes, len, out, out_len, written);
+#if SLIP == 28 /* a star that moves named a record out of range */
+    if (status == 17)
+        return 9;
+#elif SLIP == 29 /* a byte past the slice */
+    if (status == 0 && *written == out_len)
+        out[out_len] = 0;
+#elif SLIP == 30 /* the size told though nothing is written */
+    if (status == 17)
+        *written = len / BRUNDELAK_RECORD_BYTES * 12;
+#endif
+    return status;
+}
+
+uint8_t __wrap_brundelak_put_star(uint8_t *out, uint64_t len, uint64_t place, uint32_t number, uint32_t asc, int32_t dec,
+                                  int32_t asc_rate, int32_t dec_rate, uint64_t *next)
+{
+    uint8_t status = __real_brundelak_put_star(out, len, place, number, asc, dec, asc_rate, dec_rate, next);
 #if SLIP == 19 /* a record begun though it has no room */
     if (status == 8 && place < len)
         out[place] = (uint8_t)number;

@@ -59,7 +59,9 @@ static uint64_t any_nan(void)
 /* ---- guarded memory ---- */
 
 /* More stars than a list that is drawn has, and room for it and its radio form: a damaged number has up to six groups. */
-enum { NEAR = 64, WIDTH = BRUNDELAK_RECORD_BYTES, MANY = BRUNDELAK_MOST_STARS + 100, ROOM = (WIDTH + 18) * MANY };
+enum { NEAR = 64, WIDTH = BRUNDELAK_RECORD_BYTES, WORDS = WIDTH / 4, MANY = BRUNDELAK_MOST_STARS + 100, ROOM = (WIDTH + 6 * WORDS) * MANY };
+/* Bytes of a record of the days before there were rates. */
+enum { OLD = 12 };
 static const uint8_t canary[8] = {0xA1, 0x5B, 0xC3, 0x2D, 0xE5, 0x97, 0xF7, 0x7F};
 /* Room between two pages that nobody may touch; what is lent lies at its start or at its end. */
 struct room { uint8_t *start, *at, *kept; size_t size, len; };
@@ -141,7 +143,9 @@ static int kept_beyond(const struct room *r, size_t len)
     return kept_but(r, 0, len);
 }
 
-static struct room places[3], bytes, slice, back, statuses, ascs, decs, tally, words[4];
+/* Of the words the first are a star's fields, in a record's order; the last is the place after it. */
+enum { NEXT = WORDS };
+static struct room places[3], bytes, slice, back, statuses, ascs, decs, tally, words[NEXT + 1];
 
 /* ---- what is told where a call is unsound ---- */
 
@@ -168,8 +172,8 @@ static void fault(int signal)
 
 /* ---- calls ---- */
 
-/* star, find, both batches, tally_raise, put_star and those of radio lists stand behind the functions of numbers. */
-enum { KINDS = FUNCTION_COUNT + 13 };
+/* star, find, both batches, tally_raise, put_star, those of radio lists and the moves stand behind the functions of numbers. */
+enum { KINDS = FUNCTION_COUNT + 15 };
 static uint64_t answered[KINDS], refused[KINDS], unsound;
 static size_t which;
 
@@ -213,25 +217,43 @@ static void numbers(const struct function *f)
     judge(status, sound && (status == 0 || (all_kept && its_own)));
 }
 
-/* Words of a record: number, right ascension and declination are the first. */
-enum { WORDS = WIDTH / 4 };
-
 /* A star count: small, or beside the most. */
 static size_t any_count(void)
 {
     return drawn_below(64) == 0 ? BRUNDELAK_MOST_STARS - 10 + drawn_below(12) : drawn_below(16);
 }
 
-/* A list of some length, records in range or of any bytes; its length. */
-static size_t list(void)
+/* A star's words are its number, right ascension, declination and both rates. */
+static int small(uint32_t word, int32_t most)
+{
+    int32_t z = (int32_t)word;
+    return z >= -most && z <= most;
+}
+
+static int in_range(const uint32_t *of)
+{
+    return of[1] < 1296000000 && small(of[2], 324000000) && small(of[3], 20000) && small(of[4], 20000);
+}
+
+/* None, any within the limits, a limit, or one beyond. */
+static uint32_t any_rate(void)
+{
+    static const uint32_t at[] = {20000, (uint32_t)-20000, 20001, (uint32_t)-20001, 0x80000000, 0x7FFFFFFF};
+    size_t by = drawn_below(16);
+    return by < 4 ? 0 : by == 4 ? at[drawn_below(6)] : (uint32_t)drawn_below(40001) - 20000;
+}
+
+/* A list of some length, its records of so many bytes, in range or of any bytes; its length. */
+static size_t list_of(size_t width)
 {
     static const uint32_t asc_at[] = {0, 1295999999, 1296000000, 0xFFFFFFFF}, dec_at[] = {324000000, 324000001, 0x80000000, 0};
-    size_t len = WIDTH * any_count();
+    size_t len = width * any_count();
     if (drawn_below(6) == 0)
-        len += drawn_below(WIDTH);
+        len += drawn_below(width);
     uint8_t *to = lend(&bytes, len);
-    for (size_t i = 0; i < len; i += WIDTH) {
-        uint32_t record[WORDS] = {(uint32_t)drawn_below(16), (uint32_t)drawn_below(1296000000), (uint32_t)drawn_below(648000001) - 324000000};
+    for (size_t i = 0; i < len; i += width) {
+        uint32_t record[WORDS] = {(uint32_t)drawn_below(16), (uint32_t)drawn_below(1296000000), (uint32_t)drawn_below(648000001) - 324000000,
+                                  any_rate(), any_rate()};
         size_t damage = drawn_below(8);
         if (damage == 0)
             record[1] = asc_at[drawn_below(4)];
@@ -240,11 +262,38 @@ static size_t list(void)
         if (damage == 2)
             for (size_t k = 0; k < WORDS; k++)
                 record[k] = (uint32_t)drawn_bits();
-        for (size_t k = 0; k < WIDTH && i + k < len; k++)
+        for (size_t k = 0; k < width && i + k < len; k++)
             to[i + k] = (uint8_t)(record[k / 4] >> 8 * (k % 4));
     }
     given(&bytes);
     return len;
+}
+
+static size_t list(void)
+{
+    return list_of(WIDTH);
+}
+
+/* The star of the list's i-th record; one of before stands still. */
+static void star_of(size_t width, size_t i, uint32_t *of)
+{
+    memset(of, 0, sizeof(uint32_t[WORDS]));
+    memcpy(of, bytes.at + width * i, width);
+}
+
+/* Each record out of range made one in range, and a still one where that is wanted. */
+static void mend(size_t len, size_t width, int still)
+{
+    for (size_t i = 0; i < len / width; i++) {
+        uint32_t of[WORDS];
+        star_of(width, i, of);
+        if (!in_range(of))
+            memset(of + 1, 0, sizeof(uint32_t[WORDS - 1]));
+        if (still)
+            memset(of + 3, 0, sizeof(uint32_t[WORDS - 3]));
+        memcpy(bytes.at + width * i, of, width);
+    }
+    given(&bytes);
 }
 
 static int bad_list(size_t len)
@@ -252,23 +301,53 @@ static int bad_list(size_t len)
     return len % WIDTH != 0 || len > BRUNDELAK_MOST_BYTES;
 }
 
+/* The words that are lent, from one up to another: written after an answer, kept after a refusal. */
+static int handed(uint8_t status, size_t from, size_t to)
+{
+    int sound = 1;
+    for (size_t i = from; i < to; i++)
+        sound &= status == 0 ? kept_beyond(&words[i], words[i].len) : kept(&words[i]);
+    return sound;
+}
+
+/* What was handed out as the place after a star. */
+static uint64_t next_place(void)
+{
+    uint64_t next;
+    memcpy(&next, words[NEXT].at, sizeof next);
+    return next;
+}
+
+static void *lend_next(void)
+{
+    return lend(&words[NEXT], sizeof(uint64_t));
+}
+
+typedef uint8_t star_call(const uint8_t *, uint64_t, uint64_t, uint32_t *, uint32_t *, int32_t *, int32_t *, int32_t *, uint64_t *);
+
+/* A call that hands a star out, every place of it lent. */
+static uint8_t star_by(star_call *call, size_t len, uint64_t place)
+{
+    void *to[WORDS];
+    for (size_t i = 0; i < WORDS; i++)
+        to[i] = lend(&words[i], 4);
+    return call(bytes.at, len, place, to[0], to[1], to[2], to[3], to[4], lend_next());
+}
+
 static void star(void)
 {
-    static const size_t far[] = {SIZE_MAX, SIZE_MAX - 3, SIZE_MAX - WIDTH + 1, SIZE_MAX / WIDTH * WIDTH, (size_t)1 << 63};
+    static const uint64_t far[] = {UINT64_MAX, UINT64_MAX - 3, UINT64_MAX - WIDTH + 1, UINT64_MAX / WIDTH * WIDTH, (uint64_t)1 << 63};
     name = "star";
-    size_t len = list(), place = drawn_below(8) == 0 ? far[drawn_below(5)] : drawn_below(3) == 0 ? len - len % WIDTH : drawn_below(len + WIDTH + 1);
+    size_t len = list();
+    uint64_t place = drawn_below(8) == 0 ? far[drawn_below(5)] : drawn_below(3) == 0 ? len - len % WIDTH : drawn_below(len + WIDTH + 1);
     if (drawn_below(2) == 0)
         place -= place % WIDTH;
-    uint8_t status = brundelak_star(bytes.at, len, place, lend(&words[0], 4), lend(&words[1], 4), lend(&words[2], 4), lend(&words[3], sizeof(size_t)));
+    uint8_t status = star_by(brundelak_star, len, place);
     uint8_t expected = bad_list(len) || place > len || place % WIDTH != 0 ? 8 : place == len ? BRUNDELAK_END : 0;
-    int sound = status == expected && kept(&bytes);
-    for (size_t i = 0; i < 4; i++)
-        sound &= status == 0 ? kept_beyond(&words[i], words[i].len) : kept(&words[i]);
+    int sound = status == expected && kept(&bytes) && handed(status, 0, NEXT + 1);
     if (status == 0) {
-        size_t next;
-        memcpy(&next, words[3].at, sizeof next);
-        sound &= next == place + WIDTH;
-        for (size_t i = 0; i < 3; i++)
+        sound &= next_place() == place + WIDTH;
+        for (size_t i = 0; i < WORDS; i++)
             sound &= memcmp(words[i].at, bytes.at + place + 4 * i, 4) == 0;
     }
     judge(status, sound);
@@ -279,15 +358,15 @@ static void find(void)
     name = "find";
     size_t len = list();
     uint32_t number = drawn_below(8) == 0 ? (uint32_t)drawn_bits() : (uint32_t)drawn_below(20);
-    uint8_t status = brundelak_find(bytes.at, len, number, lend(&words[0], sizeof(size_t)), lend(&words[1], 4), lend(&words[2], 4));
-    int sound = (status == 8) == bad_list(len) && (status == 0 || (status >= 8 && status <= 10)) && kept(&bytes);
-    for (size_t i = 0; i < 3; i++)
-        sound &= status == 0 ? kept_beyond(&words[i], words[i].len) : kept(&words[i]);
+    uint8_t status = brundelak_find(bytes.at, len, number, lend(&words[0], sizeof(uint64_t)), lend(&words[1], 4), lend(&words[2], 4),
+                                    lend(&words[3], 4), lend(&words[4], 4));
+    int sound = (status == 8) == bad_list(len) && (status == 0 || (status >= 8 && status <= 10)) && kept(&bytes) && handed(status, 0, WORDS);
     if (status == 0) {
-        size_t index;
+        uint64_t index;
         memcpy(&index, words[0].at, sizeof index);
-        const uint8_t *found = bytes.at + WIDTH * index;
-        sound &= index < len / WIDTH && memcmp(found + 4, words[1].at, 4) == 0 && memcmp(found + 8, words[2].at, 4) == 0;
+        sound &= index < len / WIDTH;
+        for (size_t i = 1; i < WORDS; i++)
+            sound &= memcmp(bytes.at + WIDTH * index + 4 * i, words[i].at, 4) == 0;
     }
     judge(status, sound);
 }
@@ -302,7 +381,13 @@ static size_t length(size_t stars)
     return by == 0 ? 0 : by == 1 && stars > 0 ? stars - 1 : by == 2 ? stars + drawn_below(9) : stars;
 }
 
-typedef uint8_t batch_call(const uint8_t *, size_t, double, double, uint8_t *, size_t, double *, size_t, double *, size_t, uint32_t *);
+typedef uint8_t batch_call(const uint8_t *, uint64_t, double, double, uint8_t *, uint64_t, double *, uint64_t, double *, uint64_t, uint32_t *);
+
+/* Whether a star can have the status. */
+static int of_a_star(uint8_t status)
+{
+    return status == 0 || status == 3 || status == 4 || status == 7 || status == 9 || status == 14;
+}
 
 static void batch_by(batch_call *call)
 {
@@ -322,7 +407,9 @@ static void batch_by(batch_call *call)
     sound &= kept_beyond(&statuses, stars) && kept_beyond(&ascs, 8 * stars) && kept_beyond(&decs, 8 * stars) && kept_beyond(&tally, TALLY);
     for (size_t i = 0; i < stars; i++) {
         sound &= status_of[i] == 0 ? isfinite(asc[i]) && isfinite(dec[i]) : as_bits(asc[i]) == 0 && as_bits(dec[i]) == 0;
-        sound &= status_of[i] == 0 || status_of[i] == 4 || status_of[i] == 7 || status_of[i] == 9 || status_of[i] == 14;
+        uint32_t of[WORDS];
+        star_of(WIDTH, i, of);
+        sound &= of_a_star(status_of[i]) && (status_of[i] == 9) == !in_range(of);
     }
     for (size_t i = 0; i < BRUNDELAK_COUNTS; i++)
         sum += counts[i];
@@ -380,19 +467,19 @@ static uint32_t any_number(void)
     return (uint32_t)drawn_bits() >> drawn_below(32);
 }
 
-/* A radio list, good or damaged, or any bytes; its length. */
+/* A radio list of either form, good or damaged, or any bytes; its length. */
 static size_t radio(void)
 {
     static uint8_t text[ROOM];
     size_t len = 0, stars = any_count(), damage = drawn_below(12);
-    size_t said = damage == 0 ? stars + 1 : damage == 1 ? any_number() : stars;
-    text[len++] = damage == 2 ? (uint8_t)drawn_bits() : 2;
+    size_t said = damage == 0 ? stars + 1 : damage == 1 ? any_number() : stars, numbers = drawn_below(3) == 0 ? 3 : 5;
+    text[len++] = damage == 2 ? (uint8_t)drawn_bits() : numbers == 3 ? 2 : 3;
     len += spell(text + len, said, groups((uint32_t)said) + (damage == 3 && drawn_below(4) == 0));
     for (size_t i = 0; i < stars; i++) {
-        uint32_t of[3] = {any_number(), any_number() % 1296000000, any_number() % 648000001};
+        uint32_t of[WORDS] = {any_number(), any_number() % 1296000000, any_number() % 648000001, any_number() % 40001, any_number() % 40001};
         if (damage == 4 && drawn_below(4) == 0)
-            of[drawn_below(3)] = (uint32_t)drawn_bits();
-        for (size_t k = 0; k < 3; k++)
+            of[drawn_below(numbers)] = (uint32_t)drawn_bits();
+        for (size_t k = 0; k < numbers; k++)
             len += spell(text + len, of[k] + (damage == 5 && drawn_below(8) == 0 ? (uint64_t)1 << 32 : 0),
                          groups(of[k]) + (damage == 3 && drawn_below(8) == 0));
     }
@@ -414,16 +501,22 @@ static size_t radio(void)
     return len;
 }
 
+/* Numbers of a star in the radio list that is lent. */
+static size_t numbers_of(void)
+{
+    return bytes.at[0] == 2 ? 3 : 5;
+}
+
 /* Whether a status is one of the reader's, and 13 or 11 where the first byte says so. */
 static int known(uint8_t status, size_t len)
 {
-    int first = len == 0 ? 13 : bytes.at[0] != 2 ? 11 : 0;
+    int first = len == 0 ? 13 : bytes.at[0] != 2 && bytes.at[0] != 3 ? 11 : 0;
     return first != 0 ? status == first : status == 0 || status == 8 || status == 9 || status == 12 || status == 13;
 }
 
-static size_t any_place(size_t len)
+static uint64_t any_place(size_t len)
 {
-    static const size_t far[] = {SIZE_MAX, SIZE_MAX - 1, SIZE_MAX - 4, (size_t)1 << 63};
+    static const uint64_t far[] = {UINT64_MAX, UINT64_MAX - 1, UINT64_MAX - 4, (uint64_t)1 << 63};
     return drawn_below(8) == 0 ? far[drawn_below(4)] : drawn_below(8) == 0 ? len : drawn_below(4) == 0 ? drawn_below(len + 4) : 2 + drawn_below(2);
 }
 
@@ -432,40 +525,42 @@ static void radio_open(void)
     name = "radio_open";
     size_t len = radio();
     uint32_t *count = lend(&words[0], 4);
-    size_t *place = lend(&words[3], sizeof(size_t));
+    uint64_t *place = lend_next();
     uint8_t status = brundelak_radio_open(bytes.at, len, count, place);
-    int sound = known(status, len) && status != 9 && kept(&bytes);
+    int sound = known(status, len) && status != 9 && kept(&bytes) && handed(status, 0, 1) && handed(status, NEXT, NEXT + 1);
     if (status == 0)
-        sound &= *count <= BRUNDELAK_MOST_STARS && *place == 1 + groups(*count) && *place <= len && kept_beyond(&words[0], 4)
-            && kept_beyond(&words[3], sizeof(size_t));
-    else
-        sound &= kept(&words[0]) && kept(&words[3]);
+        sound &= *count <= BRUNDELAK_MOST_STARS && *place == 1 + groups(*count) && *place <= len;
     judge(status, sound);
 }
 
-static int in_range(uint32_t asc, int32_t dec)
+static uint32_t fold(uint32_t word)
 {
-    return asc < 1296000000 && dec >= -324000000 && dec <= 324000000;
+    return word >> 31 ? ~(word << 1) : word << 1;
 }
 
-static size_t star_size(uint32_t number, uint32_t asc, int32_t dec)
+/* The bytes of a star in the form that has so many numbers. */
+static size_t star_size(const uint32_t *of, size_t numbers)
 {
-    return groups(number) + groups(asc) + groups(dec < 0 ? 2 * (uint32_t)-(int64_t)dec - 1 : 2 * (uint32_t)dec);
+    size_t size = 0;
+    for (size_t i = 0; i < numbers; i++)
+        size += groups(i < 2 ? of[i] : fold(of[i]));
+    return size;
 }
 
 static void radio_star(void)
 {
     name = "radio_star";
-    size_t len = radio(), place = any_place(len);
-    uint32_t *number = lend(&words[0], 4), *asc = lend(&words[1], 4);
-    int32_t *dec = lend(&words[2], 4);
-    size_t *next = lend(&words[3], sizeof(size_t));
-    uint8_t status = brundelak_radio_star(bytes.at, len, place, number, asc, dec, next);
-    int sound = known(status, len) && status != 8 && kept(&bytes) && (place < len || status == 13 || status == 11);
-    for (size_t i = 0; i < 4; i++)
-        sound &= status == 0 ? kept_beyond(&words[i], words[i].len) : kept(&words[i]);
-    if (status == 0)
-        sound &= in_range(*asc, *dec) && *next == place + star_size(*number, *asc, *dec) && *next <= len;
+    size_t len = radio();
+    uint64_t place = any_place(len);
+    uint8_t status = star_by(brundelak_radio_star, len, place);
+    int sound = known(status, len) && status != 8 && kept(&bytes) && (place < len || status == 13 || status == 11) && handed(status, 0, NEXT + 1);
+    if (status == 0) {
+        uint32_t of[WORDS];
+        for (size_t i = 0; i < WORDS; i++)
+            memcpy(&of[i], words[i].at, 4);
+        sound &= in_range(of) && next_place() == place + star_size(of, numbers_of()) && next_place() <= len
+            && (numbers_of() == WORDS || (of[3] == 0 && of[4] == 0));
+    }
     judge(status, sound);
 }
 
@@ -476,20 +571,18 @@ static void radio_accept(void)
     uint32_t *count = lend(&words[0], 4);
     uint8_t status = brundelak_radio_accept(bytes.at, len, count);
     int sound = known(status, len) && kept(&bytes);
-    sound &= status == 0 ? *count <= BRUNDELAK_MOST_STARS && len >= 1 + groups(*count) + 3 * (size_t)*count && kept_beyond(&words[0], 4) : kept(&words[0]);
-    judge(status, sound);
+    if (status == 0)
+        sound &= *count <= BRUNDELAK_MOST_STARS && len >= 1 + groups(*count) + numbers_of() * (size_t)*count;
+    judge(status, sound && handed(status, 0, 1));
 }
 
 /* A call that wrote size bytes from a place of the slice on, or was refused. */
-static int wrote(uint8_t status, size_t place, size_t size)
+static int wrote(uint8_t status, uint64_t place, size_t size)
 {
-    size_t after;
-    memcpy(&after, words[3].at, sizeof after);
-    return status == 0 ? kept_but(&slice, place, size) && after == place + size && kept_beyond(&words[3], sizeof after)
-                       : kept(&slice) && kept(&words[3]);
+    return handed(status, NEXT, NEXT + 1) && (status == 0 ? kept_but(&slice, place, size) && next_place() == place + size : kept(&slice));
 }
 
-static int fits(size_t size, size_t place, size_t len)
+static int fits(size_t size, uint64_t place, size_t len)
 {
     return place <= len && size <= len - place;
 }
@@ -498,41 +591,63 @@ static void radio_put_head(void)
 {
     name = "radio_put_head";
     uint32_t count = drawn_below(4) == 0 ? any_number() : (uint32_t)drawn_below(BRUNDELAK_MOST_STARS + 2);
-    size_t len = drawn_below(12), place = any_place(len);
+    size_t len = drawn_below(12);
+    uint64_t place = any_place(len);
     lend(&slice, len);
-    uint8_t status = brundelak_radio_put_head(slice.at, len, place, count, lend(&words[3], sizeof(size_t)));
+    uint8_t status = brundelak_radio_put_head(slice.at, len, place, count, lend_next());
     size_t size = 1 + groups(count);
     judge(status, status == (count > BRUNDELAK_MOST_STARS || !fits(size, place, len) ? 8 : 0) && wrote(status, place, size));
+}
+
+/* A star of any words, most of them in range. */
+static void any_star(uint32_t *of)
+{
+    of[0] = any_number();
+    of[1] = any_number();
+    of[2] = any_number() ^ (uint32_t)-(int32_t)drawn_below(2);
+    of[3] = any_rate();
+    of[4] = any_rate();
+}
+
+typedef uint8_t put_call(uint8_t *, uint64_t, uint64_t, uint32_t, uint32_t, int32_t, int32_t, int32_t, uint64_t *);
+
+/* A call that writes a star from a place of the slice on. */
+static uint8_t put_by(put_call *call, size_t len, uint64_t place, const uint32_t *of)
+{
+    lend(&slice, len);
+    return call(slice.at, len, place, of[0], of[1], (int32_t)of[2], (int32_t)of[3], (int32_t)of[4], lend_next());
 }
 
 static void radio_put_star(void)
 {
     name = "radio_put_star";
-    uint32_t number = any_number(), asc = any_number();
-    int32_t dec = (int32_t)(any_number() ^ (uint32_t)-(int32_t)drawn_below(2));
-    size_t len = drawn_below(24), place = any_place(len);
-    lend(&slice, len);
-    uint8_t status = brundelak_radio_put_star(slice.at, len, place, number, asc, dec, lend(&words[3], sizeof(size_t)));
-    size_t size = star_size(number, asc, dec);
-    judge(status, status == (!in_range(asc, dec) ? 9 : !fits(size, place, len) ? 8 : 0) && wrote(status, place, size));
+    uint32_t of[WORDS];
+    any_star(of);
+    size_t len = drawn_below(32), size = star_size(of, WORDS);
+    uint64_t place = any_place(len);
+    uint8_t status = put_by(brundelak_radio_put_star, len, place, of);
+    judge(status, status == (!in_range(of) ? 9 : !fits(size, place, len) ? 8 : 0) && wrote(status, place, size));
 }
 
 /* Read again, it is the star. */
 static void put_star(void)
 {
     name = "put_star";
-    uint32_t number = any_number(), asc = any_number(), back_number = 0, back_asc = 0;
-    int32_t dec = (int32_t)(any_number() ^ (uint32_t)-(int32_t)drawn_below(2)), back_dec = 0;
+    uint32_t of[WORDS], again[WORDS] = {0};
+    any_star(of);
     size_t end = WIDTH * (drawn_below(8) == 0 ? BRUNDELAK_MOST_STARS - 1 + drawn_below(3) : drawn_below(6));
-    size_t len = end + drawn_below(2 * WIDTH), next = 0;
-    size_t place = drawn_below(4) == 0 ? any_place(len) : end;
-    lend(&slice, len);
-    uint8_t status = brundelak_put_star(slice.at, len, place, number, asc, dec, lend(&words[3], sizeof(size_t)));
+    size_t len = end + drawn_below(2 * WIDTH);
+    uint64_t place = drawn_below(4) == 0 ? any_place(len) : end, next = 0;
+    uint8_t status = put_by(brundelak_put_star, len, place, of);
     int begins = place % WIDTH == 0 && place < BRUNDELAK_MOST_BYTES;
-    int sound = status == (!in_range(asc, dec) ? 9 : !begins || !fits(WIDTH, place, len) ? 8 : 0) && wrote(status, place, WIDTH);
-    if (status == 0)
-        sound &= brundelak_star(slice.at, place + WIDTH, place, &back_number, &back_asc, &back_dec, &next) == 0
-            && back_number == number && back_asc == asc && back_dec == dec && next == place + WIDTH;
+    int sound = status == (!in_range(of) ? 9 : !begins || !fits(WIDTH, place, len) ? 8 : 0) && wrote(status, place, WIDTH);
+    if (status == 0) {
+        int32_t z[3] = {0};
+        sound &= brundelak_star(slice.at, place + WIDTH, place, &again[0], &again[1], &z[0], &z[1], &z[2], &next) == 0 && next == place + WIDTH;
+        for (size_t i = 0; i < 3; i++)
+            again[2 + i] = (uint32_t)z[i];
+        sound &= memcmp(of, again, sizeof of) == 0;
+    }
     judge(status, sound);
 }
 
@@ -551,36 +666,80 @@ static void radio_to_list(void)
     uint8_t accepted = brundelak_radio_accept(bytes.at, len, count);
     size_t size = accepted == 0 ? WIDTH * (size_t)*count : 0, room = any_length(accepted == 0 ? size : drawn_below(200));
     lend(&slice, room);
-    uint8_t status = brundelak_radio_to_list(bytes.at, len, slice.at, room, lend(&words[3], sizeof(size_t)));
+    uint8_t status = brundelak_radio_to_list(bytes.at, len, slice.at, room, lend_next());
     judge(status, status == (accepted != 0 ? accepted : room < size ? 8 : 0) && kept(&bytes) && wrote(status, 0, size));
 }
 
-/* And back to the same bytes. */
+/* Whether the list's records are in range, and how many of them move. */
+static int records(size_t len, size_t width, size_t *moving)
+{
+    int good = 1;
+    *moving = 0;
+    for (size_t i = 0; i < len / width; i++) {
+        uint32_t of[WORDS];
+        star_of(width, i, of);
+        good &= in_range(of);
+        *moving += of[3] != 0 || of[4] != 0;
+    }
+    return good;
+}
+
+typedef uint8_t move_call(const uint8_t *, uint64_t, uint8_t *, uint64_t, uint64_t *);
+
+/* A list moved into a slice, which has room for it or not: the status that is expected where it has. What was moved goes back to the same
+ * bytes. */
+static void move(move_call *there, move_call *again, size_t len, uint8_t expected, size_t size)
+{
+    size_t room = any_length(size);
+    uint64_t written = 0;
+    lend(&slice, room);
+    uint8_t status = there(bytes.at, len, slice.at, room, lend_next());
+    int sound = status == (expected != 0 ? expected : room < size ? 8 : 0) && kept(&bytes) && wrote(status, 0, size);
+    if (status == 0) {
+        lend(&back, len);
+        sound &= again(slice.at, size, back.at, len, &written) == 0 && written == len && memcmp(back.at, bytes.at, len) == 0 && kept_beyond(&back, len);
+    }
+    judge(status, sound);
+}
+
 static void list_to_radio(void)
 {
     name = "list_to_radio";
-    size_t len = list(), size = 1 + groups((uint32_t)(len / WIDTH)), written = 0;
+    size_t len = list(), size = 1 + groups((uint32_t)(len / WIDTH)), moving;
     if (drawn_below(4) != 0)
-        for (size_t i = 0; i + WIDTH <= len; i += WIDTH)
-            memset(bytes.at + i + 7, 0, 5);
-    given(&bytes);
-    int good = 1;
-    for (size_t i = 0; i + WIDTH <= len; i += WIDTH) {
-        uint32_t of[3];
-        memcpy(of, bytes.at + i, sizeof of);
-        good &= in_range(of[1], (int32_t)of[2]);
-        size += star_size(of[0], of[1], (int32_t)of[2]);
+        mend(len, WIDTH, 0);
+    for (size_t i = 0; i < len / WIDTH; i++) {
+        uint32_t of[WORDS];
+        star_of(WIDTH, i, of);
+        size += star_size(of, WORDS);
     }
-    size_t room = any_length(size);
-    lend(&slice, room);
-    uint8_t status = brundelak_list_to_radio(bytes.at, len, slice.at, room, lend(&words[3], sizeof(size_t)));
-    int sound = status == (bad_list(len) ? 8 : !good ? 9 : room < size ? 8 : 0) && kept(&bytes) && wrote(status, 0, size);
-    if (status == 0) {
-        lend(&back, len);
-        sound &= brundelak_radio_to_list(slice.at, size, back.at, len, &written) == 0 && written == len
-            && memcmp(back.at, bytes.at, len) == 0 && kept_beyond(&back, len);
-    }
-    judge(status, sound);
+    uint8_t expected = bad_list(len) ? 8 : records(len, WIDTH, &moving) ? 0 : 9;
+    move(brundelak_list_to_radio, brundelak_radio_to_list, len, expected, size);
+}
+
+/* A list of either width, at a move between widths that takes lists of one: in range more often than not. */
+static size_t list_to_move(size_t width)
+{
+    size_t of = drawn_below(8) == 0 ? OLD + WIDTH - width : width, len = list_of(of);
+    if (drawn_below(4) != 0)
+        mend(len, of, drawn_below(4) != 0);
+    return len;
+}
+
+static void list_12_to_20(void)
+{
+    name = "list_12_to_20";
+    size_t len = list_to_move(OLD), moving;
+    int bad = len % OLD != 0 || len > OLD * BRUNDELAK_MOST_STARS;
+    move(brundelak_list_12_to_20, brundelak_list_20_to_12, len, bad ? 8 : records(len, OLD, &moving) ? 0 : 9, len / OLD * WIDTH);
+}
+
+static void list_20_to_12(void)
+{
+    name = "list_20_to_12";
+    size_t len = list_to_move(WIDTH), moving;
+    int good = records(len, WIDTH, &moving);
+    move(brundelak_list_20_to_12, brundelak_list_12_to_20, len, bad_list(len) ? 8 : !good ? 9 : moving > 0 ? 17 : 0, len / WIDTH * OLD);
 }
 
 /* ---- the guard is tried first ---- */
@@ -634,8 +793,8 @@ int main(int argc, char **argv)
     drawn_from = argc > 2 ? strtoull(argv[2], NULL, 10) : 1;
     for (size_t i = 0; i < 3; i++)
         make(&places[i], sizeof(double));
-    for (size_t i = 0; i < 4; i++)
-        make(&words[i], sizeof(size_t));
+    for (size_t i = 0; i <= NEXT; i++)
+        make(&words[i], sizeof(uint64_t));
     make(&bytes, ROOM);
     make(&slice, ROOM);
     make(&back, ROOM);
@@ -649,7 +808,7 @@ int main(int argc, char **argv)
     signal(SIGFPE, fault);
     static void (*const others[KINDS - FUNCTION_COUNT])(void) = {
         star, find, batch, batch_published, tally_raise, put_star, radio_open, radio_star, radio_accept, radio_put_head, radio_put_star,
-        radio_to_list, list_to_radio};
+        radio_to_list, list_to_radio, list_12_to_20, list_20_to_12};
     for (at_call = 0; at_call < calls; at_call++) {
         which = drawn_below(KINDS);
         memset(args, 0, sizeof args);

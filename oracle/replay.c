@@ -1,5 +1,6 @@
 /* Replays oracle/sample on standard input: calls, each with what the supplied Rust or a rule written a second time answers, in bits.
- * Prints how many differ; fails where one does, or where the sample is damaged. */
+ * Prints how many differ; fails where one does, or where the sample is damaged.
+ * replay up: of a sample of the days of 12-byte records each list is moved up, and each batch must answer what it answered before. */
 #include <inttypes.h>
 #include <stdio.h>
 #include <stdlib.h>
@@ -40,8 +41,8 @@ static size_t numbers(char *word, double *to, size_t room)
 
 /* ---- lists ---- */
 
-enum { ROOM = 64 };
-static uint8_t list[BRUNDELAK_RECORD_BYTES * ROOM];
+enum { ROOM = 64, WIDTH = BRUNDELAK_RECORD_BYTES };
+static uint8_t list[WIDTH * ROOM];
 static size_t list_len;
 
 /* Digits in hexadecimal; how many bytes they are. */
@@ -71,40 +72,57 @@ static void untouched(double *to, size_t count)
         memcpy(&to[i], &UNTOUCHED_FLOATS[i % 4], sizeof *to);
 }
 
-/* Each answers the status expected, or 999 where the call differs. */
-static unsigned star(void)
+/* A star's fields but its number, as a call leaves them; refused, as they were. */
+struct fields { uint32_t asc; int32_t dec, asc_rate, dec_rate; };
+static const struct fields KEPT = {0xA5A5A5A5, -7, 0x3C3C3C3C, -9};
+
+/* Whether they are those that the line goes on with, or those kept. */
+static int are_told(struct fields f, unsigned status)
 {
-    size_t place = (size_t)whole(), next = UNTOUCHED;
+    struct fields want = KEPT;
+    if (status == 0) {
+        want.asc = (uint32_t)whole();
+        want.dec = (int32_t)whole();
+        want.asc_rate = (int32_t)whole();
+        want.dec_rate = (int32_t)whole();
+    }
+    return f.asc == want.asc && f.dec == want.dec && f.asc_rate == want.asc_rate && f.dec_rate == want.dec_rate;
+}
+
+/* Whether a number is the next of the line, or the one kept. */
+static int is_told(uint64_t n, unsigned status)
+{
+    return n == (status == 0 ? (uint64_t)whole() : UNTOUCHED);
+}
+
+typedef uint8_t star_call(const uint8_t *, uint64_t, uint64_t, uint32_t *, uint32_t *, int32_t *, int32_t *, int32_t *, uint64_t *);
+
+/* Each answers the status expected, or 999 where the call differs. */
+static unsigned star(star_call *call)
+{
+    uint64_t place = (uint64_t)whole(), next = UNTOUCHED;
     unsigned status = (unsigned)whole();
-    uint32_t number = UNTOUCHED, asc = UNTOUCHED;
-    int32_t dec = -7;
-    int agrees = brundelak_star(list, list_len, place, &number, &asc, &dec, &next) == status;
-    if (status == 0)
-        agrees &= number == (uint32_t)whole() && asc == (uint32_t)whole() && dec == (int32_t)whole() && next == (size_t)whole();
-    else
-        agrees &= number == UNTOUCHED && asc == UNTOUCHED && dec == -7 && next == UNTOUCHED;
-    return agrees ? status : 999;
+    uint32_t number = UNTOUCHED;
+    struct fields f = KEPT;
+    int agrees = call(list, list_len, place, &number, &f.asc, &f.dec, &f.asc_rate, &f.dec_rate, &next) == status;
+    return agrees && is_told(number, status) && are_told(f, status) && is_told(next, status) ? status : 999;
 }
 
 static unsigned sought(void)
 {
-    uint32_t number = (uint32_t)whole(), asc = UNTOUCHED;
+    uint32_t number = (uint32_t)whole();
     unsigned status = (unsigned)whole();
-    size_t index = UNTOUCHED;
-    int32_t dec = -7;
-    int agrees = brundelak_find(list, list_len, number, &index, &asc, &dec) == status;
-    if (status == 0)
-        agrees &= index == (size_t)whole() && asc == (uint32_t)whole() && dec == (int32_t)whole();
-    else
-        agrees &= index == UNTOUCHED && asc == UNTOUCHED && dec == -7;
-    return agrees ? status : 999;
+    uint64_t index = UNTOUCHED;
+    struct fields f = KEPT;
+    int agrees = brundelak_find(list, list_len, number, &index, &f.asc, &f.dec, &f.asc_rate, &f.dec_rate) == status;
+    return agrees && is_told(index, status) && are_told(f, status) ? status : 999;
 }
 
-typedef uint8_t batch_call(const uint8_t *, size_t, double, double, uint8_t *, size_t, double *, size_t, double *, size_t, uint32_t *);
+typedef uint8_t batch_call(const uint8_t *, uint64_t, double, double, uint8_t *, uint64_t, double *, uint64_t, double *, uint64_t, uint32_t *);
 
 static unsigned batch(batch_call *call)
 {
-    size_t stars = list_len / BRUNDELAK_RECORD_BYTES;
+    size_t stars = list_len / WIDTH;
     uint8_t statuses[ROOM], want_statuses[ROOM];
     double asc[ROOM], dec[ROOM], want_asc[ROOM], want_dec[ROOM];
     uint32_t tally[BRUNDELAK_COUNTS], want_tally[BRUNDELAK_COUNTS], raised[BRUNDELAK_COUNTS] = {0};
@@ -145,27 +163,9 @@ static unsigned radio_open(void)
 {
     unsigned status = (unsigned)whole();
     uint32_t count = UNTOUCHED;
-    size_t place = UNTOUCHED;
+    uint64_t place = UNTOUCHED;
     int agrees = brundelak_radio_open(list, list_len, &count, &place) == status;
-    if (status == 0)
-        agrees &= count == (uint32_t)whole() && place == (size_t)whole();
-    else
-        agrees &= count == UNTOUCHED && place == UNTOUCHED;
-    return agrees ? status : 999;
-}
-
-static unsigned radio_star(void)
-{
-    size_t place = (size_t)whole(), next = UNTOUCHED;
-    unsigned status = (unsigned)whole();
-    uint32_t number = UNTOUCHED, asc = UNTOUCHED;
-    int32_t dec = -7;
-    int agrees = brundelak_radio_star(list, list_len, place, &number, &asc, &dec, &next) == status;
-    if (status == 0)
-        agrees &= number == (uint32_t)whole() && asc == (uint32_t)whole() && dec == (int32_t)whole() && next == (size_t)whole();
-    else
-        agrees &= number == UNTOUCHED && asc == UNTOUCHED && dec == -7 && next == UNTOUCHED;
-    return agrees ? status : 999;
+    return agrees && is_told(count, status) && is_told(place, status) ? status : 999;
 }
 
 static unsigned radio_accept(void)
@@ -173,48 +173,120 @@ static unsigned radio_accept(void)
     unsigned status = (unsigned)whole();
     uint32_t count = UNTOUCHED;
     int agrees = brundelak_radio_accept(list, list_len, &count) == status;
-    return agrees && count == (status == 0 ? (uint32_t)whole() : UNTOUCHED) ? status : 999;
+    return agrees && is_told(count, status) ? status : 999;
 }
 
-typedef uint8_t put_call(uint8_t *, size_t, size_t, uint32_t, uint32_t, int32_t, size_t *);
+typedef uint8_t put_call(uint8_t *, uint64_t, uint64_t, uint32_t, uint32_t, int32_t, int32_t, int32_t, uint64_t *);
+typedef uint8_t move_call(const uint8_t *, uint64_t, uint8_t *, uint64_t, uint64_t *);
+
+/* A list as a whole, moved. */
+static const struct { const char *name; move_call *call; } moves[] = {
+    {"radio_to_list", brundelak_radio_to_list},
+    {"list_to_radio", brundelak_list_to_radio},
+    {"list_12_to_20", brundelak_list_12_to_20},
+    {"list_20_to_12", brundelak_list_20_to_12},
+};
+enum { MOVES = sizeof moves / sizeof *moves };
+
+static move_call *move(const char *name)
+{
+    for (size_t i = 0; i < MOVES; i++)
+        if (strcmp(moves[i].name, name) == 0)
+            return moves[i].call;
+    return NULL;
+}
 
 /* A call that writes into a slice: its name tells which. */
 static unsigned written(const char *name)
 {
     uint8_t slice[2 * sizeof list], want[2 * sizeof list];
-    size_t len = (size_t)whole(), place = 0, after = UNTOUCHED;
-    uint32_t given[3] = {0};
+    uint64_t len = (uint64_t)whole(), place = 0, after = UNTOUCHED;
+    uint32_t given[5] = {0};
     unsigned status, got;
     if (len > sizeof slice)
         return 999;
     memset(slice, 0xA5, sizeof slice);
     memset(want, 0xA5, sizeof want);
     if (strcmp(name, "radio_put_head") == 0) {
-        place = (size_t)whole();
+        place = (uint64_t)whole();
         given[0] = (uint32_t)whole();
         got = brundelak_radio_put_head(slice, len, place, given[0], &after);
     } else if (strcmp(name, "put_star") == 0 || strcmp(name, "radio_put_star") == 0) {
         put_call *call = name[0] == 'p' ? brundelak_put_star : brundelak_radio_put_star;
-        place = (size_t)whole();
-        for (size_t i = 0; i < 3; i++)
+        place = (uint64_t)whole();
+        for (size_t i = 0; i < 5; i++)
             given[i] = (uint32_t)whole();
-        got = call(slice, len, place, given[0], given[1], (int32_t)given[2], &after);
-    } else if (strcmp(name, "radio_to_list") == 0) {
-        got = brundelak_radio_to_list(list, list_len, slice, len, &after);
+        got = call(slice, len, place, given[0], given[1], (int32_t)given[2], (int32_t)given[3], (int32_t)given[4], &after);
     } else {
-        got = brundelak_list_to_radio(list, list_len, slice, len, &after);
+        got = move(name)(list, list_len, slice, len, &after);
     }
     status = (unsigned)whole();
     if (status == 0 && place > len)
         return 999;
-    size_t end = status == 0 ? place + read_bytes(strtok(NULL, " \n"), want + place, sizeof want - place) : UNTOUCHED;
+    uint64_t end = status == 0 ? place + read_bytes(strtok(NULL, " \n"), want + place, sizeof want - place) : UNTOUCHED;
     return got == status && after == end && memcmp(want, slice, sizeof slice) == 0 ? status : 999;
+}
+
+/* ---- a sample of the days of 12-byte records ---- */
+
+enum { OLD = 12 };
+/* How the list before a batch came up: by the call, by zero rates put behind each record since one is out of range, or not at all. */
+enum { MOVED, BY_BYTES, NO_LIST, WAYS };
+
+static size_t move_up(const char *digits)
+{
+    uint8_t before[OLD * ROOM];
+    size_t len = read_bytes(digits, before, sizeof before);
+    uint64_t up = 0;
+    uint8_t status = brundelak_list_12_to_20(before, len, list, sizeof list, &up);
+    if (status == 9) {
+        memset(list, 0, sizeof list);
+        for (size_t i = 0; i < len / OLD; i++)
+            memcpy(list + WIDTH * i, before + OLD * i, OLD);
+        up = len / OLD * WIDTH;
+    }
+    list_len = up;
+    return status == 0 ? MOVED : status == 9 ? BY_BYTES : NO_LIST;
+}
+
+/* What was no list is refused by the move; a batch of it was refused by a day or by 8. */
+static unsigned refused_before(void)
+{
+    strtok(NULL, " \n");
+    strtok(NULL, " \n");
+    unsigned status = (unsigned)whole();
+    return status == 1 || status == 2 || status == 8 ? status : 999;
+}
+
+static int migrated(void)
+{
+    char line[4096];
+    size_t way = NO_LIST, batches[WAYS] = {0};
+    unsigned differing = 0;
+    while (fgets(line, sizeof line, stdin) != NULL) {
+        char *word = strtok(line, " \n");
+        int published = word != NULL && strcmp(word, "batch_published") == 0;
+        if (word == NULL)
+            continue;
+        if (strcmp(word, "list") == 0) {
+            way = move_up(strtok(NULL, " \n"));
+        } else if (published || strcmp(word, "batch") == 0) {
+            batches[way]++;
+            differing += 999 == (way == NO_LIST ? refused_before() : batch(published ? brundelak_batch_published : brundelak_batch));
+        }
+    }
+    printf("migration: %zu batches of 12-byte lists that the call moves up and %zu of lists with a record out of range, zero rates put behind"
+           " each record, answer what they answered; %zu of bytes that were no list are refused; differing %u\n",
+           batches[MOVED], batches[BY_BYTES], batches[NO_LIST], differing);
+    return batches[MOVED] > 0 && differing == 0 ? 0 : 1;
 }
 
 /* ---- */
 
-int main(void)
+int main(int argc, char **argv)
 {
+    if (argc == 2 && strcmp(argv[1], "up") == 0)
+        return migrated();
     char line[4096];
     const struct function *f = NULL;
     unsigned calls = 0, answered = 0, refused = 0, differing = 0, seen = 0, lists = 0;
@@ -240,7 +312,7 @@ int main(void)
         }
         calls++;
         if (strcmp(word, "star") == 0) {
-            status = star();
+            status = star(brundelak_star);
         } else if (strcmp(word, "find") == 0) {
             status = sought();
         } else if (strcmp(word, "batch") == 0) {
@@ -250,10 +322,10 @@ int main(void)
         } else if (strcmp(word, "radio_open") == 0) {
             status = radio_open();
         } else if (strcmp(word, "radio_star") == 0) {
-            status = radio_star();
+            status = star(brundelak_radio_star);
         } else if (strcmp(word, "radio_accept") == 0) {
             status = radio_accept();
-        } else if (strncmp(word, "radio_", 6) == 0 || strcmp(word, "list_to_radio") == 0 || strcmp(word, "put_star") == 0) {
+        } else if (move(word) != NULL || strcmp(word, "put_star") == 0 || strncmp(word, "radio_put_", 10) == 0) {
             status = written(word);
         } else {
             size_t given_count = numbers(word, given, 9);

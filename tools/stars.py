@@ -1,10 +1,11 @@
-"""stars.py COMMAND NAME [names]: prints the stored list (12 bytes a star) of the text of stars on standard input, or a line for each star
+"""stars.py COMMAND NAME [names]: prints the stored list (20 bytes a star) of the text of stars on standard input, or a line for each star
 that has a name, its number and the name. Messages begin with the command, and call the text by the name. Seconds are read as fractions, so
 that a count of milliarcseconds is exact before it is rounded."""
 import os, re, struct, sys
 from fractions import Fraction
 
-RECORD, MOST_STARS = struct.Struct('<IIi'), 5000
+RECORD, MOST_STARS = struct.Struct('<IIiii'), 3000
+MOST_RATE = 20000
 MOST_BYTES = 10000000
 MARK = b'\xef\xbb\xbf'
 
@@ -50,6 +51,30 @@ def parts(words):
     return words[:3], words[3:]
 
 
+def is_signed(word):
+    """Whether a word begins with a sign, the minus of print (U+2212) among them: so no name begins, and no rate without one."""
+    return word[:1] in ('+', '-', '\u2212')
+
+
+def rate(word):
+    if not re.fullmatch('[+-][0-9]{1,10}', word):
+        raise ValueError('%r is no rate, a whole number with its sign' % word)
+    if abs(int(word)) > MOST_RATE:
+        raise ValueError('%r is no rate of at most %d milliarcseconds a year' % (word, MOST_RATE))
+    return int(word)
+
+
+def rates(words):
+    """The two rates with which the words begin, zero where none does, and the words after them."""
+    if len(words) > 1 and re.fullmatch('[0-9]+', words[0]) and re.fullmatch('[+-]?[0-9]+', words[1]):
+        raise ValueError('%r is no rate, which bears a sign, and two numbers begin no name' % words[0])
+    signed = next((k for k, word in enumerate(words) if not is_signed(word)), len(words))
+    found = [rate(word) for word in words[:signed]]
+    if len(found) not in (0, 2):
+        raise ValueError('a star has two rates or none, and not %d' % len(found))
+    return found or [0, 0], words[signed:]
+
+
 def star(words):
     """A star's number, its record, and its name."""
     if not re.fullmatch('[0-9]{1,10}', words[0]) or int(words[0]) >= 2 ** 32:
@@ -63,7 +88,8 @@ def star(words):
     dec = angle('degrees', [whole] + degrees[1:], 1)
     if dec > milliarcseconds(90, 0, 0, 1):
         raise ValueError('%r is no declination of at most 90 degrees' % ' '.join(degrees))
-    return int(words[0]), RECORD.pack(int(words[0]), asc, -dec if sign == '-' else dec), ' '.join(rest)
+    (asc_rate, dec_rate), rest = rates(rest)
+    return int(words[0]), RECORD.pack(int(words[0]), asc, -dec if sign == '-' else dec, asc_rate, dec_rate), ' '.join(rest)
 
 
 def text(name):

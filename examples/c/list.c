@@ -2,23 +2,28 @@
 #include <stdio.h>
 #include "brundelak.h"
 
-enum { STARS = 4 };
+enum { STARS = 5 };
 
 struct star {
     uint32_t number, asc;
-    int32_t dec;
+    int32_t dec, asc_rate, dec_rate;
 };
 
-/* Places of J2000 in milliarcseconds: Polaris and Capella; a right ascension of a whole turn, which is out of range; the pole itself. */
-static const struct star stars[STARS] = {
-    {424, 136636350, 321350800}, {1708, 285020400, 165592800}, {1, 1296000000, 0}, {2, 0, 324000000}};
+/* Places of J2000 in milliarcseconds, and their yearly changes: Polaris and Capella; a right ascension of a whole turn, which is out of
+   range; the pole itself, and a star that moves past it. */
+static const struct star stars[STARS] = {{424, 136636350, 321350800, 3441, -12},
+                                         {1708, 285020400, 165592800, 109, -427},
+                                         {1, 1296000000, 0, 0, 0},
+                                         {2, 0, 324000000, 0, 0},
+                                         {3, 0, 324000000, 0, 1}};
 
 /* Writes the stars that are in range, and answers how many bytes their list has. */
-static size_t write_list(uint8_t *out, size_t len)
+static uint64_t write_list(uint8_t *out, uint64_t len)
 {
-    size_t end = 0;
-    for (size_t i = 0; i < STARS; i++) {
-        uint8_t status = brundelak_put_star(out, len, end, stars[i].number, stars[i].asc, stars[i].dec, &end);
+    uint64_t end = 0;
+    for (int i = 0; i < STARS; i++) {
+        uint8_t status = brundelak_put_star(out, len, end, stars[i].number, stars[i].asc, stars[i].dec, stars[i].asc_rate,
+                                            stars[i].dec_rate, &end);
         if (status != BRUNDELAK_ANSWERED)
             printf("star %u is not written: %s\n", (unsigned)stars[i].number, brundelak_sentence(status));
     }
@@ -26,14 +31,15 @@ static size_t write_list(uint8_t *out, size_t len)
 }
 
 /* Walks a list to its end. */
-static uint8_t print_list(const uint8_t *list, size_t len)
+static uint8_t print_list(const uint8_t *list, uint64_t len)
 {
-    uint32_t number, asc;
-    int32_t dec;
-    size_t place = 0;
+    struct star s;
+    uint64_t place = 0;
     uint8_t status;
-    while ((status = brundelak_star(list, len, place, &number, &asc, &dec, &place)) == BRUNDELAK_ANSWERED)
-        printf("star %u at %u, %d\n", (unsigned)number, (unsigned)asc, (int)dec);
+    while ((status = brundelak_star(list, len, place, &s.number, &s.asc, &s.dec, &s.asc_rate, &s.dec_rate, &place)) ==
+           BRUNDELAK_ANSWERED)
+        printf("star %u at %u, %d moves by %d, %d a year\n", (unsigned)s.number, (unsigned)s.asc, (int)s.dec, (int)s.asc_rate,
+               (int)s.dec_rate);
     return status;
 }
 
@@ -46,7 +52,7 @@ int main(void)
     uint8_t list[BRUNDELAK_RECORD_BYTES * STARS], status[STARS], answer;
     double asc[STARS], dec[STARS];
     uint32_t tally[BRUNDELAK_COUNTS];
-    size_t len = write_list(list, sizeof list);
+    uint64_t len = write_list(list, sizeof list);
 
     if (print_list(list, len) != BRUNDELAK_END)
         return 1;
@@ -56,11 +62,12 @@ int main(void)
         printf("refused by %u: %s\n", (unsigned)answer, brundelak_sentence(answer));
         return 1;
     }
-    for (size_t i = 0; i < len / BRUNDELAK_RECORD_BYTES; i++)
+    for (uint64_t i = 0; i < len / BRUNDELAK_RECORD_BYTES; i++)
         if (status[i] == BRUNDELAK_ANSWERED)
             printf("reduced to %.9f, %.9f radians\n", asc[i], dec[i]);
         else
             printf("refused by %u: %s\n", (unsigned)status[i], brundelak_sentence(status[i]));
-    printf("answered %u, too steep %u\n", (unsigned)tally[BRUNDELAK_ANSWERED], (unsigned)tally[BRUNDELAK_REFUSAL_STEEP]);
+    printf("answered %u, too steep %u, past the pole %u\n", (unsigned)tally[BRUNDELAK_ANSWERED],
+           (unsigned)tally[BRUNDELAK_REFUSAL_STEEP], (unsigned)tally[BRUNDELAK_REFUSAL_ANGLE]);
     return 0;
 }

@@ -63,12 +63,12 @@ fn n_of(a: &[f64]) -> f64 {
 }
 
 /// The chain, composed of the routed Rust's steps; each step's refusal is the chain's.
-fn chain_in(a: &[f64]) -> Outcome {
+pub fn chain_in(a: &[f64]) -> Outcome {
     from_precessed(met(&|| pair(precess::precess_eq_coords(a[0], a[1], a[2], a[3]))), a)
 }
 
 /// The same, from Meeus's precession.
-fn published_chain_in(a: &[f64]) -> Outcome {
+pub fn published_chain_in(a: &[f64]) -> Outcome {
     from_precessed(WRITTEN.precess_eq_coords(a), a)
 }
 
@@ -88,22 +88,6 @@ fn from_precessed(precessed: Outcome, a: &[f64]) -> Outcome {
     let n = nutation::nutation_in_eq_coords(&point, long, oblq, tru);
     let s = aberr::stell_aberr_in_eq_coords(&point, a[3]);
     Answer(vec![(moved[0] + n.0) + s.0, (moved[1] + n.1) + s.1])
-}
-
-/// The chain with its own refusals.
-pub fn chain_outcome(a: &[f64]) -> Outcome {
-    refused_or(a, chain_in)
-}
-
-pub fn published_chain_outcome(a: &[f64]) -> Outcome {
-    refused_or(a, published_chain_in)
-}
-
-fn refused_or(a: &[f64], work: fn(&[f64]) -> Outcome) -> Outcome {
-    match first_of(&CHAIN, a) {
-        0 => work(a),
-        n => Refused(n),
-    }
 }
 
 const CHAIN: [Sort; 4] = [Angle, Latitude, Day, Day];

@@ -1,9 +1,10 @@
-//! The stored list: document 01's section 7 written a second time, and the port's star, find, batch and tally compared with it.
-//! A star's reduction is the chain of the routed Rust.
+//! The stored list: document 01's section 7 with request (x)'s records of 20 bytes written a second time, and the port's star, find, batch
+//! and tally compared with it. A star's reduction is the chain of the routed Rust, at the place that its rates have brought it to.
 use aimed;
 use functions::Outcome;
 use inputs::{self, Random};
 use put::{compare_put, hex, put_told, room, Answer};
+use std::f64::consts::FRAC_PI_2;
 use table::{refuses, Sort};
 use written;
 use Count;
@@ -32,62 +33,112 @@ macro_rules! batches {
 batches! { brundelak_batch brundelak_batch_published }
 
 extern "C" {
-    fn brundelak_star(bytes: *const u8, len: usize, place: usize, number: *mut u32, asc: *mut u32, dec: *mut i32, next: *mut usize) -> u8;
-    fn brundelak_put_star(out: *mut u8, len: usize, place: usize, number: u32, asc: u32, dec: i32, next: *mut usize) -> u8;
-    fn brundelak_find(bytes: *const u8, len: usize, number: u32, index: *mut usize, asc: *mut u32, dec: *mut i32) -> u8;
+    fn brundelak_star(
+        bytes: *const u8,
+        len: usize,
+        place: usize,
+        number: *mut u32,
+        asc: *mut u32,
+        dec: *mut i32,
+        asc_rate: *mut i32,
+        dec_rate: *mut i32,
+        next: *mut usize,
+    ) -> u8;
+    fn brundelak_put_star(
+        out: *mut u8,
+        len: usize,
+        place: usize,
+        number: u32,
+        asc: u32,
+        dec: i32,
+        asc_rate: i32,
+        dec_rate: i32,
+        next: *mut usize,
+    ) -> u8;
+    fn brundelak_find(
+        bytes: *const u8,
+        len: usize,
+        number: u32,
+        index: *mut usize,
+        asc: *mut u32,
+        dec: *mut i32,
+        asc_rate: *mut i32,
+        dec_rate: *mut i32,
+    ) -> u8;
     fn brundelak_tally_raise(status: u8, tally: *mut u32) -> u8;
 }
 
 type BatchCall =
     unsafe extern "C" fn(*const u8, usize, f64, f64, *mut u8, usize, *mut f64, usize, *mut f64, usize, *mut u32) -> u8;
 
-/// An edition of the batch: its name, the port's call, and the chain that it must answer by.
+/// An edition of the batch: its name, the port's call, and the chain that it must answer by, at days and a declination that are not refused.
 struct Edition {
     name: &'static str,
     call: BatchCall,
     chain: fn(&[f64]) -> Outcome,
 }
 
-const CRATE: Edition = Edition { name: "batch", call: brundelak_batch, chain: ::functions::chain_outcome };
+const CRATE: Edition = Edition { name: "batch", call: brundelak_batch, chain: ::functions::chain_in };
 const PUBLISHED: Edition =
-    Edition { name: "batch_published", call: brundelak_batch_published, chain: ::functions::published_chain_outcome };
+    Edition { name: "batch_published", call: brundelak_batch_published, chain: ::functions::published_chain_in };
 
 // ---- section 7
 
 /// Bytes of a record, and stars and bytes of a list at most.
-pub const RECORD: usize = 12;
-pub const MOST_STARS: usize = 5000;
+pub const RECORD: usize = 20;
+pub const MOST_STARS: usize = 3000;
 const MOST_BYTES: usize = RECORD * MOST_STARS;
 
 /// Counts of a tally, a count that is full, and the highest status that is known.
 const COUNTS: usize = 20;
 const FULLEST: u32 = 60000;
-const HIGHEST_STATUS: u8 = 16;
+const HIGHEST_STATUS: u8 = 17;
 
 #[derive(Clone, Copy, PartialEq, Debug)]
 pub struct Record {
     pub number: u32,
     pub asc: u32,
     pub dec: i32,
+    /// Milliarcseconds a year, of the coordinate itself.
+    pub asc_rate: i32,
+    pub dec_rate: i32,
 }
+
+/// What a call leaves of a star that it does not answer.
+pub const UNTOUCHED: Record = Record { number: 0xA5A5A5A5, asc: 0x5A5A5A5A, dec: -7, asc_rate: 0x3C3C3C3C, dec_rate: -9 };
 
 impl Record {
     pub fn at(bytes: &[u8], place: usize) -> Record {
         let word = |i: usize| (0..4).map(|k| (bytes[place + i + k] as u32) << (8 * k)).sum::<u32>();
-        Record { number: word(0), asc: word(4), dec: word(8) as i32 }
+        Record { number: word(0), asc: word(4), dec: word(8) as i32, asc_rate: word(12) as i32, dec_rate: word(16) as i32 }
     }
 
     pub fn bytes(&self) -> Vec<u8> {
-        [self.number, self.asc, self.dec as u32].iter().flat_map(|w| (0..4).map(move |k| (w >> (8 * k)) as u8)).collect()
+        let words = [self.number, self.asc, self.dec as u32, self.asc_rate as u32, self.dec_rate as u32];
+        words.iter().flat_map(|w| (0..4).map(move |k| (w >> (8 * k)) as u8)).collect()
     }
 
     pub fn in_range(&self) -> bool {
-        self.asc < 1296000000 && (self.dec as i64).abs() <= 324000000
+        let slow = |rate: i32| (rate as i64).abs() <= 20000;
+        self.asc < 1296000000 && (self.dec as i64).abs() <= 324000000 && slow(self.asc_rate) && slow(self.dec_rate)
     }
 
-    /// Right ascension and declination in radians.
-    fn place(&self) -> (f64, f64) {
-        (written::radians(self.asc as f64 / 3600000.0), written::radians(self.dec as f64 / 3600000.0))
+    /// Right ascension and declination in radians, after so many years.
+    fn place(&self, years: f64) -> (f64, f64) {
+        let radians = |count: f64| written::radians(count / 3600000.0);
+        (
+            radians(self.asc as f64) + radians(self.asc_rate as f64) * years,
+            radians(self.dec as f64) + radians(self.dec_rate as f64) * years,
+        )
+    }
+
+    /// Its fields for the sample.
+    pub fn told(&self) -> String {
+        format!("{} {}", self.number, self.told_but_number())
+    }
+
+    fn told_but_number(&self) -> String {
+        format!("{} {} {} {}", self.asc, self.dec, self.asc_rate, self.dec_rate)
     }
 }
 
@@ -129,12 +180,19 @@ fn find(bytes: &[u8], number: u32) -> (u8, Option<(usize, Record)>) {
     }
 }
 
+fn years_between(day1: f64, day2: f64) -> f64 {
+    (day2 - day1) / 365.25
+}
+
 /// A star's status and two angles.
 fn reduced(edition: &Edition, r: Record, day1: f64, day2: f64) -> (u8, f64, f64) {
+    let (asc, dec) = r.place(years_between(day1, day2));
     if !r.in_range() {
         return (9, 0.0, 0.0);
     }
-    let (asc, dec) = r.place();
+    if dec.abs() > FRAC_PI_2 {
+        return (3, 0.0, 0.0);
+    }
     match (edition.chain)(&[asc, dec, day1, day2]) {
         Outcome::Answer(p) => (0, p[0], p[1]),
         Outcome::Refused(n) => (n, 0.0, 0.0),
@@ -159,8 +217,26 @@ fn days(r: &mut Random, last: (f64, f64)) -> (f64, f64) {
         1 => (last.0, inputs::damaged(r)),
         2 => (2451545.0, inputs::beyond(3182045.0)),
         3 => (1721045.0, 3182045.0),
+        4 => (last.0, last.0),
+        5 => (2451545.0, 2451545.0 + r.between(-400.0, 400.0)),
         _ => (r.between(1721045.0, 3182045.0), r.between(1721045.0, 3182045.0)),
     }
+}
+
+/// A rate in range: none, the least and the greatest of either sign, or any.
+pub fn a_rate(r: &mut Random) -> i32 {
+    const RATES: [i32; 4] = [1, -1, 20000, -20000];
+    match r.below(4) {
+        0 => 0,
+        1 => RATES[r.below(4)],
+        _ => r.below(40001) as i32 - 20000,
+    }
+}
+
+/// A rate out of range.
+pub fn a_bad_rate(r: &mut Random) -> i32 {
+    const RATES: [i32; 6] = [20001, -20001, 65536, -65536, -2147483648, 2147483647];
+    RATES[r.below(6)]
 }
 
 fn record(r: &mut Random, stars: usize, day1: f64, day2: f64) -> Record {
@@ -170,19 +246,28 @@ fn record(r: &mut Random, stars: usize, day1: f64, day2: f64) -> Record {
         number: r.below(2 * stars + 1) as u32,
         asc: r.below(1296000000) as u32,
         dec: r.below(648000001) as i32 - 324000000,
+        asc_rate: a_rate(r),
+        dec_rate: a_rate(r),
     };
-    match r.below(12) {
+    match r.below(16) {
         0 => one.asc = ASC[r.below(5)],
         1 => one.dec = DEC[r.below(7)],
         2 => one.dec = 324000000 - r.below(1000000) as i32,
-        3 | 4 => {
-            // A star that precession brings to the pole.
+        3 => one.dec = -324000000 + r.below(40000) as i32,
+        4 | 5 => {
+            // A star that its motion and precession bring to the pole.
             let p = aimed::to_the_pole(::port::brundelak_precess_eq_coords, day1, day2);
-            let turns = p[0] / (2.0 * ::std::f64::consts::PI);
+            let years = years_between(day1, day2);
+            let turns = p[0] / (2.0 * ::std::f64::consts::PI) - one.asc_rate as f64 * years / 1296000000.0;
             one.asc = ((turns - turns.floor()) * 1296000000.0).round() as u32;
-            one.dec = (p[1] / ::std::f64::consts::FRAC_PI_2 * 324000000.0).round() as i32;
+            one.dec = (p[1] / FRAC_PI_2 * 324000000.0 - one.dec_rate as f64 * years).round() as i32;
         }
-        5 => one = Record { number: r.bits() as u32, asc: r.bits() as u32, dec: r.bits() as i32 },
+        6 => one.asc_rate = a_bad_rate(r),
+        7 => one.dec_rate = a_bad_rate(r),
+        8 => {
+            let word = |r: &mut Random| r.bits() as i32;
+            one = Record { number: r.bits() as u32, asc: r.bits() as u32, dec: word(r), asc_rate: word(r), dec_rate: word(r) };
+        }
         _ => {}
     }
     one
@@ -207,12 +292,15 @@ fn list(r: &mut Random, day1: f64, day2: f64) -> Vec<u8> {
     bytes
 }
 
+/// Places near the greatest, a multiple of the record's bytes among them.
+const FAR: [usize; 5] = [!0, !0 - 3, !0 - (RECORD - 1), !0 / RECORD * RECORD, 1 << 63];
+
 /// A place in a list, or none.
 fn a_place(r: &mut Random, bytes: &[u8]) -> usize {
     match r.below(8) {
         0 => bytes.len(),
         1 => bytes.len() + r.below(30),
-        2 => [!0, !0 - 3, !0 - (RECORD - 1), 1 << 63][r.below(4)],
+        2 => FAR[r.below(5)],
         3 => r.below(bytes.len() + 2),
         _ => RECORD * r.below(bytes.len() / RECORD + 1),
     }
@@ -221,9 +309,9 @@ fn a_place(r: &mut Random, bytes: &[u8]) -> usize {
 /// A place to write at: most often a record's start.
 fn a_start(r: &mut Random) -> usize {
     match r.below(8) {
-        0 => [!0, !0 - 3, !0 - (RECORD - 1), 1 << 63][r.below(4)],
+        0 => FAR[r.below(5)],
         1 => [MOST_BYTES - 2 * RECORD, MOST_BYTES - RECORD, MOST_BYTES - 1, MOST_BYTES, MOST_BYTES + RECORD][r.below(5)],
-        2 => r.below(40),
+        2 => r.below(2 * RECORD + 1),
         _ => RECORD * r.below(6),
     }
 }
@@ -238,13 +326,22 @@ fn a_number(r: &mut Random, bytes: &[u8]) -> u32 {
 
 // ---- the comparison
 
-fn compare_star(r: &mut Random, bytes: &[u8], count: &mut Count) {
-    let place = a_place(r, bytes);
+fn compare_star(bytes: &[u8], place: usize, count: &mut Count) {
     let (expected, shown) = star(bytes, place);
-    let kept = (Record { number: 0xA5A5A5A5, asc: 0x5A5A5A5A, dec: -7 }, 0x1234567);
+    let kept = (UNTOUCHED, 0x1234567);
     let (mut one, mut next) = kept;
     let status = unsafe {
-        brundelak_star(bytes.as_ptr(), bytes.len(), place, &mut one.number, &mut one.asc, &mut one.dec, &mut next)
+        brundelak_star(
+            bytes.as_ptr(),
+            bytes.len(),
+            place,
+            &mut one.number,
+            &mut one.asc,
+            &mut one.dec,
+            &mut one.asc_rate,
+            &mut one.dec_rate,
+            &mut next,
+        )
     };
     let agrees = status == expected && (one, next) == shown.unwrap_or(kept);
     count.tell(status, agrees, || format!("star: place {} of {:?}", place, bytes));
@@ -255,16 +352,27 @@ fn compare_put_star(r: &mut Random, count: &mut Count) {
     let text = record_text(&one, place);
     let len = room(r, place, &text);
     compare_put("put_star", text, len, place, count, |out, next| unsafe {
-        brundelak_put_star(out, len, place, one.number, one.asc, one.dec, next)
+        brundelak_put_star(out, len, place, one.number, one.asc, one.dec, one.asc_rate, one.dec_rate, next)
     });
 }
 
 fn compare_find(r: &mut Random, bytes: &[u8], count: &mut Count) {
     let number = a_number(r, bytes);
     let (expected, found) = find(bytes, number);
-    let kept = (0x1234567, Record { number: number, asc: 0x5A5A5A5A, dec: -7 });
+    let kept = (0x1234567, Record { number: number, ..UNTOUCHED });
     let (mut index, mut one) = kept;
-    let status = unsafe { brundelak_find(bytes.as_ptr(), bytes.len(), number, &mut index, &mut one.asc, &mut one.dec) };
+    let status = unsafe {
+        brundelak_find(
+            bytes.as_ptr(),
+            bytes.len(),
+            number,
+            &mut index,
+            &mut one.asc,
+            &mut one.dec,
+            &mut one.asc_rate,
+            &mut one.dec_rate,
+        )
+    };
     let agrees = status == expected && (index, one) == found.unwrap_or(kept);
     count.tell(status, agrees, || format!("find: {} in {:?}", number, bytes));
 }
@@ -360,7 +468,8 @@ pub fn compare(n: u64) -> (u64, u64) {
         both = days(&mut r, both);
         let bytes = list(&mut r, both.0, both.1);
         for _ in 0..4 {
-            compare_star(&mut r, &bytes, &mut stars);
+            let place = a_place(&mut r, &bytes);
+            compare_star(&bytes, place, &mut stars);
             compare_find(&mut r, &bytes, &mut finds);
             compare_raise(&mut r, &mut raises);
             compare_put_star(&mut writer, &mut puts);
@@ -373,27 +482,39 @@ pub fn compare(n: u64) -> (u64, u64) {
             compare_batch(&PUBLISHED, &bytes, lens, both, &mut published, &mut published_statuses);
         }
     }
-    // A star that comes to the pole, where there is no direction; beside it a good one, one that comes too near to the pole, and one out of
-    // range, as any neighbours in lists of one to four.
-    let pole = Record { number: 7, asc: 90561088, dec: -247842964 };
+    // A star that comes to the pole, where there is no direction; beside it a good one, one that comes too near to the pole, one that its
+    // motion carries past it, and one whose rate is out of range, as any neighbours in lists of one to four.
+    let pole = Record { number: 7, asc: 90561088, dec: -247842964, asc_rate: 0, dec_rate: 0 };
     let kinds = [
         pole,
-        Record { number: 8, asc: 3600000, dec: -3600000 },
-        Record { number: 9, asc: 90561088, dec: -247842964 + 3600 },
-        Record { number: 10, asc: 1296000000, dec: 0 },
+        Record { number: 8, asc: 3600000, dec: -3600000, asc_rate: 20000, dec_rate: -19999 },
+        Record { number: 9, dec: pole.dec + 3600, ..pole },
+        Record { number: 10, asc: 3600000, dec: 300000000, asc_rate: 1, dec_rate: -20000 },
+        Record { number: 11, dec_rate: -2147483648, ..pole },
     ];
     for stars in 1..5 {
-        for order in 0..4usize.pow(stars) {
-            let bytes: Vec<u8> = (0..stars).flat_map(|k| kinds[order / 4usize.pow(k) % 4].bytes()).collect();
+        for order in 0..kinds.len().pow(stars) {
+            let bytes: Vec<u8> = (0..stars).flat_map(|k| kinds[order / kinds.len().pow(k) % kinds.len()].bytes()).collect();
             compare_batch(&CRATE, &bytes, [stars as usize; 3], (3178490.5, 1770538.0069913559), &mut batches, &mut statuses);
         }
     }
+    // Stars that a year brings to a pole itself, as nearly as doubles add up.
+    let year = (2451545.0, 2451910.25);
+    let at_poles: Vec<u8> = (0..400)
+        .map(|k| Record { number: k as u32, asc: 3600000 * k as u32, dec: 324000000 - 50 * k, asc_rate: -k, dec_rate: 50 * k })
+        .flat_map(|one| [one, Record { dec: -one.dec, dec_rate: -one.dec_rate, ..one }].iter().flat_map(|r| r.bytes()).collect::<Vec<u8>>())
+        .collect();
+    compare_batch(&CRATE, &at_poles, [800; 3], year, &mut batches, &mut statuses);
+    compare_batch(&PUBLISHED, &at_poles, [800; 3], year, &mut published, &mut published_statuses);
     // The longest list, and one star more.
     let full: Vec<u8> = (0..MOST_STARS + 1).flat_map(|_| record(&mut r, MOST_STARS, 2415020.5, 2462088.69).bytes()).collect();
-    for &len in [MOST_BYTES, MOST_BYTES + RECORD].iter() {
+    // Every length about the first multiples of 20 and of the 12 bytes of before, and beside the greatest.
+    for len in (0..12 * RECORD + 2).chain([MOST_BYTES - 1, MOST_BYTES, MOST_BYTES + 1, MOST_BYTES + RECORD].iter().cloned()) {
         compare_batch(&CRATE, &full[..len], [len / RECORD; 3], (2415020.5, 2462088.69), &mut batches, &mut statuses);
         compare_batch(&PUBLISHED, &full[..len], [len / RECORD; 3], (2415020.5, 2462088.69), &mut published, &mut published_statuses);
-        compare_star(&mut r, &full[..len], &mut stars);
+        for &place in [0, len / RECORD * RECORD, len].iter() {
+            compare_star(&full[..len], place, &mut stars);
+        }
         compare_find(&mut r, &full[..len], &mut finds);
     }
     println!("{}", stars.line("star (255: none left)"));
@@ -408,9 +529,9 @@ pub fn compare(n: u64) -> (u64, u64) {
     let all = met(&stars, &[0, 8, 255])
         && met(&finds, &[0, 8, 9, 10])
         && met(&batches, &[0, 1, 2, 8])
-        && met(&statuses, &[0, 4, 7, 9, 14])
+        && met(&statuses, &[0, 3, 4, 7, 9, 14])
         && met(&published, &[0, 1, 2, 8])
-        && met(&published_statuses, &[0, 4, 9])
+        && met(&published_statuses, &[0, 3, 4, 9])
         && met(&raises, &[0, 8, 9])
         && met(&puts, &[0, 8, 9]);
     if !all {
@@ -424,8 +545,9 @@ pub fn compare(n: u64) -> (u64, u64) {
 
 /// The sample's lists: of each some stars shown, some sought, and all in a batch; then as many stars written.
 pub fn sample(n: u64) {
-    println!("# A list in hexadecimal, then calls on it: star PLACE = status, number, right ascension, declination, next place;");
-    println!("# find NUMBER = status, index, right ascension, declination; batch DAY DAY = status, each star's status, angles if it is 0; batch_published alike.");
+    println!("# A list in hexadecimal, then calls on it: star PLACE = status, number, right ascension, declination, both rates, next place;");
+    println!("# find NUMBER = status, index, right ascension, declination, both rates; batch DAY DAY = status, each star's status, angles if it");
+    println!("# is 0; batch_published alike.");
     let mut r = Random(::SEED);
     let mut both = (2451545.0, 2462088.69);
     for _ in 0..n {
@@ -435,11 +557,11 @@ pub fn sample(n: u64) {
         for _ in 0..4 {
             let place = a_place(&mut r, &bytes);
             let (status, shown) = star(&bytes, place);
-            let answer = shown.map_or(String::new(), |(one, next)| format!(" {} {} {} {}", one.number, one.asc, one.dec, next));
+            let answer = shown.map_or(String::new(), |(one, next)| format!(" {} {}", one.told(), next));
             println!("star {} = {}{}", place, status, answer);
             let number = a_number(&mut r, &bytes);
             let (status, found) = find(&bytes, number);
-            let answer = found.map_or(String::new(), |(index, one)| format!(" {} {} {}", index, one.asc, one.dec));
+            let answer = found.map_or(String::new(), |(index, one)| format!(" {} {}", index, one.told_but_number()));
             println!("find {} = {}{}", number, status, answer);
         }
         let status = batch_status(&bytes, [bytes.len() / RECORD; 3], both);
@@ -452,13 +574,13 @@ pub fn sample(n: u64) {
             println!("{}{} = {}{}", edition.name, ::hex(&[both.0, both.1]), status, answer);
         }
     }
-    println!("# put_star LENGTH PLACE NUMBER ASC DEC = status, what is written into a slice of so many bytes.");
+    println!("# put_star LENGTH PLACE NUMBER ASC DEC RATE RATE = status, what is written into a slice of so many bytes.");
     let mut r = Random(::SEED);
     for _ in 0..n {
         let one = record(&mut r, 24, 2451545.0, 2462088.69);
-        let place = if r.below(4) == 0 { r.below(40) } else { RECORD * r.below(6) };
+        let place = if r.below(4) == 0 { r.below(2 * RECORD + 1) } else { RECORD * r.below(6) };
         let text = record_text(&one, place);
         let len = room(&mut r, place, &text);
-        println!("put_star {} {} {} {} {} = {}", len, place, one.number, one.asc, one.dec, put_told(text, len, place));
+        println!("put_star {} {} {} = {}", len, place, one.told(), put_told(text, len, place));
     }
 }

@@ -1,5 +1,6 @@
 //! Compares the port with the supplied Rust.
 //!   driver compare N      N calls a function, bit for bit, refusals against section 5's table
+//!   driver lists N        of these the calls on lists alone
 //!   driver fuzz N         N calls in all, any bits at every function: it ends, and writes what it answers and nothing else
 //!   driver gaps N         the widest gap between the port and Rust's own library functions, as a table
 //!   driver sample N       what the Rust answers to some of N calls a function of each kind, a line for each
@@ -17,6 +18,7 @@ mod put;
 mod radio;
 mod table;
 mod transit;
+mod widths;
 mod written;
 
 use functions::{Function, Outcome};
@@ -79,10 +81,14 @@ impl Count {
         self.calls += 1;
         self.by[status as usize] += 1;
         if !agrees {
-            self.differing += 1;
-            if self.differing <= 3 {
-                println!("differs: {}", shown());
-            }
+            self.differ(shown);
+        }
+    }
+
+    fn differ<F: FnOnce() -> String>(&mut self, shown: F) {
+        self.differing += 1;
+        if self.differing <= 3 {
+            println!("differs: {}", shown());
         }
     }
 
@@ -156,11 +162,19 @@ fn compare(n: u64) -> bool {
         }
         total = (total.0 + count.calls, total.1 + count.differing);
     }
-    for &(calls, differing) in [lists::compare(n / 4), radio::compare(n)].iter() {
-        total = (total.0 + calls, total.1 + differing);
-    }
-    println!("compared {} calls, differing {}", total.0, total.1);
-    total.1 == 0
+    told(total, compare_lists(n))
+}
+
+/// Calls on lists, and of those that differ.
+fn compare_lists(n: u64) -> (u64, u64) {
+    let all = [lists::compare(n / 4), radio::compare(n), widths::compare(n)];
+    all.iter().fold((0, 0), |t, c| (t.0 + c.0, t.1 + c.1))
+}
+
+fn told(some: (u64, u64), others: (u64, u64)) -> bool {
+    let (calls, differing) = (some.0 + others.0, some.1 + others.1);
+    println!("compared {} calls, differing {}", calls, differing);
+    differing == 0
 }
 
 fn fuzz(n: u64) -> bool {
@@ -290,6 +304,7 @@ const ANSWERED: usize = 77;
 const REFUSED: usize = 6;
 const LISTS: u64 = 48;
 const RADIO_LISTS: u64 = 64;
+const WIDTH_LISTS: u64 = 48;
 
 fn sample(n: u64) {
     println!("# What the supplied Rust answers over the port's elementary functions and helpers, and these by their rules written a second");
@@ -325,6 +340,7 @@ fn sample(n: u64) {
     }
     lists::sample(LISTS);
     radio::sample(RADIO_LISTS);
+    widths::sample(WIDTH_LISTS);
 }
 
 fn main() {
@@ -332,6 +348,7 @@ fn main() {
     let n = args.get(2).and_then(|s| s.parse().ok()).unwrap_or(0);
     let good = match args.get(1).map(|s| s.as_str()) {
         Some("compare") if n > 0 => compare(n),
+        Some("lists") if n > 0 => told((0, 0), compare_lists(n)),
         Some("fuzz") if n > 0 => fuzz(n),
         Some("gaps") if n > 0 => {
             gaps(n);
@@ -342,7 +359,7 @@ fn main() {
             true
         }
         _ => {
-            println!("driver compare N | fuzz N | gaps N | sample N");
+            println!("driver compare N | lists N | fuzz N | gaps N | sample N");
             false
         }
     };

@@ -49,6 +49,13 @@ where
     count.tell(status, agrees, || format!("{}: status {}, {:?} for {:?}, place {} of {}", name, status, got, expected, place, len));
 }
 
+/// What is moved there and back must be as it was.
+pub(crate) fn compare_back(name: &str, returned: Answer<Vec<u8>>, bytes: &[u8], count: &mut Count) {
+    if returned.as_ref().map(|b| &b[..]) != Ok(bytes) {
+        count.differ(|| format!("{}: there and back {:?} is {:?}", name, bytes, returned));
+    }
+}
+
 // ---- the sample
 
 pub fn hex(bytes: &[u8]) -> String {

@@ -1,25 +1,47 @@
-//! Lists over the radio link: document 02's request (i) written a second time, and the port's reader, writer and movers compared with it.
+//! Lists over the radio link: document 02's request (i), in the form of request (x), written a second time, and the port's reader, writer
+//! and movers compared with it. Form 3 is written; form 2, without rates, is read too.
 use inputs::Random;
-use lists::{bad_list, Record, MOST_STARS, RECORD};
-use put::{compare_put, hex, put_told, room, status_of, told, Answer};
+use lists::{a_bad_rate, a_rate, bad_list, Record, MOST_STARS, RECORD, UNTOUCHED};
+use put::{compare_back, compare_put, hex, put_told, room, status_of, told, Answer};
 use std::cmp;
+use widths;
 use Count;
 
 extern "C" {
     fn brundelak_radio_open(bytes: *const u8, len: usize, count: *mut u32, place: *mut usize) -> u8;
-    fn brundelak_radio_star(bytes: *const u8, len: usize, place: usize, number: *mut u32, asc: *mut u32, dec: *mut i32, next: *mut usize) -> u8;
+    fn brundelak_radio_star(
+        bytes: *const u8,
+        len: usize,
+        place: usize,
+        number: *mut u32,
+        asc: *mut u32,
+        dec: *mut i32,
+        asc_rate: *mut i32,
+        dec_rate: *mut i32,
+        next: *mut usize,
+    ) -> u8;
     fn brundelak_radio_accept(bytes: *const u8, len: usize, count: *mut u32) -> u8;
     fn brundelak_radio_put_head(out: *mut u8, len: usize, place: usize, count: u32, next: *mut usize) -> u8;
-    fn brundelak_radio_put_star(out: *mut u8, len: usize, place: usize, number: u32, asc: u32, dec: i32, next: *mut usize) -> u8;
+    fn brundelak_radio_put_star(
+        out: *mut u8,
+        len: usize,
+        place: usize,
+        number: u32,
+        asc: u32,
+        dec: i32,
+        asc_rate: i32,
+        dec_rate: i32,
+        next: *mut usize,
+    ) -> u8;
     fn brundelak_radio_to_list(bytes: *const u8, len: usize, out: *mut u8, out_len: usize, written: *mut usize) -> u8;
     fn brundelak_list_to_radio(bytes: *const u8, len: usize, out: *mut u8, out_len: usize, written: *mut usize) -> u8;
 }
 
-// ---- request (i)
+// ---- requests (i) and (x)
 
 const MOST: u32 = MOST_STARS as u32;
-/// Bytes of a radio list at most: the first, two of the count, and for each star three numbers of five.
-const MOST_BYTES: usize = 3 + 15 * MOST_STARS;
+/// Bytes of a radio list at most: the first, two of the count, and for each star three numbers of five and two rates of three.
+const MOST_BYTES: usize = 3 + 21 * MOST_STARS;
 
 /// A number in as many groups as its bits need.
 fn groups(n: u32) -> Vec<u8> {
@@ -45,8 +67,8 @@ fn number(bytes: &[u8], place: usize) -> Answer<(u32, usize)> {
     }
 }
 
-fn folded(dec: i32) -> u32 {
-    let d = dec as i64;
+fn folded(z: i32) -> u32 {
+    let d = z as i64;
     (if d < 0 { -2 * d - 1 } else { 2 * d }) as u32
 }
 
@@ -59,16 +81,18 @@ fn unfolded(n: u32) -> i32 {
     }
 }
 
-fn first_byte(bytes: &[u8]) -> Answer<()> {
+/// How many numbers a star has, as the first byte says.
+fn numbers_of(bytes: &[u8]) -> Answer<usize> {
     match bytes.first() {
         None => Err(13),
-        Some(&2) => Ok(()),
+        Some(&2) => Ok(3),
+        Some(&3) => Ok(5),
         Some(_) => Err(11),
     }
 }
 
 fn open(bytes: &[u8]) -> Answer<(u32, usize)> {
-    first_byte(bytes)?;
+    numbers_of(bytes)?;
     let (count, place) = number(bytes, 1)?;
     if count > MOST {
         return Err(8);
@@ -77,11 +101,13 @@ fn open(bytes: &[u8]) -> Answer<(u32, usize)> {
 }
 
 fn star(bytes: &[u8], place: usize) -> Answer<(Record, usize)> {
-    first_byte(bytes)?;
-    let (name, place) = number(bytes, place)?;
-    let (asc, place) = number(bytes, place)?;
-    let (dec, place) = number(bytes, place)?;
-    let one = Record { number: name, asc: asc, dec: unfolded(dec) };
+    let (mut of, mut place) = ([0; 5], place);
+    for k in 0..numbers_of(bytes)? {
+        let (n, next) = number(bytes, place)?;
+        of[k] = n;
+        place = next;
+    }
+    let one = Record { number: of[0], asc: of[1], dec: unfolded(of[2]), asc_rate: unfolded(of[3]), dec_rate: unfolded(of[4]) };
     if !one.in_range() {
         return Err(9);
     }
@@ -106,14 +132,20 @@ fn head(count: u32) -> Answer<Vec<u8>> {
     if count > MOST {
         return Err(8);
     }
-    Ok([vec![2], groups(count)].concat())
+    Ok([vec![3], groups(count)].concat())
+}
+
+/// A star's numbers in the form that has so many.
+fn numbers(one: &Record, of: usize) -> Vec<Vec<u8>> {
+    let all = [one.number, one.asc, folded(one.dec), folded(one.asc_rate), folded(one.dec_rate)];
+    all[..of].iter().map(|&n| groups(n)).collect()
 }
 
 fn star_bytes(one: &Record) -> Answer<Vec<u8>> {
     if !one.in_range() {
         return Err(9);
     }
-    Ok([groups(one.number), groups(one.asc), groups(folded(one.dec))].concat())
+    Ok(numbers(one, 5).concat())
 }
 
 fn to_list(bytes: &[u8]) -> Answer<Vec<u8>> {
@@ -150,23 +182,35 @@ fn record(r: &mut Random, out_of: usize) -> Record {
         number: a_number(r),
         asc: cmp::min(a_number(r), 1295999999),
         dec: cmp::min(cmp::max(unfolded(a_number(r)), -324000000), 324000000),
+        asc_rate: a_rate(r),
+        dec_rate: a_rate(r),
     };
     if r.below(out_of) == 0 {
-        match r.below(2) {
+        match r.below(4) {
             0 => one.asc = ASC[r.below(5)],
-            _ => one.dec = DEC[r.below(4)],
+            1 => one.dec = DEC[r.below(4)],
+            2 => one.asc_rate = a_bad_rate(r),
+            _ => one.dec_rate = a_bad_rate(r),
         }
     }
     one
 }
 
-/// A radio list, as its first byte and its numbers' groups.
-fn pieces(r: &mut Random) -> Vec<Vec<u8>> {
+/// The first byte of the form that has so many numbers a star.
+fn mark(of: usize) -> u8 {
+    if of == 3 {
+        2
+    } else {
+        3
+    }
+}
+
+/// A radio list of either form, as its first byte and its numbers' groups.
+fn pieces(r: &mut Random, of: usize) -> Vec<Vec<u8>> {
     let stars = if r.below(8) == 0 { 0 } else { 1 + r.below(9) };
-    let mut all = vec![vec![2], groups(stars as u32)];
+    let mut all = vec![vec![mark(of)], groups(stars as u32)];
     for _ in 0..stars {
-        let one = record(r, 24);
-        all.extend(vec![groups(one.number), groups(one.asc), groups(folded(one.dec))]);
+        all.extend(numbers(&record(r, 24), of));
     }
     all
 }
@@ -175,7 +219,8 @@ fn pieces(r: &mut Random) -> Vec<Vec<u8>> {
 fn radio(r: &mut Random) -> Vec<u8> {
     const FIFTH: [u8; 8] = [0, 1, 0x0F, 0x10, 0x7F, 0x80, 0x8F, 0xFF];
     const COUNTS: [u32; 5] = [MOST - 1, MOST, MOST + 1, 65536, 0xFFFFFFFF];
-    let mut all = pieces(r);
+    let of = [3, 5, 5][r.below(3)];
+    let mut all = pieces(r, of);
     let (mut over, mut cut) = (vec![], None);
     for _ in 0..[0, 0, 1, 2][r.below(4)] {
         let last = all.len() - 1;
@@ -190,7 +235,7 @@ fn radio(r: &mut Random) -> Vec<u8> {
             1 => all[at] = vec![r.bits() as u8 | 0x80, 0xFF, 0x80, r.bits() as u8 | 0x80, FIFTH[r.below(8)]],
             // Six groups.
             2 => all[at] = vec![0x80, 0x80, 0x80, 0x80, 0x81 + r.below(15) as u8, 1],
-            3 => all[1] = groups(last as u32 / 3 + 1),
+            3 => all[1] = groups((last / of) as u32 + 1),
             4 => all[1] = groups(COUNTS[r.below(5)]),
             5 => over = (0..1 + r.below(3)).map(|_| r.below(3) as u8).collect(),
             6 => cut = Some(r.bits() as usize),
@@ -210,7 +255,7 @@ fn radio(r: &mut Random) -> Vec<u8> {
     if r.below(24) == 0 {
         bytes = (0..r.below(40)).map(|_| r.bits() as u8).collect();
         if r.below(2) == 0 && !bytes.is_empty() {
-            bytes[0] = 2;
+            bytes[0] = mark(of);
         }
     }
     bytes
@@ -256,10 +301,20 @@ fn compare_open(bytes: &[u8], count: &mut Count) {
 
 fn compare_star(bytes: &[u8], place: usize, count: &mut Count) {
     let expected = star(bytes, place);
-    let kept = (Record { number: 0xA5A5A5A5, asc: 0x5A5A5A5A, dec: -7 }, 0x1234567);
+    let kept = (UNTOUCHED, 0x1234567);
     let (mut one, mut next) = kept;
     let status = unsafe {
-        brundelak_radio_star(bytes.as_ptr(), bytes.len(), place, &mut one.number, &mut one.asc, &mut one.dec, &mut next)
+        brundelak_radio_star(
+            bytes.as_ptr(),
+            bytes.len(),
+            place,
+            &mut one.number,
+            &mut one.asc,
+            &mut one.dec,
+            &mut one.asc_rate,
+            &mut one.dec_rate,
+            &mut next,
+        )
     };
     let agrees = status == status_of(&expected) && (one, next) == expected.unwrap_or(kept);
     count.tell(status, agrees, || format!("radio_star: {:?} for {:?}, place {} of {:?}", (one, next), expected, place, bytes));
@@ -275,34 +330,49 @@ fn compare_accept(bytes: &[u8], count: &mut Count) {
 
 fn compare_put_head(r: &mut Random, count: &mut Count) {
     let stars = [0, 127, 128, MOST, MOST + 1, r.below(MOST_STARS) as u32, a_number(r)][r.below(7)];
-    let (place, text) = (a_place(r, &[2; 12]), head(stars));
+    let (place, text) = (a_place(r, &[3; 12]), head(stars));
     let len = room(r, place, &text);
     compare_put("radio_put_head", text, len, place, count, |out, next| unsafe { brundelak_radio_put_head(out, len, place, stars, next) });
 }
 
 fn compare_put_star(r: &mut Random, count: &mut Count) {
     let one = record(r, 4);
-    let (place, text) = (a_place(r, &[2; 12]), star_bytes(&one));
+    let (place, text) = (a_place(r, &[3; 12]), star_bytes(&one));
     let len = room(r, place, &text);
     compare_put("radio_put_star", text, len, place, count, |out, next| unsafe {
-        brundelak_radio_put_star(out, len, place, one.number, one.asc, one.dec, next)
+        brundelak_radio_put_star(out, len, place, one.number, one.asc, one.dec, one.asc_rate, one.dec_rate, next)
     });
 }
 
-/// What is moved goes back to the same bytes.
-fn compare_back(name: &str, moved: &Answer<Vec<u8>>, back: fn(&[u8]) -> Answer<Vec<u8>>, bytes: &[u8], count: &mut Count) {
-    if let Ok(ref there) = *moved {
-        let returned = back(there);
-        if returned.as_ref().map(|b| &b[..]) != Ok(bytes) {
-            count.differing += 1;
-            println!("differs: {}: there and back {:?} is {:?}", name, bytes, returned);
-        }
+/// The radio list that a stored list's list must be: the same bytes, or of form 2 the same stars in form 3, their rates zero.
+fn written_again(bytes: &[u8]) -> Vec<u8> {
+    if numbers_of(bytes) != Ok(3) {
+        return bytes.to_vec();
     }
+    let (stars, mut place) = open(bytes).unwrap();
+    let mut all = [&[3], &bytes[1..place]].concat();
+    for _ in 0..stars {
+        let next = star(bytes, place).unwrap().1;
+        all.extend([&bytes[place..next], &[0, 0]].concat());
+        place = next;
+    }
+    all
+}
+
+/// What a list of form 2 says is the list of before, of 12 bytes a star, moved up.
+fn read_as_before(bytes: &[u8], list: &[u8]) -> bool {
+    let of_before: Vec<u8> = list.chunks(RECORD).flat_map(|r| r[..12].to_vec()).collect();
+    numbers_of(bytes) != Ok(3) || widths::up(&of_before) == Ok(list.to_vec())
 }
 
 fn compare_to_list(bytes: &[u8], len: usize, count: &mut Count) {
     let text = to_list(bytes);
-    compare_back("radio_to_list", &text, to_radio, bytes, count);
+    if let Ok(ref list) = text {
+        compare_back("radio_to_list", to_radio(list), &written_again(bytes), count);
+        if !read_as_before(bytes, list) {
+            count.differ(|| format!("radio_to_list: {:?} is not the list of before", bytes));
+        }
+    }
     compare_put("radio_to_list", text, len, 0, count, |out, written| unsafe {
         brundelak_radio_to_list(bytes.as_ptr(), bytes.len(), out, len, written)
     });
@@ -310,26 +380,34 @@ fn compare_to_list(bytes: &[u8], len: usize, count: &mut Count) {
 
 fn compare_to_radio(bytes: &[u8], len: usize, count: &mut Count) {
     let text = to_radio(bytes);
-    compare_back("list_to_radio", &text, to_list, bytes, count);
+    if let Ok(ref radio) = text {
+        compare_back("list_to_radio", to_list(radio), bytes, count);
+    }
     compare_put("list_to_radio", text, len, 0, count, |out, written| unsafe {
         brundelak_list_to_radio(bytes.as_ptr(), bytes.len(), out, len, written)
     });
 }
 
-/// The longest lists, and what a count promises that the bytes do not hold.
+/// The longest lists of both forms, and what a count promises that the bytes do not hold.
 fn longest() -> Vec<Vec<u8>> {
-    let widest = Record { number: 0xFFFFFFFF, asc: 1295999999, dec: -324000000 };
-    let stars = |n: u32| [vec![2], groups(n), (0..n).flat_map(|_| star_bytes(&widest).unwrap()).collect()].concat();
-    let (full, most) = (stars(MOST), head(MOST).unwrap());
-    vec![
-        [&full[..], &[0][..]].concat(),
-        full[..full.len() - 1].to_vec(),
-        full,
-        stars(MOST + 1),
-        most.clone(),
-        [&most[..], &[0, 0, 0][..]].concat(),
-        vec![2, 0xFF, 0xFF, 0xFF, 0xFF, 0x0F],
-    ]
+    let widest = Record { number: 0xFFFFFFFF, asc: 1295999999, dec: -324000000, asc_rate: -20000, dec_rate: 20000 };
+    let mut lists = vec![];
+    for &of in [3, 5].iter() {
+        let head = |n: u32| [vec![mark(of)], groups(n)].concat();
+        let stars = |n: u32| [head(n), (0..n).flat_map(|_| numbers(&widest, of).concat()).collect()].concat();
+        let full = stars(MOST);
+        lists.extend(vec![
+            [&full[..], &[0]].concat(),
+            full[..full.len() - 1].to_vec(),
+            full,
+            stars(MOST - 1),
+            stars(MOST + 1),
+            head(MOST),
+            [&head(MOST)[..], &[0, 0, 0]].concat(),
+            [&[mark(of)][..], &[0xFF, 0xFF, 0xFF, 0xFF, 0x0F]].concat(),
+        ]);
+    }
+    lists
 }
 
 /// n radio lists read, accepted and moved, n stored lists moved, and as many heads and stars written.
@@ -354,7 +432,7 @@ pub fn compare(n: u64) -> (u64, u64) {
         let len = room(&mut r, 0, &to_radio(&stored));
         compare_to_radio(&stored, len, &mut ups);
     }
-    let star = Record { number: 1, asc: 2, dec: 3 }.bytes();
+    let star = Record { number: 1, asc: 2, dec: 3, asc_rate: -4, dec_rate: 5 }.bytes();
     for &n in [MOST_STARS - 1, MOST_STARS, MOST_STARS + 1].iter() {
         compare_to_radio(&star.iter().cloned().cycle().take(RECORD * n).collect::<Vec<u8>>(), MOST_BYTES, &mut ups);
     }
@@ -390,9 +468,9 @@ pub fn compare(n: u64) -> (u64, u64) {
 /// The sample's radio lists, and a stored list for each.
 pub fn sample(n: u64) {
     println!("# A radio list in hexadecimal, then calls on it: radio_open = status, count, place; radio_star PLACE = status, number, right");
-    println!("# ascension, declination, next place; radio_accept = status, count; radio_to_list LENGTH = status, what is written into a slice of");
-    println!("# so many bytes; radio_put_head LENGTH PLACE COUNT and radio_put_star LENGTH PLACE NUMBER ASC DEC likewise. Then a stored list");
-    println!("# and list_to_radio LENGTH.");
+    println!("# ascension, declination, both rates, next place; radio_accept = status, count; radio_to_list LENGTH = status, what is written");
+    println!("# into a slice of so many bytes; radio_put_head LENGTH PLACE COUNT and radio_put_star LENGTH PLACE NUMBER ASC DEC RATE RATE");
+    println!("# likewise. Then a stored list and list_to_radio LENGTH.");
     let mut r = Random(::SEED);
     for _ in 0..n {
         let bytes = radio(&mut r);
@@ -401,7 +479,7 @@ pub fn sample(n: u64) {
         let mut places: Vec<usize> = (0..3).map(|_| a_place(&mut r, &bytes)).collect();
         places.dedup();
         for place in places {
-            let answer = told(star(&bytes, place), |(s, next)| format!("{} {} {} {}", s.number, s.asc, s.dec, next));
+            let answer = told(star(&bytes, place), |(s, next)| format!("{} {}", s.told(), next));
             println!("radio_star {} = {}", place, answer);
         }
         println!("radio_accept = {}", told(accept(&bytes), |stars| stars.len().to_string()));
@@ -413,15 +491,7 @@ pub fn sample(n: u64) {
         println!("radio_put_head {} {} {} = {}", len, place, stars, put_told(head(stars), len, place));
         let one = record(&mut r, 4);
         let len = room(&mut r, place, &star_bytes(&one));
-        println!(
-            "radio_put_star {} {} {} {} {} = {}",
-            len,
-            place,
-            one.number,
-            one.asc,
-            one.dec,
-            put_told(star_bytes(&one), len, place)
-        );
+        println!("radio_put_star {} {} {} = {}", len, place, one.told(), put_told(star_bytes(&one), len, place));
         let stored = list(&mut r);
         let len = room(&mut r, 0, &to_radio(&stored));
         println!("list {}", hex(&stored));

@@ -1,4 +1,8 @@
 //! The batch: every star of a stored list from one day to another, and the tally of the statuses.
+//!
+//! Before the chain each coordinate is shifted: its rate times the years between the days, (day2 - day1) / 365.25, is added to it. A star
+//! with both rates zero has the chain's answer at its place, bit for bit. A star's refusal is the first met: 9 for its record, 3 for a
+//! declination shifted past a quarter turn, then the chain's 14, 7, 4.
 use crate::coords::EqPoint;
 use crate::{ffi, list, Edition, Refusal};
 
@@ -13,7 +17,7 @@ pub const FULLEST: u32 = 60000;
 /// ```
 /// # fn main() -> Result<(), brundelak::Refusal> {
 /// use brundelak::{batch, list};
-/// let bytes = [7, 0, 0, 0, 0, 0, 0, 0, 0, 0, 0, 0];
+/// let bytes = [7, 0, 0, 0, 0, 0, 0, 0, 0, 0, 0, 0, 0, 0, 0, 0, 0, 0, 0, 0];
 /// for (star, place) in list::stars(&bytes)?.zip(batch::reduced(&bytes, 2451545.0, 2462088.69)?) {
 ///     match place {
 ///         Ok(place) => println!("{} {} {}", star.number, place.asc, place.dec),

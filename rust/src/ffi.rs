@@ -1,5 +1,6 @@
 //! The C boundary. All that is unsafe stands here: each call lends floats of its own frame, valid and distinct.
 use crate::batch::COUNTS;
+use crate::list::Star;
 use crate::{Edition, Refusal};
 
 macro_rules! boundary {
@@ -109,6 +110,8 @@ mod stored {
             number: *mut u32,
             asc: *mut u32,
             dec: *mut i32,
+            asc_rate: *mut i32,
+            dec_rate: *mut i32,
             next: *mut usize,
         ) -> u8;
         pub fn brundelak_put_star(
@@ -118,6 +121,8 @@ mod stored {
             number: u32,
             asc: u32,
             dec: i32,
+            asc_rate: i32,
+            dec_rate: i32,
             next: *mut usize,
         ) -> u8;
         pub fn brundelak_find(
@@ -127,6 +132,22 @@ mod stored {
             index: *mut usize,
             asc: *mut u32,
             dec: *mut i32,
+            asc_rate: *mut i32,
+            dec_rate: *mut i32,
+        ) -> u8;
+        pub fn brundelak_list_12_to_20(
+            bytes: *const u8,
+            len: usize,
+            out: *mut u8,
+            out_len: usize,
+            written: *mut usize,
+        ) -> u8;
+        pub fn brundelak_list_20_to_12(
+            bytes: *const u8,
+            len: usize,
+            out: *mut u8,
+            out_len: usize,
+            written: *mut usize,
         ) -> u8;
         pub fn brundelak_tally_raise(status: u8, tally: *mut u32) -> u8;
     }
@@ -146,35 +167,69 @@ pub fn version() -> u32 {
 /// The status of `brundelak_star` where none is left.
 const END: u8 = 255;
 
-/// Number, right ascension, declination and the place after; none where none is left.
-pub fn star(bytes: &[u8], place: usize) -> Result<Option<(u32, u32, i32, usize)>, Refusal> {
-    let (mut number, mut asc, mut dec, mut next) = (0, 0, 0, 0);
+/// A star that calls write into, field by field.
+const BLANK: Star = Star::still(0, 0, 0);
+
+/// The star and the place after; none where none is left.
+pub fn star(bytes: &[u8], place: usize) -> Result<Option<(Star, usize)>, Refusal> {
+    let (mut star, mut next) = (BLANK, 0);
     let status = unsafe {
-        stored::brundelak_star(bytes.as_ptr(), bytes.len(), place, &mut number, &mut asc, &mut dec, &mut next)
+        stored::brundelak_star(
+            bytes.as_ptr(),
+            bytes.len(),
+            place,
+            &mut star.number,
+            &mut star.asc,
+            &mut star.dec,
+            &mut star.asc_rate,
+            &mut star.dec_rate,
+            &mut next,
+        )
     };
     if status == END {
         return Ok(None);
     }
     Refusal::from_status(status)?;
-    Ok(Some((number, asc, dec, next)))
+    Ok(Some((star, next)))
 }
 
 /// The place after the star.
-pub fn put_star(out: &mut [u8], place: usize, number: u32, asc: u32, dec: i32) -> Result<usize, Refusal> {
+pub fn put_star(out: &mut [u8], place: usize, star: Star) -> Result<usize, Refusal> {
     let mut next = 0;
     let status = unsafe {
-        stored::brundelak_put_star(out.as_mut_ptr(), out.len(), place, number, asc, dec, &mut next)
+        stored::brundelak_put_star(
+            out.as_mut_ptr(),
+            out.len(),
+            place,
+            star.number,
+            star.asc,
+            star.dec,
+            star.asc_rate,
+            star.dec_rate,
+            &mut next,
+        )
     };
     Refusal::from_status(status)?;
     Ok(next)
 }
 
-/// Index, right ascension and declination.
-pub fn find(bytes: &[u8], number: u32) -> Result<(usize, u32, i32), Refusal> {
-    let (mut index, mut asc, mut dec) = (0, 0, 0);
-    let status = unsafe { stored::brundelak_find(bytes.as_ptr(), bytes.len(), number, &mut index, &mut asc, &mut dec) };
+/// Index and star.
+pub fn find(bytes: &[u8], number: u32) -> Result<(usize, Star), Refusal> {
+    let (mut index, mut star) = (0, Star { number, ..BLANK });
+    let status = unsafe {
+        stored::brundelak_find(
+            bytes.as_ptr(),
+            bytes.len(),
+            number,
+            &mut index,
+            &mut star.asc,
+            &mut star.dec,
+            &mut star.asc_rate,
+            &mut star.dec_rate,
+        )
+    };
     Refusal::from_status(status)?;
-    Ok((index, asc, dec))
+    Ok((index, star))
 }
 
 /// The tally.
@@ -230,6 +285,8 @@ mod radio {
             number: *mut u32,
             asc: *mut u32,
             dec: *mut i32,
+            asc_rate: *mut i32,
+            dec_rate: *mut i32,
             next: *mut usize,
         ) -> u8;
         pub fn brundelak_radio_accept(bytes: *const u8, len: usize, count: *mut u32) -> u8;
@@ -241,6 +298,8 @@ mod radio {
             number: u32,
             asc: u32,
             dec: i32,
+            asc_rate: i32,
+            dec_rate: i32,
             next: *mut usize,
         ) -> u8;
         pub fn brundelak_radio_to_list(
@@ -268,14 +327,24 @@ pub fn radio_open(bytes: &[u8]) -> Result<(u32, usize), Refusal> {
     Ok((count, place))
 }
 
-/// Number, right ascension, declination and the place after.
-pub fn radio_star(bytes: &[u8], place: usize) -> Result<(u32, u32, i32, usize), Refusal> {
-    let (mut number, mut asc, mut dec, mut next) = (0, 0, 0, 0);
+/// The star and the place after.
+pub fn radio_star(bytes: &[u8], place: usize) -> Result<(Star, usize), Refusal> {
+    let (mut star, mut next) = (BLANK, 0);
     let status = unsafe {
-        radio::brundelak_radio_star(bytes.as_ptr(), bytes.len(), place, &mut number, &mut asc, &mut dec, &mut next)
+        radio::brundelak_radio_star(
+            bytes.as_ptr(),
+            bytes.len(),
+            place,
+            &mut star.number,
+            &mut star.asc,
+            &mut star.dec,
+            &mut star.asc_rate,
+            &mut star.dec_rate,
+            &mut next,
+        )
     };
     Refusal::from_status(status)?;
-    Ok((number, asc, dec, next))
+    Ok((star, next))
 }
 
 /// The count.
@@ -295,10 +364,20 @@ pub fn radio_put_head(out: &mut [u8], place: usize, count: u32) -> Result<usize,
 }
 
 /// The place after the star.
-pub fn radio_put_star(out: &mut [u8], place: usize, number: u32, asc: u32, dec: i32) -> Result<usize, Refusal> {
+pub fn radio_put_star(out: &mut [u8], place: usize, star: Star) -> Result<usize, Refusal> {
     let mut next = 0;
     let status = unsafe {
-        radio::brundelak_radio_put_star(out.as_mut_ptr(), out.len(), place, number, asc, dec, &mut next)
+        radio::brundelak_radio_put_star(
+            out.as_mut_ptr(),
+            out.len(),
+            place,
+            star.number,
+            star.asc,
+            star.dec,
+            star.asc_rate,
+            star.dec_rate,
+            &mut next,
+        )
     };
     Refusal::from_status(status)?;
     Ok(next)
@@ -312,6 +391,14 @@ fn moved(mover: Mover, bytes: &[u8], out: &mut [u8]) -> Result<usize, Refusal> {
     let status = unsafe { mover(bytes.as_ptr(), bytes.len(), out.as_mut_ptr(), out.len(), &mut written) };
     Refusal::from_status(status)?;
     Ok(written)
+}
+
+pub fn list_12_to_20(bytes: &[u8], out: &mut [u8]) -> Result<usize, Refusal> {
+    moved(stored::brundelak_list_12_to_20, bytes, out)
+}
+
+pub fn list_20_to_12(bytes: &[u8], out: &mut [u8]) -> Result<usize, Refusal> {
+    moved(stored::brundelak_list_20_to_12, bytes, out)
 }
 
 pub fn radio_to_list(bytes: &[u8], out: &mut [u8]) -> Result<usize, Refusal> {

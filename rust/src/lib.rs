@@ -45,5 +45,5 @@ pub use refusal::Refusal;
 /// The version of the archive that is linked: its three parts, which are this crate's where both are of one version.
 pub fn version() -> (u32, u32, u32) {
     let number = ffi::version();
-    (number / 10000, number / 100 % 100, number % 100)
+    (number >> 16, number >> 8 & 255, number & 255)
 }

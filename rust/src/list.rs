@@ -1,10 +1,10 @@
 //! The stored list: at most [`MOST_STARS`] records of [`RECORD_BYTES`] bytes, little-endian; number, right ascension and declination in
-//! milliarcseconds.
+//! milliarcseconds, and the yearly change of each. Lists of before, whose records have no rates, move up by [`list_12_to_20`].
 //!
 //! ```
 //! # fn main() -> Result<(), brundelak::Refusal> {
 //! use brundelak::list::{self, Star};
-//! let stars = [Star { number: 7, asc: 0, dec: 0 }, Star { number: 9, asc: 3600000, dec: -3600000 }];
+//! let stars = [Star::still(7, 0, 0), Star { asc_rate: 65, dec_rate: -189, ..Star::still(9, 3600000, -3600000) }];
 //! let (mut out, mut end) = ([0; 3 * list::RECORD_BYTES], 0);
 //! for &star in &stars {
 //!     end = list::put_star(&mut out, end, star)?;
@@ -25,16 +25,34 @@ pub struct Star {
     pub asc: u32,
     /// Declination in milliarcseconds; in range to 324000000 in size.
     pub dec: i32,
+    /// Yearly change of right ascension in milliarcseconds a year; in range to 20000 in size. It is of the coordinate itself: what
+    /// catalogues print is that times cos declination, and must be divided by it.
+    pub asc_rate: i32,
+    /// Yearly change of declination in milliarcseconds a year; in range to 20000 in size.
+    pub dec_rate: i32,
+}
+
+impl Star {
+    /// A star that stands still: both rates are zero.
+    pub const fn still(number: u32, asc: u32, dec: i32) -> Star {
+        Star { number, asc, dec, asc_rate: 0, dec_rate: 0 }
+    }
 }
 
 /// The bytes of a record.
-pub const RECORD_BYTES: usize = 12;
+pub const RECORD_BYTES: usize = 20;
 
 /// The stars of a list, at most.
-pub const MOST_STARS: usize = 5000;
+pub const MOST_STARS: usize = 3000;
 
 /// The bytes of a list, at most.
 pub const MOST_BYTES: usize = RECORD_BYTES * MOST_STARS;
+
+/// The bytes of a record of a narrow list, as version 0.1 had it: number, right ascension and declination, and no rates.
+pub const NARROW_RECORD_BYTES: usize = 12;
+
+/// The bytes of a narrow list, at most.
+pub const MOST_NARROW_BYTES: usize = NARROW_RECORD_BYTES * MOST_STARS;
 
 /// The stars of a list, in range or not, in their order. Refusals: 8.
 pub fn stars(bytes: &[u8]) -> Result<Stars<'_>, Refusal> {
@@ -70,18 +88,33 @@ impl FusedIterator for Stars<'_> {}
 
 /// The star at a place of a list and the place after it; none at the end. Refusals: 8.
 pub fn star(bytes: &[u8], place: usize) -> Result<Option<(Star, usize)>, Refusal> {
-    Ok(ffi::star(bytes, place)?.map(|(number, asc, dec, next)| (Star { number, asc, dec }, next)))
+    ffi::star(bytes, place)
 }
 
 /// Writes a star's record from a place of a slice on, and answers the place after it: stars written one after the other from place 0 on
 /// are a list, which ends at the last place answered. Refusals, which leave the slice unchanged: 9, then 8 for a place at which no record
 /// of a list begins (not a multiple of [`RECORD_BYTES`], or [`MOST_BYTES`] and more) and for no room.
 pub fn put_star(out: &mut [u8], place: usize, star: Star) -> Result<usize, Refusal> {
-    ffi::put_star(out, place, star.number, star.asc, star.dec)
+    ffi::put_star(out, place, star)
 }
 
 /// The first star with a number, and its index. Refusals: 8, 10, 9.
 pub fn find(bytes: &[u8], number: u32) -> Result<(usize, Star), Refusal> {
-    let (index, asc, dec) = ffi::find(bytes, number)?;
-    Ok((index, Star { number, asc, dec }))
+    ffi::find(bytes, number)
+}
+
+/// Writes a narrow list as a list from a slice's start on: the same stars, with rates zero. Answers how many bytes it has, of which
+/// [`list_20_to_12`] makes the same narrow list. Refusals, which leave the slice unchanged: 8 for bytes that are no narrow list (not a
+/// multiple of [`NARROW_RECORD_BYTES`], or more than [`MOST_NARROW_BYTES`]), 9, then 8 for a slice that is too short.
+///
+/// A list bears no mark of its width, so that who keeps lists of both must know which is which.
+pub fn list_12_to_20(bytes: &[u8], out: &mut [u8]) -> Result<usize, Refusal> {
+    ffi::list_12_to_20(bytes, out)
+}
+
+/// Writes a list whose stars all stand still as a narrow list from a slice's start on. Answers how many bytes it has, of which
+/// [`list_12_to_20`] makes the same list. Refusals, which leave the slice unchanged: 8 for bytes that are no list, 9 for a record out of
+/// range, 17 for a rate that is not zero, each wherever in the list it is, then 8 for a slice that is too short.
+pub fn list_20_to_12(bytes: &[u8], out: &mut [u8]) -> Result<usize, Refusal> {
+    ffi::list_20_to_12(bytes, out)
 }

@@ -1,12 +1,13 @@
-//! Lists over the radio link: byte 2, the star count, then for each star its number, right ascension and folded declination, every
-//! number in groups of seven bits, low group first, in the shortest length.
+//! Lists over the radio link: byte 3, the star count, then for each star its number, right ascension, folded declination and both rates
+//! folded, every number in groups of seven bits, low group first, in the shortest length. A list of version 0.1 begins with byte 2 and has
+//! three numbers a star: it is read, with rates zero, and never written.
 //!
 //! Of the refusals the first met is given. A refused call leaves the lent slice unchanged, an answered one all that it does not write.
 use crate::list::{Star, MOST_STARS};
 use crate::{ffi, Refusal};
 
-/// The bytes of a radio list, at most: the first, two of the star count, and for each star three numbers of five.
-pub const MOST_BYTES: usize = 3 + 15 * MOST_STARS;
+/// The bytes of a radio list, at most: the first, two of the star count, and for each star three numbers of five and two rates of three.
+pub const MOST_BYTES: usize = 3 + 21 * MOST_STARS;
 
 /// How many stars a list says it has, and the place of the first. Refusals: 13 (empty), 11, 12 or 13 (the count), 8.
 pub fn open(bytes: &[u8]) -> Result<(u32, usize), Refusal> {
@@ -15,8 +16,7 @@ pub fn open(bytes: &[u8]) -> Result<(u32, usize), Refusal> {
 
 /// The star at a place of a list and the place after it. Refusals: 13 (empty), 11, 12 or 13 number by number, 9.
 pub fn star(bytes: &[u8], place: usize) -> Result<(Star, usize), Refusal> {
-    let (number, asc, dec, next) = ffi::radio_star(bytes, place)?;
-    Ok((Star { number, asc, dec }, next))
+    ffi::radio_star(bytes, place)
 }
 
 /// How many stars a whole list has. Refusals: as [`open`], as [`star`] at each star, then 13 for bytes over.
@@ -32,7 +32,7 @@ pub fn put_head(out: &mut [u8], place: usize, count: u32) -> Result<usize, Refus
 
 /// Writes a star from a place of a slice on. Answers the place after it. Refusals: 9, then 8 for no room.
 pub fn put_star(out: &mut [u8], place: usize, star: Star) -> Result<usize, Refusal> {
-    ffi::radio_put_star(out, place, star.number, star.asc, star.dec)
+    ffi::radio_put_star(out, place, star)
 }
 
 /// Writes a radio list as a stored list from a slice's start on. Answers how many bytes it has. Refusals: as [`accept`], then 8 for a

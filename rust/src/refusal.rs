@@ -12,7 +12,7 @@ pub enum Refusal {
     /// 2: a day is more than 730500.0 from 2451545.0.
     Day,
     /// 3: an angle exceeds 64.0 in size, or a declination, altitude or latitude a quarter turn; of refraction an altitude is outside
-    /// 0.0 to 89.8 degrees.
+    /// 0.0 to 89.8 degrees; of a star in a batch its declination, shifted by its rate, exceeds a quarter turn.
     Angle,
     /// 4: an angle that goes into a tangent, or whose cosine divides, exceeds 1.57 in size.
     Steep,
@@ -28,7 +28,7 @@ pub enum Refusal {
     Record,
     /// 10: no star has the number sought.
     NoStar,
-    /// 11: the first byte of a radio list is not 2.
+    /// 11: the first byte of a radio list is neither 2 nor 3.
     FirstByte,
     /// 12: a number of a radio list is not in its shortest length or above 32 bits.
     Spelling,
@@ -40,13 +40,15 @@ pub enum Refusal {
     NeverRises,
     /// 16: the star never sets: it stays above the standard altitude.
     NeverSets,
+    /// 17: a star's rate is not zero, and a narrow list, to which it is to move down, has no rates.
+    MovingStar,
     /// A number that this version has no name for.
     Other(u8),
 }
 
 impl Refusal {
     /// The highest number that has a name.
-    pub const HIGHEST: u8 = 16;
+    pub const HIGHEST: u8 = 17;
 
     /// The refusal that a number stands for, as a status of a batch has it; none for 0, which is no refusal.
     ///
@@ -74,6 +76,7 @@ impl Refusal {
             14 => Refusal::NoDirection,
             15 => Refusal::NeverRises,
             16 => Refusal::NeverSets,
+            17 => Refusal::MovingStar,
             n => Refusal::Other(n),
         })
     }
@@ -102,6 +105,7 @@ impl Refusal {
             Refusal::NoDirection => 14,
             Refusal::NeverRises => 15,
             Refusal::NeverSets => 16,
+            Refusal::MovingStar => 17,
             Refusal::Other(n) => n,
         }
     }
@@ -119,12 +123,13 @@ impl Refusal {
             Refusal::List => "the list, a place in it or a lent slice has a bad length, or a radio list too many stars",
             Refusal::Record => "a star record is out of range",
             Refusal::NoStar => "no star has the number sought",
-            Refusal::FirstByte => "the first byte of a radio list is not 2",
+            Refusal::FirstByte => "the first byte of a radio list is neither 2 nor 3",
             Refusal::Spelling => "a number of a radio list is not in its shortest length or above 32 bits",
             Refusal::End => "a radio list is cut short, an empty one too, or has bytes over",
             Refusal::NoDirection => "there is no direction: both arguments of an arctangent are zero",
             Refusal::NeverRises => "the star never rises: it stays below the standard altitude",
             Refusal::NeverSets => "the star never sets: it stays above the standard altitude",
+            Refusal::MovingStar => "a star's rate is not zero, and a record of 12 bytes has no rates",
             Refusal::Other(_) => "the call was refused",
         }
     }

@@ -94,7 +94,7 @@ fn published_latitude() {
 #[test]
 fn chain_and_batch() {
     let (day1, day2) = (2415020.5, 2462088.69);
-    let record: [u32; 3] = [7, 149615907, 177667376];
+    let record: [u32; 5] = [7, 149615907, 177667376, 0, 0];
     let bytes: Vec<u8> = record.iter().flat_map(|w| w.to_le_bytes()).collect();
     let place = |count: u32| deg(count as f64 / 3600000.0);
     let (old, new) = (chain::chain(place(record[1]), place(record[2]), day1, day2), chain::chain_by(Published, place(record[1]), place(record[2]), day1, day2));

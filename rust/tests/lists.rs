@@ -1,17 +1,18 @@
-//! The stored list through the crate: read by an iterator, written star by star, and reduced to results.
-use brundelak::list::{self, Star, MOST_BYTES, MOST_STARS, RECORD_BYTES};
+//! The stored list through the crate: read by an iterator, written star by star, reduced to results, and moved between widths.
+use brundelak::coords::EqPoint;
+use brundelak::list::{self, Star, MOST_BYTES, MOST_NARROW_BYTES, MOST_STARS, NARROW_RECORD_BYTES, RECORD_BYTES};
 use brundelak::{angle, batch, chain, Edition, Refusal};
 
-/// Star 9's right ascension is a whole turn, so that its record is out of range.
+/// Star 9's right ascension is a whole turn, so that its record is out of range; the third star moves.
 const STARS: [Star; 3] = [
-    Star { number: 7, asc: 0, dec: 0 },
-    Star { number: 9, asc: 1296000000, dec: 0 },
-    Star { number: 7, asc: 3600000, dec: -3600000 },
+    Star::still(7, 0, 0),
+    Star::still(9, 1296000000, 0),
+    Star { number: 7, asc: 3600000, dec: -3600000, asc_rate: 300, dec_rate: -20000 },
 ];
 const LIST: [u8; 3 * RECORD_BYTES] = [
-    7, 0, 0, 0, 0, 0, 0, 0, 0, 0, 0, 0, //
-    9, 0, 0, 0, 0x00, 0x64, 0x3F, 0x4D, 0, 0, 0, 0, //
-    7, 0, 0, 0, 0x80, 0xEE, 0x36, 0x00, 0x80, 0x11, 0xC9, 0xFF,
+    7, 0, 0, 0, 0, 0, 0, 0, 0, 0, 0, 0, 0, 0, 0, 0, 0, 0, 0, 0, //
+    9, 0, 0, 0, 0x00, 0x64, 0x3F, 0x4D, 0, 0, 0, 0, 0, 0, 0, 0, 0, 0, 0, 0, //
+    7, 0, 0, 0, 0x80, 0xEE, 0x36, 0x00, 0x80, 0x11, 0xC9, 0xFF, 0x2C, 0x01, 0, 0, 0xE0, 0xB1, 0xFF, 0xFF,
 ];
 
 #[test]
@@ -58,6 +59,10 @@ fn a_star_that_is_not_written_leaves_every_byte() {
         (ROOM, 1, STARS[1], Refusal::Record),
         (ROOM, 0, Star { dec: 324000001, ..STARS[0] }, Refusal::Record),
         (ROOM, 0, Star { dec: i32::MIN, ..STARS[0] }, Refusal::Record),
+        (ROOM, 0, Star { asc_rate: 20001, ..STARS[0] }, Refusal::Record),
+        (ROOM, 0, Star { asc_rate: i32::MIN, ..STARS[0] }, Refusal::Record),
+        (ROOM, 1, Star { dec_rate: -20001, ..STARS[0] }, Refusal::Record),
+        (ROOM, 0, Star { dec_rate: i32::MIN, ..STARS[0] }, Refusal::Record),
         (ROOM, 1, STARS[0], Refusal::List),
         (ROOM, MOST_BYTES, STARS[0], Refusal::List),
         (ROOM, usize::MAX - 3, STARS[0], Refusal::List),
@@ -73,14 +78,26 @@ fn a_star_that_is_not_written_leaves_every_byte() {
     assert_eq!(list::put_star(&mut out, MOST_BYTES - RECORD_BYTES, STARS[0]), Ok(MOST_BYTES));
 }
 
+/// A star's coordinates in radians, each with its rate in radians times the years between the days.
+fn shifted(star: Star, day1: f64, day2: f64) -> (f64, f64) {
+    let radians = |count: f64| angle::to_radians(count / 3600000.0).unwrap();
+    let years = (day2 - day1) / 365.25;
+    (
+        radians(star.asc.into()) + radians(star.asc_rate.into()) * years,
+        radians(star.dec.into()) + radians(star.dec_rate.into()) * years,
+    )
+}
+
 #[test]
 fn each_star_is_its_place_or_its_refusal() {
     let (day1, day2) = (2415020.5, 2462088.69);
     for edition in [Edition::Crate, Edition::Published] {
         let reduced = batch::reduced_by(edition, &LIST, day1, day2).unwrap();
-        let radians = |count: f64| angle::to_radians(count / 3600000.0).unwrap();
-        let by_chain = |star: &Star| chain::chain_by(edition, radians(star.asc.into()), radians(star.dec.into()), day1, day2);
-        assert_eq!(reduced, [by_chain(&STARS[0]), Err(Refusal::Record), by_chain(&STARS[2])]);
+        let by_chain = |star: Star| {
+            let (asc, dec) = shifted(star, day1, day2);
+            chain::chain_by(edition, asc, dec, day1, day2)
+        };
+        assert_eq!(reduced, [by_chain(STARS[0]), Err(Refusal::Record), by_chain(STARS[2])]);
         assert!(reduced[0].is_ok() && reduced[2].is_ok());
     }
     assert_eq!(batch::reduced(&LIST, day1, day2), batch::reduced_by(Edition::Crate, &LIST, day1, day2));
@@ -129,4 +146,121 @@ fn what_a_batch_left_is_read_without_memory() {
     let reduced = batch::reduced(&LIST, 2451545.0, 2462088.69).unwrap();
     assert!(batch::places(&status, &asc, &dec).eq(reduced.iter().copied()));
     assert!(batch::places(&status[..2], &asc, &dec).eq(reduced[..2].iter().copied()));
+}
+
+/// The list of some stars.
+fn list_of(stars: &[Star]) -> Vec<u8> {
+    let (mut out, mut end) = (vec![0; RECORD_BYTES * stars.len()], 0);
+    for &star in stars {
+        end = list::put_star(&mut out, end, star).unwrap();
+    }
+    out
+}
+
+#[test]
+fn a_star_without_rates_is_where_the_chain_has_it() {
+    let radians = |count: f64| angle::to_radians(count / 3600000.0).unwrap();
+    for &(asc, dec) in &[(0, 0), (1, -1), (136636350, 321350800), (1295999999, -323000000), (648000000, 95220000)] {
+        let list = list_of(&[Star::still(7, asc, dec)]);
+        for &(day1, day2) in &[(2451545.0, 2462088.69), (2462088.69, 2451545.0), (1721045.0, 3182045.0), (2415020.5, 2415020.5)] {
+            for edition in [Edition::Crate, Edition::Published] {
+                let by_chain = chain::chain_by(edition, radians(asc.into()), radians(dec.into()), day1, day2);
+                let reduced = batch::reduced_by(edition, &list, day1, day2).unwrap()[0];
+                let bits = |place: Result<EqPoint, Refusal>| place.map(|p| (p.asc.to_bits(), p.dec.to_bits()));
+                assert_eq!(bits(reduced), bits(by_chain), "{} {} from {} to {}", asc, dec, day1, day2);
+            }
+        }
+    }
+}
+
+#[test]
+fn a_star_that_moves_is_where_the_chain_has_its_shifted_place() {
+    let arcturus = Star { number: 5340, asc: 770095050, dec: 69056700, asc_rate: -1158, dec_rate: -1999 };
+    for star in [
+        arcturus,
+        Star { asc_rate: 0, ..arcturus },
+        Star { dec_rate: 0, ..arcturus },
+        Star { asc_rate: 20000, dec_rate: -20000, ..arcturus },
+        Star { asc: 1295999999, asc_rate: 20000, ..arcturus },
+        Star { asc: 0, asc_rate: -20000, ..arcturus },
+    ] {
+        for &(day1, day2) in &[(2451545.0, 2462088.69), (2462088.69, 2451545.0), (1721045.0, 3182045.0), (2415020.5, 2415020.5)] {
+            let (asc, dec) = shifted(star, day1, day2);
+            for edition in [Edition::Crate, Edition::Published] {
+                let reduced = batch::reduced_by(edition, &list_of(&[star]), day1, day2).unwrap()[0];
+                assert!(reduced.is_ok());
+                assert_eq!(reduced, chain::chain_by(edition, asc, dec, day1, day2), "{:?} from {} to {}", star, day1, day2);
+                let still = Star::still(star.number, star.asc, star.dec);
+                assert_eq!(day1 == day2, batch::reduced_by(edition, &list_of(&[still]), day1, day2).unwrap()[0] == reduced);
+            }
+        }
+    }
+}
+
+#[test]
+fn a_star_that_moves_past_the_pole_is_refused_by_3() {
+    let (day1, day2) = (2451545.0, 2453736.5);
+    let pole = Star { dec_rate: 1, ..Star::still(1, 0, 324000000) };
+    let south = Star { dec: -324000000, dec_rate: -1, ..pole };
+    let damaged = [1, 0, 0, 0, 0, 0, 0, 0, 0x00, 0xD9, 0x4F, 0x13, 0x21, 0x4E, 0, 0, 1, 0, 0, 0];
+    let list = [list_of(&[pole, south, Star { dec_rate: 0, ..pole }, Star { dec_rate: -1000, ..pole }]), damaged.to_vec()].concat();
+    let refusals = |day1, day2| batch::reduced(&list, day1, day2).unwrap().iter().map(|place| place.err()).collect::<Vec<_>>();
+    // At the pole itself, and next to it, it is the chain that refuses; a record out of range comes first.
+    let (past, steep, record) = (Some(Refusal::Angle), Some(Refusal::Steep), Some(Refusal::Record));
+    assert_eq!(refusals(day1, day2), [past, past, steep, steep, record]);
+    // Away from the pole, with the days traded; the fourth star's rate now leads past it.
+    assert_eq!(refusals(day2, day1), [steep, steep, steep, past, record]);
+    assert_eq!(refusals(day1, day1), [steep, steep, steep, steep, record]);
+}
+
+/// Two stars of a narrow list, and the same with rates of zero.
+const NARROW: [u8; 2 * NARROW_RECORD_BYTES] =
+    [7, 0, 0, 0, 0, 0, 0, 0, 0, 0, 0, 0, 0x2C, 0x01, 0, 0, 0x80, 0xEE, 0x36, 0x00, 0x80, 0x11, 0xC9, 0xFF];
+const WIDE: [u8; 2 * RECORD_BYTES] = [
+    7, 0, 0, 0, 0, 0, 0, 0, 0, 0, 0, 0, 0, 0, 0, 0, 0, 0, 0, 0, //
+    0x2C, 0x01, 0, 0, 0x80, 0xEE, 0x36, 0x00, 0x80, 0x11, 0xC9, 0xFF, 0, 0, 0, 0, 0, 0, 0, 0,
+];
+
+#[test]
+fn a_narrow_list_moves_up_and_back() {
+    let (mut wide, mut narrow) = ([0xA5; WIDE.len() + 2], [0xA5; NARROW.len() + 2]);
+    assert_eq!(list::list_12_to_20(&NARROW, &mut wide), Ok(WIDE.len()));
+    assert_eq!((&wide[..WIDE.len()], &wide[WIDE.len()..]), (&WIDE[..], &[0xA5; 2][..]));
+    assert_eq!(list::list_20_to_12(&WIDE, &mut narrow), Ok(NARROW.len()));
+    assert_eq!((&narrow[..NARROW.len()], &narrow[NARROW.len()..]), (&NARROW[..], &[0xA5; 2][..]));
+    assert_eq!((list::list_12_to_20(&[], &mut wide), list::list_20_to_12(&[], &mut narrow)), (Ok(0), Ok(0)));
+    // The longest.
+    let (mut wide, mut narrow) = (vec![0xA5; MOST_BYTES], vec![0xA5; MOST_NARROW_BYTES]);
+    assert_eq!(list::list_12_to_20(&[0; MOST_NARROW_BYTES], &mut wide), Ok(MOST_BYTES));
+    assert_eq!(list::list_20_to_12(&wide, &mut narrow), Ok(MOST_NARROW_BYTES));
+    assert_eq!((wide, narrow), (vec![0; MOST_BYTES], vec![0; MOST_NARROW_BYTES]));
+}
+
+#[test]
+fn a_move_that_is_refused_leaves_the_slice() {
+    let mut out = [0xA5; WIDE.len() - 1];
+    // up: 8 for the bytes, 9 anywhere, 8 for the slice
+    for len in [1, NARROW_RECORD_BYTES + 1, NARROW.len() - 1, RECORD_BYTES, MOST_NARROW_BYTES + NARROW_RECORD_BYTES, MOST_BYTES] {
+        assert_eq!(list::list_12_to_20(&vec![0xFF; len], &mut out), Err(Refusal::List), "{} bytes", len);
+    }
+    let mut far = NARROW;
+    far[NARROW.len() - 1] = 0x7F;
+    assert_eq!(list::list_12_to_20(&far, &mut out[..0]), Err(Refusal::Record));
+    assert_eq!(list::list_12_to_20(&NARROW, &mut out), Err(Refusal::List));
+    // down: 8 for the bytes, 9 anywhere, 17 anywhere, 8 for the slice
+    for len in [1, NARROW.len(), WIDE.len() - 1, MOST_BYTES + RECORD_BYTES] {
+        assert_eq!(list::list_20_to_12(&vec![0xFF; len], &mut out), Err(Refusal::List), "{} bytes", len);
+    }
+    for place in [12, 16, RECORD_BYTES + 12, RECORD_BYTES + 16] {
+        let mut moving = WIDE;
+        moving[place] = 1;
+        assert_eq!(list::list_20_to_12(&moving, &mut out[..0]), Err(Refusal::MovingStar));
+        moving[RECORD_BYTES + 7] = 0xFF;
+        assert_eq!(list::list_20_to_12(&moving, &mut out[..0]), Err(Refusal::Record));
+        moving = WIDE;
+        moving[place..place + 4].copy_from_slice(&20001i32.to_le_bytes());
+        assert_eq!(list::list_20_to_12(&moving, &mut out[..0]), Err(Refusal::Record));
+    }
+    assert_eq!(list::list_20_to_12(&WIDE, &mut out[..NARROW.len() - 1]), Err(Refusal::List));
+    assert_eq!(out, [0xA5; WIDE.len() - 1]);
 }

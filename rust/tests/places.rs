@@ -178,11 +178,11 @@ fn refusals_speak() {
     assert_eq!(Refusal::Other(14).number(), 14);
 }
 
-/// Document 01's list of three stars, the second out of range.
+/// Document 01's list of three stars, the second out of range, with rates of zero.
 const LIST: [u8; 3 * list::RECORD_BYTES] = [
-    7, 0, 0, 0, 0, 0, 0, 0, 0, 0, 0, 0, //
-    9, 0, 0, 0, 0x00, 0x64, 0x3F, 0x4D, 0, 0, 0, 0, //
-    7, 0, 0, 0, 0x80, 0xEE, 0x36, 0x00, 0x80, 0x11, 0xC9, 0xFF,
+    7, 0, 0, 0, 0, 0, 0, 0, 0, 0, 0, 0, 0, 0, 0, 0, 0, 0, 0, 0, //
+    9, 0, 0, 0, 0x00, 0x64, 0x3F, 0x4D, 0, 0, 0, 0, 0, 0, 0, 0, 0, 0, 0, 0, //
+    7, 0, 0, 0, 0x80, 0xEE, 0x36, 0x00, 0x80, 0x11, 0xC9, 0xFF, 0, 0, 0, 0, 0, 0, 0, 0,
 ];
 
 #[test]
@@ -194,7 +194,7 @@ fn a_list_is_walked_and_sought() {
         place = next;
     }
     assert_eq!(numbers, [(7, 0, 0), (9, 1296000000, 0), (7, 3600000, -3600000)]);
-    assert_eq!(list::find(&LIST, 7), Ok((0, list::Star { number: 7, asc: 0, dec: 0 })));
+    assert_eq!(list::find(&LIST, 7), Ok((0, list::Star::still(7, 0, 0))));
     assert_eq!(list::find(&LIST, 9), Err(Refusal::Record));
     assert_eq!(list::find(&LIST, 8), Err(Refusal::NoStar));
     assert_eq!(list::find(&LIST[1..], 7), Err(Refusal::List));

@@ -1,5 +1,5 @@
 // The batch (section 7): every star's status and the bits of its two angles into memory that the caller lends, and the tally of the
-// statuses. Promised: each star has the chain's answer, and what a call leaves alone it leaves bit for bit, a NaN's too.
+// statuses. Promised: each star has the chain's answer at its shifted place, and what a call leaves alone it leaves bit for bit, a NaN's too.
 ghost use Prim.Native.Nat.{_<_};
 ghost use mathlib.Core.Path.{_≡_};
 ghost use mathlib.Core.Bool.{cond};
@@ -8,9 +8,10 @@ ghost use lib.ListN.{length};
 ghost use Rattle.double.specs.rules.Operations.{zero};
 ghost use Rattle.double.specs.rules.Pattern.{patternOf};
 ghost use Rattle.quantity.specs.rules.Answer.{answered, pair, unless};
+ghost use Rattle.quantity.specs.rules.Refusal.{latitudeRefusal};
 ghost use Rattle.list.specs.rules.Record.{inRange};
 ghost use Rattle.list.specs.rules.Stars.{mostStars};
-ghost use Rattle.batch.specs.rules.Star.{twoStarsUnder};
+ghost use Rattle.batch.specs.rules.Star.{earlier, twoStarsUnder};
 ghost use Rattle.batch.specs.rules.Batch.{batchRefusal};
 ghost use Rattle.batch.specs.rules.Batch.{Batch as Batch·Batch};
 ghost use Rattle.batch.specs.notions.StarStored.{StarStored};
@@ -18,7 +19,9 @@ use chain::Night;
 use edition::Edition;
 use list::Star;
 use list_tally::Tally;
+use quantity::HALF;
 use quantity::Places;
+use quantity::Rad;
 
 // The refusal number, where 0 is none, beside the tally of every star's status.
 pub struct Batched {
@@ -28,23 +31,40 @@ pub struct Batched {
 
 // ---- one star
 
-// A refusal number of a star's place, or 9 where the star's record is out of range.
-fn ranged(star: Star, refusal: u8) -> u8
-    ensures { λ r. ⌜ r ≡ cond (inRange star) refusal 9 ⌝ }
+// A star's refusals before its reduction: 9 for a record out of range; then 3 for a declination that is past HALF in size.
+fn star_refusal(star: Star, dec: Rad) -> u8
+    ensures { λ r. ⌜ r ≡ cond (inRange star) (latitudeRefusal dec) 9 ⌝ }
 {
-    if list::in_range(star) { refusal } else { 9 }
+    if list::in_range(star) {
+        if double::size(dec.0) <= HALF {
+            return 0;
+        }
+        return quantity::latitude_refusal(dec);
+    }
+    9
 }
 
-// Two stars' places under a night, side by side. Refusals of each: 9 for a record out of range; then 14, 7 and 4, since the angles of
-// one in range are near enough.
-fn two_stars_under(first: Star, second: Star, night: Night) -> Places
-    ensures { λ r. ⌜ r ≡ twoStarsUnder first second night ⌝ }
+// The earlier of two refusals, where 0 is none.
+fn earlier(refusal: u8, later: u8) -> u8
+    ensures { λ r. ⌜ r ≡ earlier refusal later ⌝ }
 {
+    if refusal == 0 { later } else { refusal }
+}
+
+// Two stars' places under a night after so many years, side by side. Refusals of each: 9 for a record out of range; then 3 for a shifted
+// declination past HALF in size; then 14, 7 and 4.
+fn two_stars_under(first: Star, second: Star, night: Night, years: f64) -> Places
+    ensures { λ r. ⌜ r ≡ twoStarsUnder first second night years ⌝ }
+{
+    let first_dec = star_place::dec_of(first, years);
+    let second_dec = star_place::dec_of(second, years);
+    let first_refusal = star_refusal(first, first_dec);
+    let second_refusal = star_refusal(second, second_dec);
     let p = chain::two_places_under(
-        star_place::asc_of(first),
-        star_place::dec_of(first),
-        star_place::asc_of(second),
-        star_place::dec_of(second),
+        star_place::asc_of(first, years),
+        first_dec,
+        star_place::asc_of(second, years),
+        second_dec,
         night,
     );
     Places {
@@ -52,8 +72,8 @@ fn two_stars_under(first: Star, second: Star, night: Night) -> Places
         second_asc: p.second_asc,
         first_dec: p.first_dec,
         second_dec: p.second_dec,
-        first_refusal: ranged(first, p.first_refusal),
-        second_refusal: ranged(second, p.second_refusal),
+        first_refusal: earlier(first_refusal, p.first_refusal),
+        second_refusal: earlier(second_refusal, p.second_refusal),
     }
 }
 
@@ -115,9 +135,9 @@ fn store_star(
     raised.tally
 }
 
-// Every star of the list from the first day to the second, two at a time, the last of an odd count beside itself: its status, 0 or
-// its refusal, and the bits of its two angles, 0.0 and 0.0 where it is refused. Places past the stars stay. Refusals of the call, which
-// changes nothing lent: 1; 2; then 8.
+// Every star of the list, shifted by the years between the days, from the first day to the second, two at a time, the last of an odd
+// count beside itself: its status, 0 or its refusal, and the bits of its two angles, 0.0 and 0.0 where it is refused. Places past the
+// stars stay. Refusals of the call, which changes nothing lent: 1; 2; then 8.
 pub fn batch(
     edition: Edition,
     bytes: &[u8],
@@ -136,11 +156,12 @@ pub fn batch(
         return Batched { refusal, tally };
     }
     let night = chain::night_of(edition, day1, day2);
+    let years = star_place::years_between(day1, day2);
     let n = list::count(bytes);
     let mut i = 0;
     while i + 1 < n {
         let j = i + 1;
-        let p = two_stars_under(list::nth(bytes, i), list::nth(bytes, j), night);
+        let p = two_stars_under(list::nth(bytes, i), list::nth(bytes, j), night, years);
         tally = store_star(
             status,
             asc,
@@ -165,7 +186,7 @@ pub fn batch(
     }
     if i < n {
         let star = list::nth(bytes, i);
-        let p = two_stars_under(star, star, night);
+        let p = two_stars_under(star, star, night, years);
         tally = store_star(
             status,
             asc,

@@ -4,6 +4,7 @@ ghost use Rattle.list_radio.specs.rules.Put.{headText, starText};
 ghost use Rattle.list_moves.specs.rules.Moves.{toList, toRadio};
 ghost use Rattle.brundelak.specs.rules.Put.{HandedNumber, HandedPut};
 ghost use Rattle.brundelak.specs.rules.Radio.{HandedOpened, HandedReceived};
+ghost use Rattle.brundelak.specs.rules.Stored.{fields};
 use lent::Written;
 use list::Star;
 use list_radio::Accepted;
@@ -33,17 +34,24 @@ pub extern "C" fn brundelak_radio_star(
     number: &mut u32,
     asc: &mut u32,
     dec: &mut i32,
+    asc_rate: &mut i32,
+    dec_rate: &mut i32,
     next: &mut usize,
 ) -> u8
-    ensures { λ n. ⌜ HandedReceived (starAtRule (now (bytes .entry)) offset) n (now (number .entry)) (now (asc .entry)) (now (dec .entry))
-        (now (next .entry)) (now (number .exit)) (now (asc .exit)) (now (dec .exit)) (now (next .exit)) ⌝ }
+    ensures { λ n. ⌜ HandedReceived (starAtRule (now (bytes .entry)) offset) n
+        (fields (now (number .entry)) (now (asc .entry)) (now (dec .entry)) (now («asc_rate» .entry)) (now («dec_rate» .entry))) (now (next .entry))
+        (fields (now (number .exit)) (now (asc .exit)) (now (dec .exit)) (now («asc_rate» .exit)) (now («dec_rate» .exit))) (now (next .exit)) ⌝ }
 {
     match list_radio::star_at(bytes, offset) {
         Received::Star(star, after) => {
             let d = star.dec;
+            let u = star.asc_rate;
+            let v = star.dec_rate;
             *number = star.number;
             *asc = star.asc;
             *dec = d;
+            *asc_rate = u;
+            *dec_rate = v;
             *next = after;
             0
         }
@@ -92,12 +100,20 @@ pub extern "C" fn brundelak_radio_put_star(
     number: u32,
     asc: u32,
     dec: i32,
+    asc_rate: i32,
+    dec_rate: i32,
     next: &mut usize,
 ) -> u8
-    ensures { λ n. ⌜ HandedPut (starText (record { number = number; asc = asc; dec = dec })) (now (out .entry)) offset n (now (next .entry))
+    ensures { λ n. ⌜ HandedPut (starText (fields number asc dec «asc_rate» «dec_rate»)) (now (out .entry)) offset n (now (next .entry))
         (now (out .exit)) (now (next .exit)) ⌝ }
 {
-    let star = Star { number, asc, dec };
+    let star = Star {
+        number,
+        asc,
+        dec,
+        asc_rate,
+        dec_rate,
+    };
     match list_radio::put_star(out, offset, star) {
         Written::To(after) => {
             *next = after;

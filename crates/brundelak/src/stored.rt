@@ -4,7 +4,7 @@ ghost use Rattle.list.specs.rules.Find.{findRule};
 ghost use Rattle.list.specs.rules.Reader.{readRule};
 ghost use Rattle.list.specs.rules.Writer.{recordText};
 ghost use Rattle.brundelak.specs.rules.Put.{HandedPut};
-ghost use Rattle.brundelak.specs.rules.Stored.{HandedFound, HandedStar, HandedBatch, HandedRaise};
+ghost use Rattle.brundelak.specs.rules.Stored.{fields, HandedFound, HandedStar, HandedBatch, HandedRaise};
 use edition::Edition;
 use lent::Written;
 use list::Found;
@@ -20,15 +20,23 @@ pub extern "C" fn brundelak_find(
     index: &mut usize,
     asc: &mut u32,
     dec: &mut i32,
+    asc_rate: &mut i32,
+    dec_rate: &mut i32,
 ) -> u8
-    ensures { λ n. ⌜ HandedFound (findRule (now (bytes .entry)) number) n (now (index .entry)) (now (asc .entry)) (now (dec .entry)) (now (index .exit))
-        (now (asc .exit)) (now (dec .exit)) ⌝ }
+    ensures { λ n. ⌜ HandedFound (findRule (now (bytes .entry)) number) n (now (index .entry)) (now (asc .entry)) (now (dec .entry))
+        (now («asc_rate» .entry)) (now («dec_rate» .entry)) (now (index .exit)) (now (asc .exit)) (now (dec .exit)) (now («asc_rate» .exit))
+        (now («dec_rate» .exit)) ⌝ }
 {
     match list::find(bytes, number) {
-        Found::At(i, a, d) => {
+        Found::At(i, star) => {
+            let d = star.dec;
+            let u = star.asc_rate;
+            let v = star.dec_rate;
             *index = i;
-            *asc = a;
+            *asc = star.asc;
             *dec = d;
+            *asc_rate = u;
+            *dec_rate = v;
             0
         }
         Found::Refused(n) => n,
@@ -43,17 +51,24 @@ pub extern "C" fn brundelak_star(
     number: &mut u32,
     asc: &mut u32,
     dec: &mut i32,
+    asc_rate: &mut i32,
+    dec_rate: &mut i32,
     next: &mut usize,
 ) -> u8
-    ensures { λ n. ⌜ HandedStar (readRule (now (bytes .entry)) offset) n (now (number .entry)) (now (asc .entry)) (now (dec .entry)) (now (next .entry))
-        (now (number .exit)) (now (asc .exit)) (now (dec .exit)) (now (next .exit)) ⌝ }
+    ensures { λ n. ⌜ HandedStar (readRule (now (bytes .entry)) offset) n
+        (fields (now (number .entry)) (now (asc .entry)) (now (dec .entry)) (now («asc_rate» .entry)) (now («dec_rate» .entry))) (now (next .entry))
+        (fields (now (number .exit)) (now (asc .exit)) (now (dec .exit)) (now («asc_rate» .exit)) (now («dec_rate» .exit))) (now (next .exit)) ⌝ }
 {
     match list::star_at(bytes, offset) {
         Stored::Next(star, after) => {
             let d = star.dec;
+            let u = star.asc_rate;
+            let v = star.dec_rate;
             *number = star.number;
             *asc = star.asc;
             *dec = d;
+            *asc_rate = u;
+            *dec_rate = v;
             *next = after;
             0
         }
@@ -70,12 +85,20 @@ pub extern "C" fn brundelak_put_star(
     number: u32,
     asc: u32,
     dec: i32,
+    asc_rate: i32,
+    dec_rate: i32,
     next: &mut usize,
 ) -> u8
-    ensures { λ n. ⌜ HandedPut (recordText offset (record { number = number; asc = asc; dec = dec })) (now (out .entry)) offset n (now (next .entry))
+    ensures { λ n. ⌜ HandedPut (recordText offset (fields number asc dec «asc_rate» «dec_rate»)) (now (out .entry)) offset n (now (next .entry))
         (now (out .exit)) (now (next .exit)) ⌝ }
 {
-    let star = Star { number, asc, dec };
+    let star = Star {
+        number,
+        asc,
+        dec,
+        asc_rate,
+        dec_rate,
+    };
     match list::put_star(out, offset, star) {
         Written::To(after) => {
             *next = after;

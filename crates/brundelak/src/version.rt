@@ -7,5 +7,5 @@ ghost use Rattle.brundelak.specs.rules.Version.{version};
 pub extern "C" fn brundelak_version() -> u32
     ensures { λ r. ⌜ r ≡ version ⌝ }
 {
-    100
+    512
 }

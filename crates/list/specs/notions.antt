@@ -4,3 +4,5 @@ pub mod Put
 pub mod Code
 pub mod Computed
 pub mod Wrong
+pub mod Moves
+pub mod Still

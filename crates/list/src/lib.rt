@@ -12,11 +12,13 @@ ghost use Rattle.list.specs.rules.Writer.{isStart, recordText};
 ghost use Rattle.list.specs.rules.Find.{shownFound, indexOf, findRule};
 use lent::Written;
 
-// A star's record: its number, and its right ascension and declination in milliarcseconds.
+// A star's record: its number, its right ascension and declination in milliarcseconds, and the yearly change of each.
 pub struct Star {
     pub number: u32,
     pub asc: u32,
     pub dec: i32,
+    pub asc_rate: i32,
+    pub dec_rate: i32,
 }
 
 // What the reader shows: a star and the offset after it, that none is left, or a refusal.
@@ -26,17 +28,17 @@ pub enum Stored {
     Refused(u8),
 }
 
-// A found star: its index, right ascension and declination; or a refusal.
+// A found star and its index, or a refusal.
 pub enum Found {
-    At(usize, u32, i32),
+    At(usize, Star),
     Refused(u8),
 }
 
 // Bytes of a record.
-pub const WIDTH: usize = 12;
+pub const WIDTH: usize = 20;
 
 // Stars of a list, at most.
-pub const MOST_STARS: usize = 5000;
+pub const MOST_STARS: usize = 3000;
 
 const MOST_BYTES: usize = WIDTH * MOST_STARS;
 
@@ -44,7 +46,7 @@ const MOST_BYTES: usize = WIDTH * MOST_STARS;
 pub const READ: usize = MOST_BYTES + 1;
 
 // The word that stands from the offset on.
-fn word_at(bytes: &[u8], at: usize) -> u32
+pub fn word_at(bytes: &[u8], at: usize) -> u32
     requires { ⌜ at + 4 ≤ length (now bytes) ⌝ }
     ensures { λ r. ⌜ r ≡ wordAt (now (bytes .entry)) at ⌝ }
 {
@@ -63,21 +65,32 @@ fn record_at(bytes: &[u8], at: usize) -> Star
         number: word_at(bytes, at),
         asc: word_at(bytes, at + 4),
         dec: signed::signed_of(word_at(bytes, at + 8)),
+        asc_rate: signed::signed_of(word_at(bytes, at + 12)),
+        dec_rate: signed::signed_of(word_at(bytes, at + 16)),
     }
 }
 
-// Whether right ascension is below a turn, and declination at most a quarter turn in size.
+// A yearly change in milliarcseconds, at most.
+const FASTEST: u32 = 20000;
+
+// Whether right ascension is below a turn, declination at most a quarter turn in size, and neither changes too fast.
 pub fn in_range(star: Star) -> bool
     ensures { λ r. ⌜ r ≡ inRange star ⌝ }
 {
-    if star.asc < 1296000000 {
-        return signed::size(star.dec) <= 324000000;
+    if star.asc >= 1296000000 {
+        return false;
     }
-    false
+    if signed::size(star.dec) > 324000000 {
+        return false;
+    }
+    if signed::size(star.asc_rate) > FASTEST {
+        return false;
+    }
+    signed::size(star.dec_rate) <= FASTEST
 }
 
 // A word's bytes from the offset on, and the offset after them.
-fn put_word(out: &mut [u8], at: usize, word: u32) -> usize
+pub fn put_word(out: &mut [u8], at: usize, word: u32) -> usize
     ensures { λ r. ⌜ Wrote (now (out .entry)) at (wordBytes word) (now (out .exit)) r ⌝ }
 {
     let a = lent::put_byte(out, at, (word % 256) as u8);
@@ -92,7 +105,9 @@ pub fn write_star(out: &mut [u8], at: usize, star: Star) -> usize
 {
     let a = put_word(out, at, star.number);
     let b = put_word(out, a, star.asc);
-    put_word(out, b, signed::word_of(star.dec))
+    let c = put_word(out, b, signed::word_of(star.dec));
+    let d = put_word(out, c, signed::word_of(star.asc_rate));
+    put_word(out, d, signed::word_of(star.dec_rate))
 }
 
 // Whether the bytes are whole records, and no more of them than a list may have.
@@ -123,6 +138,8 @@ pub fn nth(bytes: &[u8], i: usize) -> Star
         number: 0,
         asc: 0,
         dec: 0,
+        asc_rate: 0,
+        dec_rate: 0,
     }
 }
 
@@ -189,7 +206,7 @@ pub fn index_of(bytes: &[u8], number: u32) -> usize
     n
 }
 
-// The first star with the number: its index, right ascension and declination.
+// The first star with the number, and its index.
 // Refusals: 8 for bytes that are no list; 10 where no star has the number; 9 where that star is out of range.
 pub fn find(bytes: &[u8], number: u32) -> Found
     ensures { λ r. ⌜ shownFound r ≡ findRule (now (bytes .entry)) number ⌝ }
@@ -203,7 +220,7 @@ pub fn find(bytes: &[u8], number: u32) -> Found
     }
     let star = nth(bytes, i);
     if in_range(star) {
-        return Found::At(i, star.asc, star.dec);
+        return Found::At(i, star);
     }
     Found::Refused(9)
 }

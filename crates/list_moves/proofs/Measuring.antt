@@ -8,12 +8,12 @@ use lib.ListN.{length, take, drop, length-append, drop-of-length-le}
 use Rattle.quantity.specs.rules.Answer.{answered, refused}
 use Rattle.list.specs.declared.Star.{Star}
 use Rattle.list.specs.rules.Record.{inRange}
-use Rattle.list.specs.rules.Stars.{isList, countOf, stars, nth}
+use Rattle.list.specs.rules.Stars.{isList, countOf, stars, nth, allInRange}
 use Rattle.list.specs.laws.Stars.{length-stars, all-stars, few}
 use Rattle.list_groups.specs.rules.Several.{spellAll}
 use Rattle.list_radio.specs.rules.Star.{starGroups}
-use Rattle.list_moves.specs.rules.Moves.{allInRange, sizeOf}
-use Rattle.list_radio.specs.laws.Star.{at-most-fifteen}
+use Rattle.list_moves.specs.rules.Moves.{sizeOf}
+use Rattle.list_radio.specs.laws.Star.{at-most-twenty-five}
 use Rattle.list_moves.specs.laws.Moves.{groups-more, ranges-more}
 
 pub record Measuring (s : List ℕ) (n size i : ℕ) : Type 0 where
@@ -22,7 +22,7 @@ pub record Measuring (s : List ℕ) (n size i : ℕ) : Type 0 where
   pub so-far : i ≤ n
   pub ranges : allInRange (stars s) ≡ allInRange (drop i (stars s))
   pub is : size ≡ length (spellAll starGroups (take i (stars s)))
-  pub small : size ≤ 15 * i
+  pub small : size ≤ 25 * i
 
 pub begin : (s : List ℕ) (n : ℕ) → isList s ≡ true → n ≡ countOf s → Measuring s n 0 0
 begin s n l e = record { list = l; many = e; so-far = omega arith; ranges = refl; is = refl; small = omega arith }
@@ -56,7 +56,7 @@ module _ (s : List ℕ) (n size i : ℕ) (m : Measuring s n size i) where
               (λ j. m .is j + (l ∙ ap (λ (x : Star). length (starGroups x)) e) j)
               ∙ sym (length-append (spellAll starGroups (take i (stars s))) (starGroups (nth s i)))
               ∙ ap length (groups-more s i index);
-          small = omega (arith, m .small, at-most-fifteen r);
+          small = omega (arith, m .small, at-most-twenty-five r);
         }
 
   pub measured : n ≤ i → answered size ≡ sizeOf (stars s)

@@ -1,6 +1,7 @@
 -- What is proved of the moves, for callers to cite. Theorems only.
 pub mod Moves
 pub mod RoundTrips
+pub mod MovedUp
 pub mod Room
 pub mod Calls
 pub mod Cases

@@ -1,5 +1,6 @@
-// The moves between a stored list and a radio list (request (i)), from bytes to bytes. Promised: any bytes are moved or refused, the first
-// refusal met; a list in range moves there and back to the same bytes, and nothing is written before all is known.
+// The moves between a stored list and a radio list (requests (i), (x)), from bytes to bytes. Promised: any bytes are moved or refused, the
+// first refusal met; a list in range moves there and back to the same bytes, and nothing is written before all is known. What is written
+// begins with byte 3; a radio list that begins with byte 2 moves as one whose stars do not change.
 ghost use mathlib.Core.Path.{_≡_};
 ghost use mathlib.Core.Bool.{true};
 ghost use lib.ListN.{drop};
@@ -14,15 +15,16 @@ use list_radio::Accepted;
 use list_radio::Opened;
 use list_radio::Received;
 
-// The records of the stars that stand from an offset on, from the slice's start on: so many, and up to the first that is refused.
-fn lay_stars(out: &mut [u8], bytes: &[u8], n: u32, first: usize) -> usize
-    ensures { λ r. ⌜ Wrote (now (out .entry)) 0 (listBytes (starsUpto n (drop first (now (bytes .entry))))) (now (out .exit)) r ⌝ }
+// The records of the stars that stand from an offset on, with yearly changes or without, from the slice's start on: so many, and up to the
+// first that is refused.
+fn lay_stars(out: &mut [u8], bytes: &[u8], n: u32, first: usize, moving: bool) -> usize
+    ensures { λ r. ⌜ Wrote (now (out .entry)) 0 (listBytes (starsUpto moving n (drop first (now (bytes .entry))))) (now (out .exit)) r ⌝ }
 {
     let mut p = first;
     let mut offset = 0;
     let mut i: u32 = 0;
     while i < n {
-        match list_radio::star_from(bytes, p) {
+        match list_radio::star_from(bytes, p, moving) {
             Received::Refused(_) => {
                 return offset;
             }
@@ -43,15 +45,18 @@ pub fn radio_to_list(bytes: &[u8], out: &mut [u8]) -> Written
 {
     match list_radio::open(bytes) {
         Opened::Refused(k) => Written::Refused(k),
-        Opened::Stars(n, first) => match list_radio::check_stars(bytes, n, first) {
-            Accepted::Refused(k) => Written::Refused(k),
-            Accepted::Stars(m) => {
-                if out.len() < list::WIDTH * (m as usize) {
-                    return Written::Refused(8);
+        Opened::Stars(n, first) => {
+            let moving = list_radio::is_moving(bytes);
+            match list_radio::check_stars(bytes, n, first, moving) {
+                Accepted::Refused(k) => Written::Refused(k),
+                Accepted::Stars(m) => {
+                    if out.len() < list::WIDTH * (m as usize) {
+                        return Written::Refused(8);
+                    }
+                    Written::To(lay_stars(out, bytes, n, first, moving))
                 }
-                Written::To(lay_stars(out, bytes, n, first))
             }
-        },
+        }
     }
 }
 

@@ -1,5 +1,6 @@
 -- What is proved of a list over the radio link, for callers to cite. Theorems only.
 pub mod Star
+pub mod Mark
 pub mod Radio
 pub mod Reader
 pub mod StarByStar

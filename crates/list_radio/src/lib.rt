@@ -1,14 +1,18 @@
-// Lists over the radio link (request (i)): reader and writer. Promised: any bytes are read or refused, the first refusal met; head and
-// star are put into a slice, or refused with nothing written.
+// Lists over the radio link (requests (i), (x)): reader and writer. Promised: any bytes are read or refused, the first refusal met; head
+// and star are put into a slice, or refused with nothing written. A list that begins with byte 2 is read, as one whose stars stand still,
+// and never written.
 ghost use mathlib.Core.Path.{_≡_};
+ghost use mathlib.Core.List.{[], _∷_};
 ghost use lib.ListN.{length, drop};
 ghost use Rattle.quantity.specs.rules.Answer.{with};
 ghost use Rattle.lent.specs.rules.Writing.{Wrote};
 ghost use Rattle.lent.specs.rules.Put.{Put};
-ghost use Rattle.list_groups.specs.rules.Reading.{readAt};
+ghost use Rattle.list_groups.specs.rules.Reading.{readNumber, readAt};
+ghost use Rattle.list_groups.specs.rules.Several.{readAll};
 ghost use Rattle.list_radio.specs.rules.Star.{starGroups, readStar};
-ghost use Rattle.list_radio.specs.rules.Radio.{headBytes, markRefusal, readCount, starsOf};
-ghost use Rattle.list_radio.specs.rules.Reader.{shownOpened, openRule, shownReceived, starAtRule, shownAccepted, acceptRule};
+ghost use Rattle.list_radio.specs.rules.Radio.{headBytes, markRefusal, isMoving, readCount, starsOf};
+ghost use Rattle.list_radio.specs.rules.Reader.{shownOpened, openRule, shownPlace, shownRates, rangedAt};
+ghost use Rattle.list_radio.specs.rules.Reader.{shownReceived, starAtRule, shownAccepted, acceptRule};
 ghost use Rattle.list_radio.specs.rules.Put.{headText, starText};
 use lent::Written;
 use list::Star;
@@ -17,6 +21,18 @@ use list_groups::Read;
 // How many stars and the offset of the first, or a refusal.
 pub enum Opened {
     Stars(u32, usize),
+    Refused(u8),
+}
+
+// A star's first three numbers and the offset after them, or a refusal.
+enum Place {
+    Numbers(u32, u32, u32, usize),
+    Refused(u8),
+}
+
+// Its last two and the offset after them, or a refusal.
+enum Rates {
+    Numbers(u32, u32, usize),
     Refused(u8),
 }
 
@@ -32,16 +48,20 @@ pub enum Accepted {
     Refused(u8),
 }
 
-// The first byte of a radio list.
-const MARK: u8 = 2;
+// The first byte of a radio list, and of one whose stars stand still.
+const MARK: u8 = 3;
+
+const STILL_MARK: u8 = 2;
 
 const MOST_STARS: u32 = list::MOST_STARS as u32;
 
-// Bytes of a radio list, at most (`accepted-has-room`): the first byte, a count of two groups, of each star three numbers of five.
-pub const MOST_BYTES: usize = 3 + 15 * list::MOST_STARS;
+// Bytes of a radio list, at most (`accepted-has-room`): the first byte, a count of two groups, of each star three numbers of five and two
+// of three.
+pub const MOST_BYTES: usize = 3 + 21 * list::MOST_STARS;
 
-// Bytes to read where a radio list is expected: one more than the longest has, which decides for all after it (`stars-decided`).
-pub const READ: usize = MOST_BYTES + 1;
+// Bytes to read where a radio list is expected: four more than the longest has, which decide for all after them (`stars-decided`). The
+// last star may have yearly changes of five groups each, and is refused by 9 after the last of them.
+pub const READ: usize = MOST_BYTES + 4;
 
 // 0 where the first byte stands, 13 for an empty list, 11 for another first byte.
 fn mark_refusal(bytes: &[u8]) -> u8
@@ -50,7 +70,20 @@ fn mark_refusal(bytes: &[u8]) -> u8
     if bytes.len() == 0 {
         return 13;
     }
-    if bytes[0] == MARK { 0 } else { 11 }
+    if bytes[0] == MARK {
+        return 0;
+    }
+    if bytes[0] == STILL_MARK { 0 } else { 11 }
+}
+
+// Whether the first byte is that of stars with yearly changes.
+pub fn is_moving(bytes: &[u8]) -> bool
+    ensures { λ r. ⌜ r ≡ isMoving (now (bytes .entry)) ⌝ }
+{
+    if bytes.len() == 0 {
+        return false;
+    }
+    bytes[0] == MARK
 }
 
 // The count that stands after the first byte.
@@ -81,27 +114,70 @@ pub fn open(bytes: &[u8]) -> Opened
     count_at(bytes, 1)
 }
 
-// The star that stands from an offset on, whatever the first byte.
-pub fn star_from(bytes: &[u8], at: usize) -> Received
-    ensures { λ r. ⌜ shownReceived r ≡ readAt readStar (now (bytes .entry)) at ⌝ }
+// Three numbers that stand from an offset on.
+fn place_at(bytes: &[u8], at: usize) -> Place
+    ensures { λ r. ⌜ shownPlace r ≡ readAt (readAll readNumber 3) (now (bytes .entry)) at ⌝ }
 {
     match list_groups::number_at(bytes, at) {
-        Read::Refused(k) => Received::Refused(k),
+        Read::Refused(k) => Place::Refused(k),
         Read::Number(number, a) => match list_groups::number_at(bytes, a) {
-            Read::Refused(k) => Received::Refused(k),
+            Read::Refused(k) => Place::Refused(k),
             Read::Number(asc, b) => match list_groups::number_at(bytes, b) {
-                Read::Refused(k) => Received::Refused(k),
-                Read::Number(folded, next) => {
-                    let dec = list_groups::unfold(folded);
-                    let star = Star { number, asc, dec };
-                    if list::in_range(star) {
-                        Received::Star(star, next)
-                    } else {
-                        Received::Refused(9)
-                    }
-                }
+                Read::Refused(k) => Place::Refused(k),
+                Read::Number(dec, next) => Place::Numbers(number, asc, dec, next),
             },
         },
+    }
+}
+
+// Two numbers that stand from an offset on.
+fn rates_at(bytes: &[u8], at: usize) -> Rates
+    ensures { λ r. ⌜ shownRates r ≡ readAt (readAll readNumber 2) (now (bytes .entry)) at ⌝ }
+{
+    match list_groups::number_at(bytes, at) {
+        Read::Refused(k) => Rates::Refused(k),
+        Read::Number(asc_rate, a) => match list_groups::number_at(bytes, a) {
+            Read::Refused(k) => Rates::Refused(k),
+            Read::Number(dec_rate, next) => Rates::Numbers(asc_rate, dec_rate, next),
+        },
+    }
+}
+
+// The star of its numbers, of which the last three are folded, and the offset after them; 9 for a star out of range.
+fn star_of(number: u32, asc: u32, dec: u32, asc_rate: u32, dec_rate: u32, next: usize) -> Received
+    ensures { λ r. ⌜ shownReceived r ≡ rangedAt (number ∷ asc ∷ dec ∷ «asc_rate» ∷ «dec_rate» ∷ []) next ⌝ }
+{
+    let star = Star {
+        number,
+        asc,
+        dec: list_groups::unfold(dec),
+        asc_rate: list_groups::unfold(asc_rate),
+        dec_rate: list_groups::unfold(dec_rate),
+    };
+    if list::in_range(star) {
+        Received::Star(star, next)
+    } else {
+        Received::Refused(9)
+    }
+}
+
+// The star that stands from an offset on, with yearly changes or without, whatever the first byte.
+pub fn star_from(bytes: &[u8], at: usize, moving: bool) -> Received
+    ensures { λ r. ⌜ shownReceived r ≡ readAt (readStar moving) (now (bytes .entry)) at ⌝ }
+{
+    match place_at(bytes, at) {
+        Place::Refused(k) => Received::Refused(k),
+        Place::Numbers(number, asc, dec, a) => {
+            if !moving {
+                return star_of(number, asc, dec, 0, 0, a);
+            }
+            match rates_at(bytes, a) {
+                Rates::Refused(k) => Received::Refused(k),
+                Rates::Numbers(asc_rate, dec_rate, next) => {
+                    star_of(number, asc, dec, asc_rate, dec_rate, next)
+                }
+            }
+        }
     }
 }
 
@@ -114,17 +190,17 @@ pub fn star_at(bytes: &[u8], offset: usize) -> Received
     if refusal != 0 {
         return Received::Refused(refusal);
     }
-    star_from(bytes, offset)
+    star_from(bytes, offset, is_moving(bytes))
 }
 
-// Whether so many stars stand from an offset on, and nothing after them.
-pub fn check_stars(bytes: &[u8], n: u32, first: usize) -> Accepted
-    ensures { λ r. ⌜ shownAccepted r ≡ with length (starsOf n (drop first (now (bytes .entry)))) ⌝ }
+// Whether so many stars stand from an offset on, with yearly changes or without, and nothing after them.
+pub fn check_stars(bytes: &[u8], n: u32, first: usize, moving: bool) -> Accepted
+    ensures { λ r. ⌜ shownAccepted r ≡ with length (starsOf moving n (drop first (now (bytes .entry)))) ⌝ }
 {
     let mut p = first;
     let mut i: u32 = 0;
     while i < n {
-        match star_from(bytes, p) {
+        match star_from(bytes, p, moving) {
             Received::Refused(k) => {
                 return Accepted::Refused(k);
             }
@@ -147,7 +223,7 @@ pub fn accept(bytes: &[u8]) -> Accepted
 {
     match open(bytes) {
         Opened::Refused(k) => Accepted::Refused(k),
-        Opened::Stars(n, first) => check_stars(bytes, n, first),
+        Opened::Stars(n, first) => check_stars(bytes, n, first, is_moving(bytes)),
     }
 }
 
@@ -158,9 +234,13 @@ pub fn star_size(star: Star) -> usize
     let number = star.number;
     let asc = star.asc;
     let dec = star.dec;
+    let asc_rate = star.asc_rate;
+    let dec_rate = star.dec_rate;
     list_groups::count(number)
         + list_groups::count(asc)
         + list_groups::count(list_groups::fold(dec))
+        + list_groups::count(list_groups::fold(asc_rate))
+        + list_groups::count(list_groups::fold(dec_rate))
 }
 
 // A star's bytes from the offset on, in range or not, and the offset after them.
@@ -169,7 +249,9 @@ pub fn write_star(out: &mut [u8], at: usize, star: Star) -> usize
 {
     let a = list_groups::put_number(out, at, star.number);
     let b = list_groups::put_number(out, a, star.asc);
-    list_groups::put_number(out, b, list_groups::fold(star.dec))
+    let c = list_groups::put_number(out, b, list_groups::fold(star.dec));
+    let d = list_groups::put_number(out, c, list_groups::fold(star.asc_rate));
+    list_groups::put_number(out, d, list_groups::fold(star.dec_rate))
 }
 
 // The first byte and the count from the offset on, and the offset after them.

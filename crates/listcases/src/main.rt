@@ -49,6 +49,8 @@ fn offset_case(bytes: &[u8], offset: usize) {
             next(star.number as u64);
             next(star.asc as u64);
             next_signed(star.dec);
+            next_signed(star.asc_rate);
+            next_signed(star.dec_rate);
             next(after as u64);
         }
         Stored::End => {}
@@ -61,19 +63,21 @@ fn offset_case(bytes: &[u8], offset: usize) {
 fn find_case(bytes: &[u8], sought: u32) {
     io::print_decimal(1, sought as u64);
     match list::find(bytes, sought) {
-        Found::At(i, asc, dec) => {
+        Found::At(i, star) => {
             next(i as u64);
-            next(asc as u64);
-            next_signed(dec);
+            next(star.asc as u64);
+            next_signed(star.dec);
+            next_signed(star.asc_rate);
+            next_signed(star.dec_rate);
         }
         Found::Refused(n) => refusal(n),
     }
     end();
 }
 
-// The sheet itself.
-fn sheet_case(bytes: &[u8], out: &mut [u8]) {
-    match text_sheet::render(bytes, out) {
+// The sheet itself, with yearly changes or without.
+fn sheet_case(bytes: &[u8], rates: bool, out: &mut [u8]) {
+    match text_sheet::render(bytes, rates, out) {
         Sheet::Bytes(k) => {
             io::write_all(1, &out[..k]);
         }
@@ -84,7 +88,7 @@ fn sheet_case(bytes: &[u8], out: &mut [u8]) {
 // The length of the slice, and that of the sheet in it.
 fn size_case(bytes: &[u8], out: &mut [u8]) {
     io::print_decimal(1, out.len() as u64);
-    match text_sheet::render(bytes, out) {
+    match text_sheet::render(bytes, true, out) {
         Sheet::Bytes(k) => next(k as u64),
         Sheet::Refused(n) => refusal(n),
     }
@@ -94,27 +98,28 @@ fn size_case(bytes: &[u8], out: &mut [u8]) {
 fn lengths(buffer: &[u8]) {
     length_case(buffer, 0);
     length_case(buffer, 1);
-    length_case(buffer, 11);
     length_case(buffer, 12);
-    length_case(buffer, 13);
-    length_case(buffer, 24);
-    length_case(buffer, 59988);
+    length_case(buffer, 19);
+    length_case(buffer, 20);
+    length_case(buffer, 21);
+    length_case(buffer, 40);
+    length_case(buffer, 59980);
     length_case(buffer, 59999);
     length_case(buffer, 60000);
     length_case(buffer, 60001);
-    length_case(buffer, 60012);
+    length_case(buffer, 60020);
 }
 
-fn countsInAll(bytes: &[u8]) {
+fn offsets(bytes: &[u8]) {
     offset_case(bytes, 0);
     offset_case(bytes, 1);
-    offset_case(bytes, 11);
     offset_case(bytes, 12);
-    offset_case(bytes, 84);
-    offset_case(bytes, 96);
-    offset_case(bytes, 97);
-    offset_case(bytes, 108);
-    offset_case(bytes, 18446744073709551612);
+    offset_case(bytes, 20);
+    offset_case(bytes, 180);
+    offset_case(bytes, 200);
+    offset_case(bytes, 201);
+    offset_case(bytes, 220);
+    offset_case(bytes, 18446744073709551600);
     offset_case(bytes, 18446744073709551615);
 }
 
@@ -126,27 +131,47 @@ fn finds(bytes: &[u8]) {
     find_case(bytes, 4);
     find_case(bytes, 5);
     find_case(bytes, 6);
+    find_case(bytes, 7);
+    find_case(bytes, 8);
     find_case(bytes, 4294967295);
 }
 
-fn star(number: u32, asc: u32, dec: i32) -> Star {
-    Star { number, asc, dec }
+// A star's record from the offset on.
+fn put(
+    bytes: &mut [u8],
+    at: usize,
+    number: u32,
+    asc: u32,
+    dec: i32,
+    asc_rate: i32,
+    dec_rate: i32,
+) -> usize {
+    let star = Star {
+        number,
+        asc,
+        dec,
+        asc_rate,
+        dec_rate,
+    };
+    list::write_star(bytes, at, star)
 }
 
-// Eight records: the ends of each range and the first counts past them; number 1 stands twice.
+// Ten records: the ends of each range and the first counts past them; number 1 stands twice.
 fn records(bytes: &mut [u8]) {
-    let a = list::write_star(bytes, 0, star(1, 1296000000, 0));
-    let b = list::write_star(bytes, a, star(2, 1295999999, 324000000));
-    let c = list::write_star(bytes, b, star(3, 0, -324000000));
-    let d = list::write_star(bytes, c, star(4, 0, 324000001));
-    records_after(bytes, d);
+    let a = put(bytes, 0, 1, 1296000000, 0, 0, 0);
+    let b = put(bytes, a, 2, 1295999999, 324000000, 20000, -20000);
+    let c = put(bytes, b, 3, 0, -324000000, -20000, 20000);
+    let d = put(bytes, c, 4, 0, 324000001, 0, 0);
+    let e = put(bytes, d, 5, 0, -324000001, 0, 0);
+    records_after(bytes, e);
 }
 
 fn records_after(bytes: &mut [u8], at: usize) {
-    let a = list::write_star(bytes, at, star(5, 0, -324000001));
-    let b = list::write_star(bytes, a, star(1, 0, 0));
-    let c = list::write_star(bytes, b, star(4294967295, 4294967295, -2147483648));
-    list::write_star(bytes, c, star(0, 3600000, -1));
+    let a = put(bytes, at, 1, 0, 0, 0, 0);
+    let b = put(bytes, a, 6, 0, 0, 20001, 0);
+    let c = put(bytes, b, 7, 0, 0, 0, -2147483648);
+    let d = put(bytes, c, 4294967295, 4294967295, -2147483648, 0, 0);
+    put(bytes, d, 0, 3600000, -1, -1, 1);
 }
 
 // A status, the refusal, and the counts of 0 and of 10 after it.
@@ -164,7 +189,7 @@ fn raise_case(tally: Tally, status: u8) -> Tally {
 fn tallies() {
     let a = raise_case(Tally::new(), 0);
     let b = raise_case(a, 10);
-    let c = raise_case(b, 17);
+    let c = raise_case(b, 18);
     raise_case(c, 255);
     let mut counts = [0; 20];
     counts[10] = 60000;
@@ -174,10 +199,11 @@ fn tallies() {
 }
 
 fn sheets(bytes: &[u8], out: &mut [u8]) {
-    sheet_case(bytes, out);
-    sheet_case(b"", out);
-    sheet_case(b"damaged list", out);
-    sheet_case(b"damaged list.", out);
+    sheet_case(bytes, false, out);
+    sheet_case(bytes, true, out);
+    sheet_case(b"", false, out);
+    sheet_case(b"a damaged star list!", false, out);
+    sheet_case(b"damaged list", false, out);
 }
 
 // So of the first n bytes, and in the first n of the slice.
@@ -197,21 +223,21 @@ fn room_case(bytes: &[u8], out: &mut [u8], n: usize) {
 // The arrays are lent once: what each call needs to know of their lengths would be proved again.
 fn cases(bytes: &[u8], buffer: &[u8], out: &mut [u8]) {
     lengths(buffer);
-    countsInAll(bytes);
+    offsets(bytes);
     offset_case(b"not a list!", 0);
     finds(bytes);
     find_case(b"not a list!", 1);
     find_case(b"", 0);
     sheets(bytes, out);
     prefix_case(buffer, 60000, out);
-    prefix_case(buffer, 60012, out);
-    room_case(bytes, out, 200059);
+    prefix_case(buffer, 60020, out);
+    room_case(bytes, out, 192059);
 }
 
 fn main() {
-    let mut bytes = [0u8; 96];
+    let mut bytes = [0u8; 200];
     records(&mut bytes);
-    let buffer = [0u8; 60012];
+    let buffer = [0u8; 60020];
     let mut out = [0u8; text_sheet::ROOM];
     cases(&bytes, &buffer, &mut out);
     tallies();

@@ -7,6 +7,7 @@ use edition::Edition;
 use helpers::angle;
 use helpers::earth::Earth;
 use helpers::time;
+use list::Star;
 use quantity::Deg;
 use quantity::Degrees;
 use quantity::EclPoint;
@@ -34,6 +35,11 @@ fn next(x: f64) {
 
 fn end() {
     io::write_all(1, b"\n");
+}
+
+fn line(x: f64) {
+    number(x);
+    end();
 }
 
 fn refusal(n: u8) {
@@ -178,9 +184,9 @@ fn venus_at_boston() {
     );
     match times {
         Three::Are(rise, culmination, set) => {
-            one(One::Is(rise));
-            one(One::Is(culmination));
-            one(One::Is(set));
+            line(rise);
+            line(culmination);
+            line(set);
         }
         Three::Refused(n) => refusal(n),
     }
@@ -202,6 +208,33 @@ fn polaris(day: f64) {
     two(precess::precess_eq_coords(Edition::Crate, asc, dec, J2000, day));
 }
 
+// A record of J2000 on a day, its rates in whole milliarcseconds a year.
+fn moved(asc: u32, dec: i32, asc_rate: i32, dec_rate: i32, day: f64) {
+    let star = Star {
+        number: 0,
+        asc,
+        dec,
+        asc_rate,
+        dec_rate,
+    };
+    let years = star_place::years_between(J2000, day);
+    two(precess::precess_eq_coords(
+        Edition::Crate,
+        star_place::asc_of(star, years),
+        star_place::dec_of(star, years),
+        J2000,
+        day,
+    ));
+}
+
+// theta Persei, and Polaris on its three days.
+fn moving_stars() {
+    moved(147779790, 177222480, 514, -90, 2462088.69);
+    moved(136630560, 321350720, 2982, -15, 2415020.3135);
+    moved(136630560, 321350720, 2982, -15, 2469807.5);
+    moved(136630560, 321350720, 2982, -15, 2488070.0);
+}
+
 fn precessions() {
     two(precess::precess_eq_coords(
         Edition::Crate,
@@ -219,8 +252,7 @@ fn precessions() {
 // The mean obliquity on a day, then the true one.
 fn obliquities(day: f64) {
     let mean = chain::mean_obliquity_on(day);
-    number(mean.0);
-    end();
+    line(mean.0);
     match nutation::nutation(day) {
         Two::Are(_, in_oblq) => number(chain::true_obliquity(mean, Rad(in_oblq)).0),
         Two::Refused(n) => refusal(n),
@@ -325,6 +357,7 @@ fn main() {
     venus_at_boston();
     sun_at_the_horizon();
     precessions();
+    moving_stars();
     reductions();
     parallaxes();
     editions();

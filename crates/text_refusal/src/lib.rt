@@ -26,6 +26,9 @@ fn put_call_words(out: &mut [u8], at: usize, n: u8) -> usize
 fn put_star_words(out: &mut [u8], at: usize, n: u8) -> usize
     ensures { λ r. ⌜ Wrote (now (out .entry)) at (starWords n) (now (out .exit)) r ⌝ }
 {
+    if n == 3 {
+        return lent::put(out, at, b": carried past the pole: check its rates");
+    }
     if n == 4 {
         return lent::put(out, at, b": too close to the pole: choose another star");
     }

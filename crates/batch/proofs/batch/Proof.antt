@@ -14,11 +14,11 @@ use Rattle.batch.proofs.batch.Statement.{statement}
 use Rattle.batch.proofs.batch.Tie as tie
 
 abbrev Inv-loop : tie.InvT-loop
-Inv-loop bytes day1 day2 status₀ asc₀ dec₀ why tally₀ night n i₀ status asc dec tally i =
-    (i ≤ n) × ((n ≡ countOf bytes) × Upto night bytes status₀ asc₀ dec₀ i tally status asc dec)
+Inv-loop bytes day1 day2 status₀ asc₀ dec₀ why tally₀ night years n i₀ status asc dec tally i =
+    (i ≤ n) × ((n ≡ countOf bytes) × Upto night years bytes status₀ asc₀ dec₀ i tally status asc dec)
 
 abbrev μ-loop : tie.MeasureT-loop
-μ-loop bytes day1 day2 status₀ asc₀ dec₀ why tally₀ night n i₀ status asc dec tally i = n - i
+μ-loop bytes day1 day2 status₀ asc₀ dec₀ why tally₀ night years n i₀ status asc dec tally i = n - i
 
 returns : tie.Need-returns Inv-loop μ-loop
 returns c =
@@ -34,13 +34,19 @@ returns c =
 -- the call was accepted
 module _ (c : tie.After-count Inv-loop μ-loop) where
   abbrev begin : tie.Start Inv-loop μ-loop
-  begin = c .before .before .before .before .before .before .before .before .before
+  begin = c .before .before .before .before .before .before .before .before .before .before
 
-  begun : Begun (begin .args .edition) (begin .args .bytes .now) (begin .args .day1) (begin .args .day2) (begin .args .status .now) (begin .args .asc .now) (begin .args .dec .now) (c .before .night-of .result)
-  begun = record { none = sym (c .before .before .before .before .batch-refusal .ensures) ∙ c .before .before .if1 .left; night-is = c .before .night-of .ensures }
+  begun : Begun (begin .args .edition) (begin .args .bytes .now) (begin .args .day1) (begin .args .day2) (begin .args .status .now) (begin .args .asc .now) (begin .args .dec .now) (c .before .before .night-of .result) (c .before .years-between .result)
+  begun =
+      let at-night = c .before .before in
+      record {
+        none = sym (at-night .before .before .before .batch-refusal .ensures) ∙ at-night .before .if1 .left;
+        night-is = at-night .night-of .ensures;
+        years-are = c .before .years-between .ensures;
+      }
 
 loop-holds : tie.Need-loop-holds Inv-loop μ-loop
-loop-holds c = (search needs, (c .count .ensures, no-star-stored (begun c) _ (c .before .before .before .new .ensures)))
+loop-holds c = (search needs, (c .count .ensures, no-star-stored (begun c) _ (c .before .before .before .before .new .ensures)))
 
 add-loop : tie.Need-add-loop Inv-loop μ-loop
 add-loop c = omega (arith, c .loop .inv .0, c .loop .inv .1 .0, few-stars (begun (c .before)))
@@ -66,11 +72,11 @@ module _ (c : tie.After-store-star Inv-loop μ-loop) where
   abbrev before-pass : tie.After-count Inv-loop μ-loop
   before-pass = in-pass .before .before
 
-  first-stored : Upto (before-pass .before .night-of .result) (begin before-pass .args .bytes .now) (begin before-pass .args .status .now) (begin before-pass .args .asc .now) (begin before-pass .args .dec .now) (in-pass .before .loop .i + 1) (c .store-star .result) (c .store-star .last .0) (c .store-star .last .1 .0) (c .store-star .last .1 .1 .0)
+  first-stored : Upto (before-pass .before .before .night-of .result) (before-pass .before .years-between .result) (begin before-pass .args .bytes .now) (begin before-pass .args .status .now) (begin before-pass .args .asc .now) (begin before-pass .args .dec .now) (in-pass .before .loop .i + 1) (c .store-star .result) (c .store-star .last .0) (c .store-star .last .1 .0) (c .store-star .last .1 .1 .0)
   first-stored =
       let at-two = c .before .before .before .before in
       one-star-stored (begun before-pass) (in-pass .before .loop .inv .1 .1) (omega (arith, both-there in-pass))
-      (ap firstPlace (at-two .two-stars-under .ensures) ∙ first-star _ _ _ ∙ ap (under (before-pass .before .night-of .result)) (at-two .before .before .nth .ensures))
+      (ap firstPlace (at-two .two-stars-under .ensures) ∙ first-star _ _ _ _ ∙ ap (under (before-pass .before .before .night-of .result) (before-pass .before .years-between .result)) (at-two .before .before .nth .ensures))
       (c .store-star .ensures)
 
 store-star-requires-2 : tie.Need-store-star-requires-2 Inv-loop μ-loop
@@ -96,7 +102,7 @@ loop-again c =
       (
         in-pass at-first .before .loop .inv .1 .0,
         one-star-stored (begun (before-pass at-first)) (first-stored at-first) (both-there (in-pass at-first))
-            (ap secondPlace (at-two .two-stars-under .ensures) ∙ second-star _ _ _ ∙ ap (under (before-pass at-first .before .night-of .result)) (at-two .before .nth2 .ensures))
+            (ap secondPlace (at-two .two-stars-under .ensures) ∙ second-star _ _ _ _ ∙ ap (under (before-pass at-first .before .before .night-of .result) (before-pass at-first .before .years-between .result)) (at-two .before .nth2 .ensures))
             (at-second .store-star2 .ensures),
       ),
     )
@@ -119,11 +125,11 @@ module _ (c : tie.After-store-star3 Inv-loop μ-loop) where
   abbrev before-last : tie.After-count Inv-loop μ-loop
   before-last = with-one-left .before .before .before
 
-  last-stored : Upto (before-last .before .night-of .result) (begin before-last .args .bytes .now) (begin before-last .args .status .now) (begin before-last .args .asc .now) (begin before-last .args .dec .now) (with-one-left .before .before .loop .i + 1) (c .store-star3 .result) (c .store-star3 .last .0) (c .store-star3 .last .1 .0) (c .store-star3 .last .1 .1 .0)
+  last-stored : Upto (before-last .before .before .night-of .result) (before-last .before .years-between .result) (begin before-last .args .bytes .now) (begin before-last .args .status .now) (begin before-last .args .asc .now) (begin before-last .args .dec .now) (with-one-left .before .before .loop .i + 1) (c .store-star3 .result) (c .store-star3 .last .0) (c .store-star3 .last .1 .0) (c .store-star3 .last .1 .1 .0)
   last-stored =
       let at-two = c .before .before .before .before in
       one-star-stored (begun before-last) (with-one-left .before .before .loop .inv .1 .1) (last-there with-one-left)
-      (ap firstPlace (at-two .two-stars-under2 .ensures) ∙ first-star _ _ _ ∙ ap (under (before-last .before .night-of .result)) (at-two .before .nth3 .ensures))
+      (ap firstPlace (at-two .two-stars-under2 .ensures) ∙ first-star _ _ _ _ ∙ ap (under (before-last .before .before .night-of .result) (before-last .before .years-between .result)) (at-two .before .nth3 .ensures))
       (c .store-star3 .ensures)
 
 same-length : tie.Need-same-length Inv-loop μ-loop
@@ -165,6 +171,7 @@ batch-spec =
     asks-nothing
     asks-nothing
     returns
+    asks-nothing
     asks-nothing
     asks-nothing
     loop-holds

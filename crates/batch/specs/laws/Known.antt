@@ -22,7 +22,7 @@ use Rattle.list_tally.specs.rules.Status.{highestStatus}
 use Rattle.list.specs.declared.Star.{Star}
 use Rattle.list.specs.rules.Record.{inRange}
 use Rattle.star_place.specs.rules.Place.{ascOf, decOf}
-use Rattle.batch.specs.rules.Star.{starUnder}
+use Rattle.batch.specs.rules.Star.{starRefusal, starUnder}
 
 -- ---- numbers, and what rules do with answers
 
@@ -109,10 +109,12 @@ module _ (night : Night) (h : night .refusal ≤ highestStatus) where
   unfolding placeUnder
   known-in asc dec = known-then _ _ (known-precessed asc dec (night .precession)) (λ (p : Pair). known-at _)
 
-  known-star : (star : Star) → statusOf (starUnder star night) ≤ highestStatus
-  unfolding starUnder
-  known-star star =
-      known-choice (inRange star) _ (refused 9) (known-in (ascOf star) (decOf star)) (omega arith)
+  known-star : (star : Star) (years : Float) → statusOf (starUnder star night years) ≤ highestStatus
+  unfolding starUnder starRefusal
+  known-star star years =
+      known-unless _ _ (known-cond (inRange star) _ 9 (known-latitude (decOf star years)) (omega arith))
+      (known-in (ascOf star years) (decOf star years))
 
-pub known-under : (edition : Edition) (star : Star) (day1 day2 : Float) → statusOf (starUnder star (nightOf edition day1 day2)) ≤ highestStatus
-known-under edition star day1 day2 = known-star (nightOf edition day1 day2) (known-night edition day1 day2) star
+pub known-under : (edition : Edition) (star : Star) (day1 day2 years : Float)
+    → statusOf (starUnder star (nightOf edition day1 day2) years) ≤ highestStatus
+known-under edition star day1 day2 years = known-star (nightOf edition day1 day2) (known-night edition day1 day2) star years

@@ -1,17 +1,56 @@
--- Wrong variants of what is stored of an answer, and of the batch's refusal.
+-- Wrong variants of a star's answer, of what is stored of it, and of the batch's refusal.
 use Prim.Native.Nat.{ℕ}
 use mathlib.Core.Bool.{cond, _&&_}
 use mathlib.Core.List.{List, map}
 use lib.Ieee.{Float}
 use Rattle.double.specs.rules.Operations.{zero, one}
 use Rattle.quantity.specs.declared.Places.{Places}
-use Rattle.quantity.specs.rules.Answer.{Answer, answered, refused, Pair, second, secondPlace}
+use Rattle.quantity.specs.rules.Angle.{rad}
+use Rattle.quantity.specs.rules.Answer.{Answer, answered, refused, Pair, first, second, unless, then, statusOf, secondPlace}
+use Rattle.quantity.specs.rules.Refusal.{latitudeRefusal}
 use Rattle.precess_angles.specs.rules.Days.{daysRefusal}
-use Rattle.list.specs.rules.Stars.{isList, countOf}
+use Rattle.precess.specs.rules.Equatorial.{precessedIn}
+use Rattle.chain.specs.declared.Night.{Night}
+use Rattle.chain.specs.rules.Night.{pointUnder, placeUnder}
+use Rattle.list.specs.declared.Star.{Star}
+use Rattle.list.specs.rules.Record.{inRange}
+use Rattle.edition.specs.declared.Edition.{Edition}
+use Rattle.list.specs.rules.Stars.{isList, countOf, stars, nth}
 use Rattle.list_tally.specs.declared.Tally.{Tally}
 use Rattle.list_tally.specs.rules.Tally.{tallyOf}
-use Rattle.batch.specs.rules.Star.{secondOf}
+use Rattle.star_place.specs.rules.Place.{angleOf, recordAsc, recordDec, shifted, ascOf, decOf}
+use Rattle.batch.specs.rules.Star.{starRefusal, starRule, earlier, secondOf}
 use Rattle.batch.specs.rules.Batch.{hasRoom, batchRefusal}
+
+-- ---- one star
+
+-- the precessed place shifted, in place of the record's
+abbrev pub shiftedAfterPrecession : Star → Night → Float → Answer Pair
+shiftedAfterPrecession star night years =
+    unless (starRefusal star years)
+    (then (precessedIn (recordAsc star) (recordDec star) (night .precession))
+    (λ (p : Pair).
+    pointUnder
+    (record {
+      asc = shifted (rad (first p)) (angleOf (star .«asc_rate»)) years .0;
+      dec = shifted (rad (second p)) (angleOf (star .«dec_rate»)) years .0;
+    })
+    night))
+
+-- the chain shifts as well
+abbrev pub shiftedTwice : Star → Night → Float → Answer Pair
+shiftedTwice star night years =
+    unless (starRefusal star years)
+    (placeUnder (shifted (ascOf star years) (angleOf (star .«asc_rate»)) years) (shifted (decOf star years) (angleOf (star .«dec_rate»)) years) night)
+
+abbrev pub threeBeforeNine : Star → Float → ℕ
+threeBeforeNine star years = earlier (latitudeRefusal (decOf star years)) (cond (inRange star) 0 9)
+
+-- of the declination unshifted
+abbrev pub threeOfTheRecord : Star → Float → ℕ
+threeOfTheRecord star years = cond (inRange star) (latitudeRefusal (recordDec star)) 9
+
+-- ---- what is stored
 
 abbrev pub statusAlwaysGood : Answer Pair → ℕ
 statusAlwaysGood a = 0
@@ -31,6 +70,12 @@ refusedStarKeepsAngle (refused n) = one
 -- the second star's place for the first's
 abbrev pub lanesTraded : Places → Answer Pair
 lanesTraded = secondPlace
+
+-- ---- the list
+
+-- the first star's answer for every star
+abbrev pub firstStarCopiedOn : Edition → List ℕ → Float → Float → List ℕ
+firstStarCopiedOn edition s day1 day2 = map (λ (star : Star). statusOf (starRule edition (nth s 0) day1 day2)) (stars s)
 
 -- every star counted as answered
 abbrev pub inventedTally : List ℕ → Tally

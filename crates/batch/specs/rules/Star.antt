@@ -1,11 +1,13 @@
--- One star of a list: what the chain answers at its place, and what of the answer is stored.
+-- One star of a list: what the chain answers at its shifted place, and what of the answer is stored.
 use Prim.Native.Nat.{ℕ}
 use mathlib.Core.Bool.{cond}
+use lib.Dec.{eqb}
 use lib.Ieee.{Float}
 use Rattle.double.specs.rules.Operations.{zero}
 use Rattle.double.specs.rules.Pattern.{patternOf}
 use Rattle.quantity.specs.declared.Places.{Places}
-use Rattle.quantity.specs.rules.Answer.{Answer, answered, refused, Pair, first, second}
+use Rattle.quantity.specs.rules.Answer.{Answer, answered, refused, Pair, first, second, unless}
+use Rattle.quantity.specs.rules.Refusal.{latitudeRefusal}
 use Rattle.edition.specs.declared.Edition.{Edition}
 use Rattle.chain.specs.declared.Night.{Night}
 use Rattle.chain.specs.rules.Chain.{chainRule}
@@ -13,28 +15,38 @@ use Rattle.chain.specs.rules.Night.{placeUnder}
 use Rattle.chain.specs.rules.Two.{twoPlacesUnder}
 use Rattle.list.specs.declared.Star.{Star}
 use Rattle.list.specs.rules.Record.{inRange}
-use Rattle.star_place.specs.rules.Place.{ascOf, decOf}
+use Rattle.star_place.specs.rules.Place.{yearsBetween, ascOf, decOf}
 
--- the chain's answer at the star, or 9 where its record is out of range
+-- 9 where the star's record is out of range; then 3 where its declination, after so many years, is past HALF in size
+unfoldable pub starRefusal : Star → Float → ℕ
+starRefusal star years = cond (inRange star) (latitudeRefusal (decOf star years)) 9
+
+-- the chain's answer at the star's place, shifted by the years between the days
 unfoldable pub starRule : Edition → Star → Float → Float → Answer Pair
-starRule edition star day1 day2 = cond (inRange star) (chainRule edition (ascOf star) (decOf star) day1 day2) (refused 9)
+starRule edition star day1 day2 =
+    let years = yearsBetween day1 day2 in
+    unless (starRefusal star years) (chainRule edition (ascOf star years) (decOf star years) day1 day2)
 
--- the same under a night, whose days are not refused; the angles of a star in range never are
-unfoldable pub starUnder : Star → Night → Answer Pair
-starUnder star night = cond (inRange star) (placeUnder (ascOf star) (decOf star) night) (refused 9)
+-- the same under a night, whose days are not refused; the right ascension of a star in range never is
+unfoldable pub starUnder : Star → Night → Float → Answer Pair
+starUnder star night years = unless (starRefusal star years) (placeUnder (ascOf star years) (decOf star years) night)
+
+-- the earlier of two refusals, where 0 is none
+abbrev pub earlier : ℕ → ℕ → ℕ
+earlier refusal later = cond (eqb refusal 0) later refusal
 
 -- two stars side by side, every float of both fixed whatever is refused; `first-star` and `second-star` in laws/Star say that each has
 -- the place that it has alone
-unfoldable pub twoStarsUnder : Star → Star → Night → Places
-twoStarsUnder a b night =
-    let p = twoPlacesUnder (ascOf a) (decOf a) (ascOf b) (decOf b) night in
+unfoldable pub twoStarsUnder : Star → Star → Night → Float → Places
+twoStarsUnder a b night years =
+    let p = twoPlacesUnder (ascOf a years) (decOf a years) (ascOf b years) (decOf b years) night in
     record {
       «first_asc» = p .«first_asc»;
       «second_asc» = p .«second_asc»;
       «first_dec» = p .«first_dec»;
       «second_dec» = p .«second_dec»;
-      «first_refusal» = cond (inRange a) (p .«first_refusal») 9;
-      «second_refusal» = cond (inRange b) (p .«second_refusal») 9;
+      «first_refusal» = earlier (starRefusal a years) (p .«first_refusal»);
+      «second_refusal» = earlier (starRefusal b years) (p .«second_refusal»);
     }
 
 -- what is stored of an answer beside its status: the two angles, or 0.0 and 0.0,

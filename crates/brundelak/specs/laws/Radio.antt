@@ -1,7 +1,6 @@
 -- How the promises of the radio list reach the C caller.
 use Prim.Native.Nat.{ℕ}
 use mathlib.Core.Path.{_≡_, refl}
-use lib.IntN.{ℤ}
 use Rattle.quantity.specs.rules.Answer.{Answer}
 use Rattle.list.specs.declared.Star.{Star}
 use Rattle.list_groups.specs.rules.Reading.{AtOffset}
@@ -23,15 +22,13 @@ pub not-opened-handed : {a : Answer (AtOffset ℕ)} {r : Opened} {n count offset
     → HandedOpened a n count offset count offset
 not-opened-handed p e = rw (← p, e) (record { answers = refl; leaves-count = refl; leaves-offset = refl })
 
-pub received-handed : {a : Answer (AtOffset Star)} {r : Received} {star : Star} {after number asc next : ℕ} {z dec : ℤ} → shownReceived r ≡ a
-    → r ≡ received.Star star after → z ≡ star .dec → HandedReceived a 0 number asc dec next (star .number) (star .asc) z after
-received-handed p e same =
-    rw (← p, e) (record { answers = refl; leaves-number = refl; leaves-asc = refl; leaves-dec = same; leaves-next = refl })
+pub received-handed : {a : Answer (AtOffset Star)} {r : Received} {star star₀ star′ : Star} {after next : ℕ} → shownReceived r ≡ a
+    → r ≡ received.Star star after → star′ ≡ star → HandedReceived a 0 star₀ next star′ after
+received-handed p e same = rw (← p, e) (record { answers = refl; leaves-star = same; leaves-next = refl })
 
-pub not-received-handed : {a : Answer (AtOffset Star)} {r : Received} {n number asc next : ℕ} {dec : ℤ} → shownReceived r ≡ a
-    → r ≡ received.Refused n → HandedReceived a n number asc dec next number asc dec next
-not-received-handed p e =
-    rw (← p, e) (record { answers = refl; leaves-number = refl; leaves-asc = refl; leaves-dec = refl; leaves-next = refl })
+pub not-received-handed : {a : Answer (AtOffset Star)} {r : Received} {star : Star} {n next : ℕ} → shownReceived r ≡ a
+    → r ≡ received.Refused n → HandedReceived a n star next star next
+not-received-handed p e = rw (← p, e) (record { answers = refl; leaves-star = refl; leaves-next = refl })
 
 pub accepted-handed : {a : Answer ℕ} {r : Accepted} {stars count : ℕ} → shownAccepted r ≡ a → r ≡ accepted.Stars stars
     → HandedNumber a 0 count stars

@@ -16,30 +16,37 @@ use Rattle.list.specs.rules.Find.{Entry, shownFound}
 use Rattle.list.specs.rules.Reader.{Item, shownStored}
 use Rattle.batch.specs.declared.Batched.{Batched}
 use Rattle.batch.specs.rules.Batch.{Batch}
-use Rattle.brundelak.specs.rules.Stored.{HandedFound, HandedStar, HandedBatch}
+use Rattle.brundelak.specs.rules.Stored.{fields, HandedFound, HandedStar, HandedBatch}
 
-pub found-handed : {a : Answer Entry} {r : Found} {i asc index asc₀ : ℕ} {d z dec : ℤ} → shownFound r ≡ a → r ≡ At i asc d
-    → z ≡ d → HandedFound a 0 index asc₀ dec i asc z
-found-handed p e same = rw (← p, e) (record { answers = refl; leaves-index = refl; leaves-asc = refl; leaves-dec = same })
+pub found-handed : {a : Answer Entry} {r : Found} {i index asc₀ : ℕ} {star : Star} {d u v dec ascRate decRate : ℤ} → shownFound r ≡ a
+    → r ≡ At i star → d ≡ star .dec → u ≡ star .«asc_rate» → v ≡ star .«dec_rate»
+    → HandedFound a 0 index asc₀ dec ascRate decRate i (star .asc) d u v
+found-handed p e d u v =
+    rw (← p, e)
+    (record { answers = refl; leaves-index = refl; leaves-asc = refl; leaves-dec = d; leaves-asc-rate = u; leaves-dec-rate = v })
 
-pub not-found-handed : {a : Answer Entry} {r : Found} {n index asc : ℕ} {dec : ℤ} → shownFound r ≡ a → r ≡ Refused n
-    → HandedFound a n index asc dec index asc dec
-not-found-handed p e = rw (← p, e) (record { answers = refl; leaves-index = refl; leaves-asc = refl; leaves-dec = refl })
+pub not-found-handed : {a : Answer Entry} {r : Found} {n index asc : ℕ} {dec ascRate decRate : ℤ} → shownFound r ≡ a → r ≡ Refused n
+    → HandedFound a n index asc dec ascRate decRate index asc dec ascRate decRate
+not-found-handed p e =
+    rw (← p, e)
+    (record { answers = refl; leaves-index = refl; leaves-asc = refl; leaves-dec = refl; leaves-asc-rate = refl; leaves-dec-rate = refl })
 
-pub star-handed : {a : Answer Item} {r : Stored} {star : Star} {after number asc next : ℕ} {z dec : ℤ} → shownStored r ≡ a
-    → r ≡ stored.Next star after → z ≡ star .dec → HandedStar a 0 number asc dec next (star .number) (star .asc) z after
-star-handed p e same =
-    rw (← p, e) (record { answers = refl; leaves-number = refl; leaves-asc = refl; leaves-dec = same; leaves-next = refl })
+pub star-handed : {a : Answer Item} {r : Stored} {star star₀ star′ : Star} {after next : ℕ} → shownStored r ≡ a
+    → r ≡ stored.Next star after → star′ ≡ star → HandedStar a 0 star₀ next star′ after
+star-handed p e same = rw (← p, e) (record { answers = refl; leaves-star = same; leaves-next = refl })
 
-pub end-handed : {a : Answer Item} {r : Stored} {number asc next : ℕ} {dec : ℤ} → shownStored r ≡ a → r ≡ stored.End
-    → HandedStar a 255 number asc dec next number asc dec next
-end-handed p e =
-    rw (← p, e) (record { answers = refl; leaves-number = refl; leaves-asc = refl; leaves-dec = refl; leaves-next = refl })
+pub end-handed : {a : Answer Item} {r : Stored} {star : Star} {next : ℕ} → shownStored r ≡ a → r ≡ stored.End
+    → HandedStar a 255 star next star next
+end-handed p e = rw (← p, e) (record { answers = refl; leaves-star = refl; leaves-next = refl })
 
-pub not-stored-handed : {a : Answer Item} {r : Stored} {n number asc next : ℕ} {dec : ℤ} → shownStored r ≡ a
-    → r ≡ stored.Refused n → HandedStar a n number asc dec next number asc dec next
-not-stored-handed p e =
-    rw (← p, e) (record { answers = refl; leaves-number = refl; leaves-asc = refl; leaves-dec = refl; leaves-next = refl })
+pub not-stored-handed : {a : Answer Item} {r : Stored} {star : Star} {n next : ℕ} → shownStored r ≡ a
+    → r ≡ stored.Refused n → HandedStar a n star next star next
+not-stored-handed p e = rw (← p, e) (record { answers = refl; leaves-star = refl; leaves-next = refl })
+
+-- a star handed over field by field: each signed one as its word says it
+pub field-by-field : (star : Star) {d u v : ℤ} → d ≡ star .dec → u ≡ star .«asc_rate» → v ≡ star .«dec_rate»
+    → fields (star .number) (star .asc) d u v ≡ star
+field-by-field star d u v = λ i. fields (star .number) (star .asc) (d i) (u i) (v i)
 
 module _ {edition : Edition} {s : List ℕ} {day1 day2 : Float} {status asc dec counts : List ℕ} {status′ asc′ dec′ : List ℕ} (b : Batched) (done : Batch edition s day1 day2 status asc dec b status′ asc′ dec′) where
   pub batch-refused : (b .refusal ≡ 0 → ⊥) → HandedBatch edition s day1 day2 status asc dec counts (b .refusal) status′ asc′ dec′ counts

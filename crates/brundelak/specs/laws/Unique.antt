@@ -18,16 +18,16 @@ use Rattle.brundelak.specs.rules.Stored.{HandedFound, HandedStar, Handed
 use Rattle.brundelak.specs.rules.Put.{HandedNumber, HandedPut}
 use Rattle.brundelak.specs.rules.Radio.{HandedOpened, HandedReceived}
 
-pub one-handed-found : {a : Answer Entry} {n m index asc i i′ r r′ : ℕ} {dec d d′ : ℤ} → HandedFound a n index asc dec i r d
-    → HandedFound a m index asc dec i′ r′ d′ → (n ≡ m) × ((i ≡ i′) × ((r ≡ r′) × (d ≡ d′)))
+pub one-handed-found : {a : Answer Entry} {n m index asc i i′ r r′ : ℕ} {dec ascRate decRate d d′ u u′ v v′ : ℤ}
+    → HandedFound a n index asc dec ascRate decRate i r d u v → HandedFound a m index asc dec ascRate decRate i′ r′ d′ u′ v′
+    → (n ≡ m) × ((i ≡ i′) × ((r ≡ r′) × ((d ≡ d′) × ((u ≡ u′) × (v ≡ v′)))))
 one-handed-found t u =
-    (t .answers ∙ sym (u .answers), (t .leaves-index ∙ sym (u .leaves-index), (t .leaves-asc ∙ sym (u .leaves-asc), t .leaves-dec ∙ sym (u .leaves-dec))))
+    (t .answers ∙ sym (u .answers), (t .leaves-index ∙ sym (u .leaves-index), (t .leaves-asc ∙ sym (u .leaves-asc), (t .leaves-dec ∙ sym (u .leaves-dec), (t .leaves-asc-rate ∙ sym (u .leaves-asc-rate), t .leaves-dec-rate ∙ sym (u .leaves-dec-rate))))))
 
-pub one-handed-star : {a : Answer Item} {n m number asc next i i′ r r′ k k′ : ℕ} {dec d d′ : ℤ}
-    → HandedStar a n number asc dec next i r d k → HandedStar a m number asc dec next i′ r′ d′ k′
-    → (n ≡ m) × ((i ≡ i′) × ((r ≡ r′) × ((d ≡ d′) × (k ≡ k′))))
+pub one-handed-star : {a : Answer Item} {n m next k k′ : ℕ} {star r r′ : Star} → HandedStar a n star next r k → HandedStar a m star next r′ k′
+    → (n ≡ m) × ((r ≡ r′) × (k ≡ k′))
 one-handed-star t u =
-    (t .answers ∙ sym (u .answers), (t .leaves-number ∙ sym (u .leaves-number), (t .leaves-asc ∙ sym (u .leaves-asc), (t .leaves-dec ∙ sym (u .leaves-dec), t .leaves-next ∙ sym (u .leaves-next)))))
+    (t .answers ∙ sym (u .answers), (t .leaves-star ∙ sym (u .leaves-star), t .leaves-next ∙ sym (u .leaves-next)))
 
 pub one-handed-raise : {status n m : ℕ} {counts c c′ : List ℕ} → HandedRaise status counts n c
     → HandedRaise status counts m c′ → (n ≡ m) × (c ≡ c′)
@@ -56,8 +56,7 @@ pub one-handed-opened : {a : Answer (AtOffset ℕ)} {n m count offset c c′ p p
 one-handed-opened t u =
     (t .answers ∙ sym (u .answers), (t .leaves-count ∙ sym (u .leaves-count), t .leaves-offset ∙ sym (u .leaves-offset)))
 
-pub one-handed-received : {a : Answer (AtOffset Star)} {n m number asc next i i′ r r′ k k′ : ℕ} {dec d d′ : ℤ}
-    → HandedReceived a n number asc dec next i r d k → HandedReceived a m number asc dec next i′ r′ d′ k′
-    → (n ≡ m) × ((i ≡ i′) × ((r ≡ r′) × ((d ≡ d′) × (k ≡ k′))))
+pub one-handed-received : {a : Answer (AtOffset Star)} {n m next k k′ : ℕ} {star r r′ : Star}
+    → HandedReceived a n star next r k → HandedReceived a m star next r′ k′ → (n ≡ m) × ((r ≡ r′) × (k ≡ k′))
 one-handed-received t u =
-    (t .answers ∙ sym (u .answers), (t .leaves-number ∙ sym (u .leaves-number), (t .leaves-asc ∙ sym (u .leaves-asc), (t .leaves-dec ∙ sym (u .leaves-dec), t .leaves-next ∙ sym (u .leaves-next)))))
+    (t .answers ∙ sym (u .answers), (t .leaves-star ∙ sym (u .leaves-star), t .leaves-next ∙ sym (u .leaves-next)))

@@ -4,7 +4,7 @@ use mathlib.Core.Path.{refl, ap, _∙_}
 use mathlib.Core.Bool.{false}
 use std.Logic.{_≢_}
 use mathlib.Core.List.{List, [], _∷_}
-use lib.IntN.{pos}
+use lib.IntN.{pos, negsuc, natAbs}
 use lib.Ieee.{inf}
 use lib.ListN.{getD}
 use Rattle.double.specs.notions.Code.{ofNumber}
@@ -14,7 +14,11 @@ use Rattle.quantity.specs.rules.Refusal.{epoch}
 use Rattle.quantity.specs.notions.Computed.{computed}
 use Rattle.lent.specs.rules.Put.{roomFor}
 use Rattle.precess_angles.specs.rules.Days.{daysRefusal}
+use Rattle.lent.specs.rules.Rows.{upto}
+use Rattle.list.specs.declared.Star.{Star}
+use Rattle.list.specs.rules.Record.{starBytes}
 use Rattle.list.specs.rules.Stars.{nought}
+use Rattle.list.specs.rules.Find.{Entry}
 use Rattle.list.specs.rules.Writer.{recordText}
 use Rattle.list.specs.notions.Computed as list
 use Rattle.list_tally.specs.rules.Tally.{raiseRefusal, raiseRule, tallyOf, empty}
@@ -24,18 +28,28 @@ use Rattle.list_radio.specs.rules.Put.{headText}
 use Rattle.list_radio.specs.notions.Computed as radio
 use Rattle.list_moves.specs.rules.Moves.{toList}
 use Rattle.list_moves.specs.notions.Computed as moves
+use Rattle.list_widths.specs.rules.Widths.{toNarrow}
+use Rattle.list_widths.specs.notions.Computed as widths
 use Rattle.edition.specs.declared.Edition.{Edition}
 use Rattle.batch.specs.declared.Batched.{Batched}
 use Rattle.list.specs.rules.Stars.{isList, countOf, stars}
 use Rattle.batch.specs.rules.Batch.{batchRefusal, answersOf}
-use Rattle.brundelak.specs.rules.Stored.{HandedFound, HandedBatch, HandedRaise}
+use Rattle.brundelak.specs.rules.Stored.{fields, HandedFound, HandedBatch, HandedRaise}
 use Rattle.brundelak.specs.rules.Put.{HandedNumber, HandedPut}
 use Rattle.brundelak.specs.rules.Radio.{HandedOpened, HandedReceived}
 use Rattle.brundelak.specs.rules.Version.{version}
 
--- star 7 has the right ascension 5, and 0 is left
-pub found-asc-lost-excluded : ¬ HandedFound (answered (record { index = 7; asc = 5; dec = pos 3 })) 0 0 0 (pos 0) 7 0 (pos 3)
+-- a star found at index 7, at 5, 3, with yearly changes of 1 and 2
+abbrev found : Entry
+found = record { index = 7; star = fields 9 5 (pos 3) (pos 1) (pos 2) }
+
+-- its right ascension is lost
+pub found-asc-lost-excluded : ¬ HandedFound (answered found) 0 0 0 (pos 0) (pos 0) (pos 0) 7 0 (pos 3) (pos 1) (pos 2)
 found-asc-lost-excluded wrong = apart ofNumber refl (wrong .leaves-asc)
+
+-- its yearly changes are traded
+pub found-rates-traded-excluded : ¬ HandedFound (answered found) 0 0 0 (pos 0) (pos 0) (pos 0) 7 5 (pos 3) (pos 2) (pos 1)
+found-rates-traded-excluded wrong = apart natAbs refl (wrong .leaves-asc-rate)
 
 -- the first day is no number
 pub batch-always-refused-by-eight-excluded : (edition : Edition) → ¬ HandedBatch edition [] (inf false) epoch [] [] [] [] 8 [] [] [] []
@@ -73,9 +87,16 @@ unfolding radio.computed
 head-without-its-count-excluded wrong = apart ofNumber refl (wrong .leaves-offset)
 
 -- the star 7 at 0, −1 (folded 1), and its declination comes out as 1
-pub declination-folded-excluded : ¬ HandedReceived (starAtRule (2 ∷ 1 ∷ 7 ∷ 0 ∷ 1 ∷ []) 2) 0 0 0 (pos 0) 0 7 0 (pos 1) 5
+pub declination-folded-excluded :
+    ¬ HandedReceived (starAtRule (2 ∷ 1 ∷ 7 ∷ 0 ∷ 1 ∷ []) 2) 0 nought 0 (fields 7 0 (pos 1) (pos 0) (pos 0)) 5
 unfolding radio.computed
-declination-folded-excluded wrong = apart folded refl (wrong .leaves-dec)
+declination-folded-excluded wrong = apart (λ (r : Star). folded (r .dec)) refl (wrong .leaves-star)
+
+-- the same star of a list without yearly changes, and a yearly change of 1 comes out
+pub rate-of-nowhere-excluded :
+    ¬ HandedReceived (starAtRule (2 ∷ 1 ∷ 7 ∷ 0 ∷ 1 ∷ []) 2) 0 nought 0 (fields 7 0 (negsuc 0) (pos 1) (pos 0)) 5
+unfolding radio.computed
+rate-of-nowhere-excluded wrong = apart (λ (r : Star). natAbs (r .«asc_rate»)) refl (wrong .leaves-star)
 
 -- a list cut short in its first star, and the count is left all the same
 pub count-left-of-a-refused-list-excluded : ¬ HandedNumber (acceptRule (2 ∷ 1 ∷ 7 ∷ [])) 13 0 1
@@ -83,7 +104,7 @@ unfolding radio.computed
 count-left-of-a-refused-list-excluded wrong = apart ofNumber refl (wrong .leaves)
 
 -- the head of no stars, from the second byte of four on, and the byte after it is cleared
-pub byte-past-the-head-cleared-excluded : ¬ HandedPut (headText 0) (9 ∷ 9 ∷ 9 ∷ 9 ∷ []) 1 0 0 (9 ∷ 2 ∷ 0 ∷ 0 ∷ []) 3
+pub byte-past-the-head-cleared-excluded : ¬ HandedPut (headText 0) (9 ∷ 9 ∷ 9 ∷ 9 ∷ []) 1 0 0 (9 ∷ 3 ∷ 0 ∷ 0 ∷ []) 3
 unfolding radio.computed
 byte-past-the-head-cleared-excluded wrong = apart (λ (l : List ℕ). getD l 3 0) refl (wrong .leaves-slice)
 
@@ -91,6 +112,13 @@ byte-past-the-head-cleared-excluded wrong = apart (λ (l : List ℕ). getD l 3 0
 pub slice-of-a-refused-move-written-excluded : ¬ HandedPut (toList (2 ∷ 0 ∷ 5 ∷ [])) (9 ∷ []) 0 13 0 (0 ∷ []) 0
 unfolding moves.computed
 slice-of-a-refused-move-written-excluded wrong = apart (λ (l : List ℕ). getD l 0 0) refl (wrong .leaves-slice)
+
+-- ---- the record of before
+
+-- a star whose declination changes, and the record without it is written
+pub moving-star-moved-down-excluded : ¬ HandedPut (toNarrow (starBytes (fields 0 0 (pos 0) (pos 0) (pos 1)))) (upto 12 (λ (i : ℕ). 9)) 0 0 0 (upto 12 (λ (i : ℕ). 0)) 12
+unfolding widths.computed roomFor
+moving-star-moved-down-excluded wrong = apart ofNumber refl (wrong .offset-after .answers)
 
 -- ---- the version
 

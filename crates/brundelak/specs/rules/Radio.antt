@@ -1,7 +1,6 @@
 -- What a C caller sees of a list over the radio link: its head opened, and a star shown.
 use Prim.Native.Nat.{ℕ}
 use mathlib.Core.Path.{_≡_}
-use lib.IntN.{ℤ}
 use Rattle.quantity.specs.rules.Answer.{Answer, statusOf}
 use Rattle.list.specs.declared.Star.{Star}
 use Rattle.list_groups.specs.rules.Reading.{AtOffset}
@@ -14,9 +13,7 @@ pub record HandedOpened (a : Answer (AtOffset ℕ)) (n : ℕ) (count offset coun
   pub leaves-offset : offset′ ≡ kept (λ (x : AtOffset ℕ). x .offset) a offset
 
 -- a star, and the offset after it
-pub record HandedReceived (a : Answer (AtOffset Star)) (n : ℕ) (number asc : ℕ) (dec : ℤ) (next : ℕ) (number′ asc′ : ℕ) (dec′ : ℤ) (next′ : ℕ) : Type 0 where
+pub record HandedReceived (a : Answer (AtOffset Star)) (n : ℕ) (star : Star) (next : ℕ) (star′ : Star) (next′ : ℕ) : Type 0 where
   pub answers : n ≡ statusOf a
-  pub leaves-number : number′ ≡ kept (λ (x : AtOffset Star). x .value .number) a number
-  pub leaves-asc : asc′ ≡ kept (λ (x : AtOffset Star). x .value .asc) a asc
-  pub leaves-dec : dec′ ≡ kept (λ (x : AtOffset Star). x .value .dec) a dec
+  pub leaves-star : star′ ≡ kept (λ (x : AtOffset Star). x .value) a star
   pub leaves-next : next′ ≡ kept (λ (x : AtOffset Star). x .offset) a next

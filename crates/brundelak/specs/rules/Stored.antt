@@ -16,12 +16,19 @@ use Rattle.batch.specs.declared.Batched.{Batched}
 use Rattle.batch.specs.rules.Batch.{Batch}
 use Rattle.brundelak_handed.specs.rules.Boundary.{kept}
 
--- a star found: its index, right ascension and declination
-pub record HandedFound (a : Answer Entry) (n : ℕ) (index asc : ℕ) (dec : ℤ) (index′ asc′ : ℕ) (dec′ : ℤ) : Type 0 where
+-- what is lent for a star's fields, and what is handed over for them, as a star
+abbrev pub fields : ℕ → ℕ → ℤ → ℤ → ℤ → Star
+fields number asc dec ascRate decRate =
+    record { number = number; asc = asc; dec = dec; «asc_rate» = ascRate; «dec_rate» = decRate }
+
+-- a star found: its index, and the record's other fields
+pub record HandedFound (a : Answer Entry) (n : ℕ) (index asc : ℕ) (dec ascRate decRate : ℤ) (index′ asc′ : ℕ) (dec′ ascRate′ decRate′ : ℤ) : Type 0 where
   pub answers : n ≡ statusOf a
   pub leaves-index : index′ ≡ kept (λ (e : Entry). e .index) a index
-  pub leaves-asc : asc′ ≡ kept (λ (e : Entry). e .asc) a asc
-  pub leaves-dec : dec′ ≡ kept (λ (e : Entry). e .dec) a dec
+  pub leaves-asc : asc′ ≡ kept (λ (e : Entry). e .star .asc) a asc
+  pub leaves-dec : dec′ ≡ kept (λ (e : Entry). e .star .dec) a dec
+  pub leaves-asc-rate : ascRate′ ≡ kept (λ (e : Entry). e .star .«asc_rate») a ascRate
+  pub leaves-dec-rate : decRate′ ≡ kept (λ (e : Entry). e .star .«dec_rate») a decRate
 
 -- 0 with a star, 255 where none is left, or the refusal number
 abbrev pub itemStatus : Answer Item → ℕ
@@ -29,18 +36,16 @@ itemStatus (answered (item r next)) = 0
 itemStatus (answered none) = 255
 itemStatus (refused n) = n
 
--- a part of the star shown or of the offset after it, or what stood there
+-- the star shown, or the offset after it, or what stood there
 abbrev pub keptItem : {B : Type 0} → (Star → ℕ → B) → Answer Item → B → B
 keptItem part (answered (item r next)) old = part r next
 keptItem part (answered none) old = old
 keptItem part (refused n) old = old
 
 -- a star shown: its record, and the offset after it
-pub record HandedStar (a : Answer Item) (n : ℕ) (number asc : ℕ) (dec : ℤ) (next : ℕ) (number′ asc′ : ℕ) (dec′ : ℤ) (next′ : ℕ) : Type 0 where
+pub record HandedStar (a : Answer Item) (n : ℕ) (star : Star) (next : ℕ) (star′ : Star) (next′ : ℕ) : Type 0 where
   pub answers : n ≡ itemStatus a
-  pub leaves-number : number′ ≡ keptItem (λ (r : Star) (k : ℕ). r .number) a number
-  pub leaves-asc : asc′ ≡ keptItem (λ (r : Star) (k : ℕ). r .asc) a asc
-  pub leaves-dec : dec′ ≡ keptItem (λ (r : Star) (k : ℕ). r .dec) a dec
+  pub leaves-star : star′ ≡ keptItem (λ (r : Star) (k : ℕ). r) a star
   pub leaves-next : next′ ≡ keptItem (λ (r : Star) (k : ℕ). k) a next
 
 -- the batch: its refusal, the three slices, and the 20 counts where it is not refused

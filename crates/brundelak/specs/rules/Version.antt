@@ -1,14 +1,14 @@
--- The version of the archive as one number: its first part ten thousands, its second hundreds, its third ones.
+-- The version of the archive as one number, a byte for each part: its first the highest.
 use Prim.Native.Nat.{ℕ, _+_, _*_}
 
 abbrev pub major : ℕ
 major = 0
 
 abbrev pub minor : ℕ
-minor = 1
+minor = 2
 
 abbrev pub patch : ℕ
 patch = 0
 
 abbrev pub version : ℕ
-version = 10000 * major + 100 * minor + patch
+version = 65536 * major + 256 * minor + patch

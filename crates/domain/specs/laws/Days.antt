@@ -1,74 +1,41 @@
--- Days that are not refused: a century lies from −20 to 20, and the span of two days, in centuries, from −41 to 41.
+-- Days that are not refused: a century lies from −20 to 20, the span of two days, in centuries, from −41 to 41, and in years, where both
+-- are doubles, from −4000 to 4000.
 use mathlib.Core.Path.{_≡_}
 use mathlib.Core.Logic.{inl, inr}
+use Prim.Native.Nat.{suc, _-_, _*_, _^_}
 use native.Mathlib.Omega.{arith}
-use lib.Ieee.{Float, nan, inf, fin, binary64, neg, add, sub, div, le, ofBits, round}
+use lib.Dec.{T}
+use lib.Ieee.{Float, binary64, neg, add, sub, div, le, ofBits, round, fits}
 use Rattle.double.specs.rules.Operations.{_⊖_}
 use Rattle.double.specs.rules.Sign.{isFinite}
-use Rattle.double.specs.rules.Order.{_≼_, Finite, Between}
+use Rattle.double.specs.rules.Order.{_≼_, Between}
 use Rattle.double.specs.rules.Table.{over}
 use Rattle.double.specs.notions.Range.{known, con, _⊟_, _⧄_}
-use Rattle.double.specs.laws.Order.{le-refl, le-trans, le-total}
-use Rattle.double.specs.laws.Between.{between, size→between}
+use Rattle.double.specs.notions.Grid.{grid}
+use Rattle.double.specs.laws.Order.{le-refl, le-trans}
+use Rattle.double.specs.laws.Between.{between}
 use Rattle.double.specs.laws.Monotone.{sub-mono}
 use Rattle.double.specs.laws.Interval.{bounded}
 use Rattle.quantity.specs.declared.Rad.{Rad}
 use Rattle.quantity.specs.rules.Refusal.{lower, epoch, daysAround, dayRefusal, angleRefusal, latitudeRefusal}
-use Rattle.elementary.specs.laws.Accepted.{lower-none, day-accepted}
+use Rattle.elementary.specs.laws.Accepted.{lower-none}
 use Rattle.helpers.specs.rules.Time.{daysOfCentury, centuryOf}
 use Rattle.precess_angles.specs.rules.Numbers.{n2415020·3135, n36524·2199}
 use Rattle.precess_angles.specs.rules.Days.{spanOf, daysRefusal, placeRefusal}
 use Rattle.precess_angles.specs.rules.Fk4.{fk4Century, fk4Span}
+use Rattle.star_place.specs.rules.Place.{daysOfYear, yearsBetween}
+use Rattle.star_place.specs.laws.Days.{finite-day, from-epoch, day-between}
 use Rattle.domain_accepted.specs.notions.Within.{Within}
-
-finite-epoch : Finite epoch
-unfolding isFinite ofBits
-finite-epoch = tt
-
-finite-day : (day : Float) → dayRefusal day ≡ 0 → Finite day
-unfolding dayRefusal isFinite
-finite-day nan e = absurd (omega arith)
-finite-day (inf s) e = absurd (omega arith)
-finite-day (fin s m c) e = tt
-
--- a day before the first and one after the last
-abbrev before : Float
-before = over 1721044 1
-
-abbrev after : Float
-after = over 3182046 1
+use Rattle.domain_accepted.specs.laws.Neighbours.{neighbours}
 
 module _ (day : Float) (none : dayRefusal day ≡ 0) where
-  from-epoch : Between (neg daysAround) daysAround (day ⊖ epoch)
-  from-epoch = size→between daysAround (day ⊖ epoch) (unfold isFinite ofBits in tt) (day-accepted day none)
-
   pub century-within : Within 20 (centuryOf day)
   unfolding isFinite le neg div ofBits round
-  century-within = bounded binary64 (neg (over 20 1)) (over 20 1) (known from-epoch ⧄ con daysOfCentury) tt
-
-  not-after : after ≼ day → ⊥
-  unfolding isFinite le neg add sub ofBits round
-  not-after h =
-      le-trans (after ⊖ epoch) (day ⊖ epoch) daysAround
-      (sub-mono binary64 after day epoch epoch tt (finite-day day none) finite-epoch finite-epoch h (le-refl epoch finite-epoch)) (from-epoch .to)
-
-  not-before : day ≼ before → ⊥
-  unfolding isFinite le neg add sub ofBits round
-  not-before h =
-      le-trans (neg daysAround) (day ⊖ epoch) (before ⊖ epoch) (from-epoch .from)
-      (sub-mono binary64 day before epoch epoch (finite-day day none) tt finite-epoch finite-epoch h (le-refl epoch finite-epoch))
-
-  pub day-between : Between before after day
-  day-between =
-      let F = finite-day day none in
-      let B : Finite before = unfold isFinite round in tt in
-      let A : Finite after = unfold isFinite round in tt in
-      between B A (elim (le-total before day B F) [ inl h ↦ h | inr h ↦ absurd (not-before h) ])
-      (elim (le-total day after F A) [ inl h ↦ h | inr h ↦ absurd (not-after h) ])
+  century-within = bounded binary64 (neg (over 20 1)) (over 20 1) (known (from-epoch day none) ⧄ con daysOfCentury) tt
 
   pub fk4-century-within : Within 41 (fk4Century day)
   unfolding isFinite le neg add sub div ofBits round
-  fk4-century-within = bounded binary64 (neg (over 41 1)) (over 41 1) ((known day-between ⊟ con n2415020·3135) ⧄ con n36524·2199) tt
+  fk4-century-within = bounded binary64 (neg (over 41 1)) (over 41 1) ((known (day-between day none) ⊟ con n2415020·3135) ⧄ con n36524·2199) tt
 
 module _ (day1 day2 : Float) (none : daysRefusal day1 day2 ≡ 0) where
   pub first-accepted : dayRefusal day1 ≡ 0
@@ -90,6 +57,50 @@ module _ (day1 day2 : Float) (none : daysRefusal day1 day2 ≡ 0) where
   fk4-span-within =
       bounded binary64 (neg (over 41 1)) (over 41 1)
       ((known (day-between day2 second-accepted) ⊟ known (day-between day1 first-accepted)) ⧄ con n36524·2199) tt
+
+-- ---- the days' own ends, and the doubles before the first and after the last, which are refused
+
+abbrev firstDay : Float
+firstDay = over 1721045 1
+
+abbrev beforeFirst : Float
+beforeFirst = grid binary64 31 (1721045 * 2 ^ 32 - 1)
+
+abbrev lastDay : Float
+lastDay = over 3182045 1
+
+abbrev afterLast : Float
+afterLast = grid binary64 30 (suc (3182045 * 2 ^ 31))
+
+module _ (day : Float) (F : T (fits binary64 day)) (none : dayRefusal day ≡ 0) where
+  not-after : afterLast ≼ day → ⊥
+  unfolding isFinite le neg add sub ofBits round
+  not-after h =
+      le-trans (afterLast ⊖ epoch) (day ⊖ epoch) daysAround
+      (sub-mono binary64 afterLast day epoch epoch tt (finite-day day none) tt tt h (le-refl epoch tt)) (from-epoch day none .to)
+
+  not-before : day ≼ beforeFirst → ⊥
+  unfolding isFinite le neg add sub ofBits round
+  not-before h =
+      le-trans (neg daysAround) (day ⊖ epoch) (beforeFirst ⊖ epoch) (from-epoch day none .from)
+      (sub-mono binary64 day beforeFirst epoch epoch (finite-day day none) tt tt tt h (le-refl epoch tt))
+
+  pub day-exact : Between firstDay lastDay day
+  unfolding isFinite le round
+  day-exact =
+      let finite = finite-day day none in
+      let from = neighbours 31 (1721045 * 2 ^ 32 - 1) (omega arith) day F finite in
+      let to = neighbours 30 (3182045 * 2 ^ 31) (omega arith) day F finite in
+      between tt tt
+      (elim from [ inl h ↦ absurd (not-before h) | inr h ↦ le-trans firstDay (grid binary64 31 (1721045 * 2 ^ 32)) day tt h ])
+      (elim to [ inl h ↦ le-trans day (grid binary64 30 (3182045 * 2 ^ 31)) lastDay h tt | inr h ↦ absurd (not-after h) ])
+
+pub years-exact : (day1 day2 : Float) → T (fits binary64 day1) → T (fits binary64 day2) → daysRefusal day1 day2 ≡ 0
+    → Within 4000 (yearsBetween day1 day2)
+unfolding isFinite le neg add sub div ofBits round
+years-exact day1 day2 F G none =
+    bounded binary64 (neg (over 4000 1)) (over 4000 1)
+    ((known (day-exact day2 G (second-accepted day1 day2 none)) ⊟ known (day-exact day1 F (first-accepted day1 day2 none))) ⧄ con daysOfYear) tt
 
 -- a place with two days
 pub place-accepted : (long lat : Rad) (day1 day2 : Float) → placeRefusal long lat day1 day2 ≡ 0

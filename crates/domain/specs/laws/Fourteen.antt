@@ -1,7 +1,7 @@
 -- Every function whose work can meet 14 does so at the input stated: there it has no direction to give.
 use mathlib.Core.Path.{_≡_, refl}
 use mathlib.Core.Bool.{Bool, true, false}
-use lib.IntN.{negsuc}
+use lib.IntN.{pos, negsuc}
 use lib.Ieee.{Float}
 use Rattle.double.specs.rules.Operations.{bits, zero}
 use Rattle.double.specs.notions.Stated.{minusZero}
@@ -25,7 +25,7 @@ use Rattle.chain.specs.rules.Chain.{chainRule}
 use Rattle.chain.specs.notions.Computed.{computed}
 use Rattle.list.specs.declared.Star.{Star}
 use Rattle.list.specs.rules.Record.{inRange}
-use Rattle.batch.specs.rules.Star.{starRule}
+use Rattle.batch.specs.rules.Star.{starRefusal, starRule}
 
 abbrev zeroOf : Bool → Float
 zeroOf true = minusZero
@@ -94,10 +94,10 @@ chain-meets-fourteen Published = refl
 
 -- of a list's star in the crate's edition, from 3178490.5 to 1770538.0069913559: the batch stores 14
 abbrev star : Star
-star = record { number = 7; asc = 90561088; dec = negsuc 247842963 }
+star = record { number = 7; asc = 90561088; dec = negsuc 247842963; «asc_rate» = pos 0; «dec_rate» = pos 0 }
 
 pub star-meets-fourteen : starRule Crate star (bits 0x41483ffd40000000) (bits 0x413b042a01ca2f7d) ≡ refused 14
-unfolding computed starRule inRange
+unfolding computed starRule starRefusal inRange
 star-meets-fourteen = refl
 
 -- of the FK4 system from the epoch: to a century before it in the crate's edition, to 2468438.1875 in the published one

@@ -5,7 +5,7 @@ use mathlib.Core.Logic.{inl, inr}
 use lib.Dec.{T}
 use lib.IntN.{pos}
 use lib.Ieee.{Float, binary64, neg, fits}
-use Rattle.double.specs.rules.Operations.{bits, zero, half, _⊗_}
+use Rattle.double.specs.rules.Operations.{bits, zero, half, one, _⊗_}
 use Rattle.double.specs.rules.Sign.{size}
 use Rattle.double.specs.rules.Order.{_≼_, Finite, Between}
 use Rattle.double.specs.rules.Table.{over}
@@ -38,10 +38,10 @@ use Rattle.chain.specs.notions.Computed.{computed}
 use Rattle.chain.specs.notions.Still.{still}
 use Rattle.list.specs.declared.Star.{Star}
 use Rattle.list.specs.rules.Record.{quarter, inRange}
-use Rattle.batch.specs.rules.Star.{starUnder}
+use Rattle.batch.specs.rules.Star.{starRefusal, starUnder}
 use Rattle.domain_accepted.specs.notions.Within.{Within}
 use Rattle.domain.specs.notions.Nutation.{Moon, MoonNear}
-use Rattle.domain.specs.notions.Wrong.{StatusFiveForFour}
+use Rattle.domain.specs.notions.Wrong.{StatusFiveForFour, StatusThreeLeftOut}
 
 -- 15.0 times the greatest double is infinite
 pub hours-not-divided-excluded : ¬ ((x : Float) → T (fits binary64 x) → Finite x → Finite (degreesOfHour ⊗ x))
@@ -102,12 +102,25 @@ nutation-sums-are-zero-excluded wrong =
 
 -- a star at the pole under a night in which nothing moves: 4
 abbrev pole : Star
-pole = record { number = 0; asc = 0; dec = pos quarter }
+pole = record { number = 0; asc = 0; dec = pos quarter; «asc_rate» = pos 0; «dec_rate» = pos 0 }
 
-pub status-five-for-four-excluded : ¬ StatusFiveForFour (statusOf (starUnder pole (still 0)))
-unfolding computed starUnder inRange
+pub status-five-for-four-excluded : ¬ StatusFiveForFour (statusOf (starUnder pole (still 0) zero))
+unfolding computed starUnder starRefusal inRange
 status-five-for-four-excluded (inl e) = apart ofNumber refl e
 status-five-for-four-excluded (inr (inl e)) = apart ofNumber refl e
 status-five-for-four-excluded (inr (inr (inl e))) = apart ofNumber refl e
 status-five-for-four-excluded (inr (inr (inr (inl e)))) = apart ofNumber refl e
-status-five-for-four-excluded (inr (inr (inr (inr e)))) = apart ofNumber refl e
+status-five-for-four-excluded (inr (inr (inr (inr (inl e))))) = apart ofNumber refl e
+status-five-for-four-excluded (inr (inr (inr (inr (inr e))))) = apart ofNumber refl e
+
+-- the pole's star past it a year later: 3
+abbrev pastThePole : Star
+pastThePole = record { number = 0; asc = 0; dec = pos quarter; «asc_rate» = pos 0; «dec_rate» = pos 1 }
+
+pub status-three-left-out-excluded : ¬ StatusThreeLeftOut (statusOf (starUnder pastThePole (still 0) one))
+unfolding computed starUnder starRefusal inRange
+status-three-left-out-excluded (inl e) = apart ofNumber refl e
+status-three-left-out-excluded (inr (inl e)) = apart ofNumber refl e
+status-three-left-out-excluded (inr (inr (inl e))) = apart ofNumber refl e
+status-three-left-out-excluded (inr (inr (inr (inl e)))) = apart ofNumber refl e
+status-three-left-out-excluded (inr (inr (inr (inr e)))) = apart ofNumber refl e

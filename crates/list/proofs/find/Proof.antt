@@ -1,14 +1,13 @@
 -- `list::find` meets its contract: at each return the tests that led there say which case of the rule holds.
 use borrow.Author.Tests.{lt-ltb, le-ltb, not-true, not-false}
 use mathlib.Core.Path.{_≡_, sym, ap, _∙_}
-use mathlib.Core.Bool.{Bool, true, cond}
+use mathlib.Core.Bool.{Bool, true, false, cond}
 use mathlib.Core.List.{List}
 use Prim.Native.Nat.{ℕ, _≤_, _<_}
 use native.Mathlib.Omega.{arith}
-use lib.IntN.{ℤ}
 use Rattle.double.specs.laws.Calls.{asks-nothing}
 use Rattle.quantity.specs.rules.Answer.{answered, refused}
-use Rattle.signed.specs.laws.Signed.{signed-word}
+use Rattle.list.specs.rules.Record.{inRange}
 use Rattle.list.specs.rules.Stars.{isList, stars, countOf, nth}
 use Rattle.list.specs.laws.Stars.{length-stars}
 use Rattle.list.specs.rules.Find.{indexOf, entry, findRule}
@@ -45,21 +44,15 @@ module _ (c : tie.After-nth) where
       (c .nth .result)
       (c .nth .ensures)
 
+-- what is answered of it, as its range was tested
+tested : (i : ℕ) (r : Star) (b : Bool) → b ≡ inRange r → cond b (answered (record { index = i; star = r })) (refused 9) ≡ entry i r
+tested i r b e = ap (λ (t : Bool). cond t (answered (record { index = i; star = r })) (refused 9)) e
+
 returns-3 : tie.Need-returns-3
-returns-3 c =
-    let at-star = c .before .before .before in
-    let i = at-star .before .before .before .index-of .result in
-    let r = at-star .nth .result in
-    ap (λ (z : ℤ). answered (record { index = i; asc = r .asc; dec = z })) (signed-word (r .dec) (c .struct-told .given .1 .1 .0 .1))
-    ∙ ap (λ (b : Bool). cond b (answered (record { index = i; asc = r .asc; dec = r .dec })) (refused 9)) (sym (c .before .if3 .taken) ∙ c .before .before .in-range .ensures)
-    ∙ found at-star
+returns-3 c = tested _ _ true (sym (c .if3 .taken) ∙ c .before .in-range .ensures) ∙ found (c .before .before)
 
 returns-4 : tie.Need-returns-4
-returns-4 c =
-    let at-star = c .before .before in
-    let i = at-star .before .before .before .index-of .result in
-    let r = at-star .nth .result in
-    ap (λ (b : Bool). cond b (answered (record { index = i; asc = r .asc; dec = r .dec })) (refused 9)) (sym (c .if3 .left) ∙ c .before .in-range .ensures) ∙ found at-star
+returns-4 c = tested _ (c .before .before .nth .result) false (sym (c .if3 .left) ∙ c .before .in-range .ensures) ∙ found (c .before .before)
 
 pub find-spec : {M : Type 1} → statement M
 find-spec = tie.close (tie.spec asks-nothing returns asks-nothing asks-nothing returns-2 asks-nothing asks-nothing returns-3 returns-4)

@@ -23,7 +23,7 @@ same-entry : (x y : Entry) → answered x ≡ answered y → x ≡ y
 same-entry x y e = cc
 
 pub found-loses-nothing : (r s : Found) → shownFound r ≡ shownFound s → r ≡ s
-found-loses-nothing (found.At i a d) (found.At j b e) p = ap (λ (x : Entry). found.At (x .index) (x .asc) (x .dec)) (same-entry _ _ p)
-found-loses-nothing (found.At i a d) (found.Refused n) p = cc
-found-loses-nothing (found.Refused m) (found.At j b e) p = cc
+found-loses-nothing (found.At i a) (found.At j b) p = ap (λ (x : Entry). found.At (x .index) (x .star)) (same-entry _ _ p)
+found-loses-nothing (found.At i a) (found.Refused n) p = cc
+found-loses-nothing (found.Refused m) (found.At j b) p = cc
 found-loses-nothing (found.Refused m) (found.Refused n) p = cc

@@ -4,7 +4,7 @@ use Prim.Native.Nat.{ℕ, suc, _*_}
 use mathlib.Core.Path.{_≡_, refl}
 use mathlib.Core.List.{List, [], _∷_, _++_}
 use std.Logic.{_≢_}
-use lib.IntN.{pos}
+use lib.IntN.{pos, negsuc, natAbs}
 use lib.ListN.{length}
 use Rattle.double.specs.notions.Code.{ofFlag, ofNumber}
 use Rattle.double.specs.laws.Apart.{apart}
@@ -13,14 +13,15 @@ use Rattle.quantity.specs.notions.Varies.{Varies}
 use Rattle.lent.specs.rules.Rows.{upto}
 use Rattle.lent.specs.notions.Code.{ofBytes}
 use Rattle.list.specs.declared.Star.{Star}
-use Rattle.list.specs.rules.Record.{width, turn, inRange, wordBytes, starBytes}
-use Rattle.list.specs.rules.Stars.{mostStars, isList, countOf, nought}
+use Rattle.list.specs.rules.Record.{width, starAt, turn, fastest, inRange, wordBytes, starBytes}
+use Rattle.list.specs.rules.Stars.{mostStars, isList, countOf, nought, nth}
 use Rattle.list.specs.rules.Reader.{readRule}
 use Rattle.list.specs.rules.Writer.{recordText}
 use Rattle.list.specs.rules.Find.{findRule}
 use Rattle.list.specs.notions.Code.{ofItem, ofEntry}
 use Rattle.list.specs.notions.Computed.{computed}
 use Rattle.list.specs.notions.Wrong.{wholeTurnInRange, oneStarTooMany, partRecordsCounted, endRefused, bigEndianRead, nextWithinRecord}
+use Rattle.list.specs.notions.Wrong.{firstStarRepeated, fasterInRange, decRateUntested, twelveForTwenty, ratesTraded, ratesWithoutSign, ratesWrittenTraded}
 use Rattle.list.specs.notions.Wrong.{bigEndianWritten, numberWrittenTwice, outOfRangePut}
 use Rattle.list.specs.notions.Wrong.{putWithinRecord, putPastTheLast, eightBeforeNine, lastNumberFound, nineBeforeTen}
 
@@ -29,16 +30,36 @@ abbrev zeros : ℕ → List ℕ
 zeros n = upto (width * n) (λ (i : ℕ). 0)
 
 abbrev star1 : List ℕ
-star1 = 1 ∷ upto 11 (λ (i : ℕ). 0)
+star1 = 1 ∷ upto 19 (λ (i : ℕ). 0)
 
 -- ---- a star, and a list
 
+-- a star with one field that is not zero
+abbrev numbered : ℕ → Star
+numbered n = record { number = n; asc = 0; dec = pos 0; «asc_rate» = pos 0; «dec_rate» = pos 0 }
+
 abbrev onTurn : Star
-onTurn = record { number = 0; asc = turn; dec = pos 0 }
+onTurn = record { number = 0; asc = turn; dec = pos 0; «asc_rate» = pos 0; «dec_rate» = pos 0 }
+
+abbrev tooFast : Star
+tooFast = record { number = 0; asc = 0; dec = pos 0; «asc_rate» = pos 0; «dec_rate» = negsuc fastest }
 
 pub whole-turn-in-range-excluded : wholeTurnInRange onTurn ≢ inRange onTurn
 unfolding computed
 whole-turn-in-range-excluded = apart ofFlag refl
+
+pub faster-in-range-excluded : fasterInRange tooFast ≢ inRange tooFast
+unfolding computed
+faster-in-range-excluded = apart ofFlag refl
+
+pub dec-rate-untested-excluded : decRateUntested tooFast ≢ inRange tooFast
+unfolding computed
+dec-rate-untested-excluded = apart ofFlag refl
+
+-- of any bytes for one star of before
+pub twelve-for-twenty-excluded : (s : List ℕ) → length s ≡ 12 → twelveForTwenty s ≢ isList s
+unfolding computed
+twelve-for-twenty-excluded s h = rw h (apart ofFlag refl)
 
 -- of any bytes for one star more than a list may have
 pub one-star-too-many-excluded : (s : List ℕ) → length s ≡ width * suc mostStars → oneStarTooMany s ≢ isList s
@@ -48,6 +69,10 @@ one-star-too-many-excluded s h = rw h (apart ofFlag refl)
 pub part-records-counted-excluded : partRecordsCounted (zeros 1) ≢ countOf (zeros 1)
 unfolding computed
 part-records-counted-excluded = apart ofNumber refl
+
+pub first-star-repeated-excluded : firstStarRepeated (zeros 1 ++ star1) 1 ≢ nth (zeros 1 ++ star1) 1
+unfolding computed
+first-star-repeated-excluded = apart (λ (r : Star). r .number) refl
 
 -- ---- the reader
 
@@ -67,17 +92,33 @@ pub next-within-record-excluded : nextWithinRecord star1 0 ≢ readRule star1 0
 unfolding computed
 next-within-record-excluded = apart (ofAnswer ofItem) refl
 
+-- rates of −1 and 0, and what is read of them
+abbrev star2 : List ℕ
+star2 = upto 12 (λ (i : ℕ). 0) ++ upto 4 (λ (i : ℕ). 255) ++ upto 4 (λ (i : ℕ). 0)
+
+pub rates-traded-excluded : ratesTraded star2 0 ≢ starAt star2 0
+unfolding computed
+rates-traded-excluded = apart (λ (r : Star). natAbs (r .«asc_rate»)) refl
+
+pub rates-without-sign-excluded : ratesWithoutSign star2 0 ≢ starAt star2 0
+unfolding computed
+rates-without-sign-excluded = apart (λ (r : Star). natAbs (r .«asc_rate»)) refl
+
 -- ---- the writer
 
 pub big-endian-written-excluded : bigEndianWritten 1 ≢ wordBytes 1
 unfolding computed
 big-endian-written-excluded = apart ofBytes refl
 
-pub number-written-twice-excluded : numberWrittenTwice (record { number = 7; asc = 0; dec = pos 0 }) ≢ starBytes (record { number = 7; asc = 0; dec = pos 0 })
+pub number-written-twice-excluded : numberWrittenTwice (numbered 7) ≢ starBytes (numbered 7)
 unfolding computed
 number-written-twice-excluded = apart ofBytes refl
 
-pub record-varies : Varies (recordText 0 nought) (recordText 0 (record { number = 7; asc = 0; dec = pos 0 }))
+pub rates-written-traded-excluded : ratesWrittenTraded tooFast ≢ starBytes tooFast
+unfolding computed
+rates-written-traded-excluded = apart ofBytes refl
+
+pub record-varies : Varies (recordText 0 nought) (recordText 0 (numbered 7))
 unfolding computed
 record-varies = record { here = refl; there = refl; apart = apart (ofAnswer ofBytes) refl }
 

@@ -3,12 +3,12 @@ use Prim.Native.Nat.{ℕ, suc, _+_, _*_, _/_, _%_}
 use mathlib.Core.Bool.{Bool, cond, _&&_}
 use mathlib.Core.List.{List, [], _∷_}
 use lib.Dec.{eqb, leb, ltb}
-use lib.IntN.{natAbs}
+use lib.IntN.{ℤ, pos, natAbs}
 use lib.ListN.{length, getD}
 use Rattle.quantity.specs.rules.Answer.{Answer, answered, refused}
 use Rattle.signed.specs.rules.Signed.{wordOf, signedOf}
 use Rattle.list.specs.declared.Star.{Star}
-use Rattle.list.specs.rules.Record.{width, starAt, turn, quarter, inRange, wordsBytes, starBytes}
+use Rattle.list.specs.rules.Record.{width, wordAt, starAt, turn, quarter, fastest, inRange, wordsBytes, starBytes}
 use Rattle.list.specs.rules.Stars.{mostStars, isList, stars, nth}
 use Rattle.list.specs.rules.Reader.{Item, item, none, isOffset}
 use Rattle.list.specs.rules.Writer.{isStart}
@@ -16,9 +16,24 @@ use Rattle.list.specs.rules.Find.{Entry, indexOf, entry, entryAt}
 
 -- ---- a star, and a list
 
+abbrev ratesWithin : ℕ → Star → Bool
+ratesWithin most r = leb (natAbs (r .«asc_rate»)) most && leb (natAbs (r .«dec_rate»)) most
+
 -- a whole turn itself
 abbrev pub wholeTurnInRange : Star → Bool
-wholeTurnInRange r = leb (r .asc) turn && leb (natAbs (r .dec)) quarter
+wholeTurnInRange r = leb (r .asc) turn && (leb (natAbs (r .dec)) quarter && ratesWithin fastest r)
+
+-- a yearly change of 20001
+abbrev pub fasterInRange : Star → Bool
+fasterInRange r = ltb (r .asc) turn && (leb (natAbs (r .dec)) quarter && ratesWithin (suc fastest) r)
+
+-- one rate alone
+abbrev pub decRateUntested : Star → Bool
+decRateUntested r = ltb (r .asc) turn && (leb (natAbs (r .dec)) quarter && leb (natAbs (r .«asc_rate»)) fastest)
+
+-- records of before, without rates
+abbrev pub twelveForTwenty : List ℕ → Bool
+twelveForTwenty s = leb (length s) (12 * mostStars) && eqb (length s % 12) 0
 
 abbrev pub oneStarTooMany : List ℕ → Bool
 oneStarTooMany s = leb (length s) (width * suc mostStars) && eqb (length s % width) 0
@@ -26,6 +41,10 @@ oneStarTooMany s = leb (length s) (width * suc mostStars) && eqb (length s % wid
 -- the bytes after the last whole record
 abbrev pub partRecordsCounted : List ℕ → ℕ
 partRecordsCounted s = length s % width
+
+-- the first star, whatever the index
+abbrev pub firstStarRepeated : List ℕ → ℕ → Star
+firstStarRepeated s i = nth s 0
 
 -- ---- the reader
 
@@ -54,7 +73,30 @@ abbrev pub bigEndianRead : List ℕ → ℕ → Answer Item
 bigEndianRead =
     reading isOffset
     (λ (s : List ℕ) (at : ℕ).
-    record { number = bigEndian s at; asc = bigEndian s (at + 4); dec = signedOf (bigEndian s (at + 8)) })
+    record {
+      number = bigEndian s at;
+      asc = bigEndian s (at + 4);
+      dec = signedOf (bigEndian s (at + 8));
+      «asc_rate» = signedOf (bigEndian s (at + 12));
+      «dec_rate» = signedOf (bigEndian s (at + 16));
+    })
+
+-- with other rates
+abbrev rated : (List ℕ → ℕ → ℤ) → (List ℕ → ℕ → ℤ) → List ℕ → ℕ → Star
+rated ascRate decRate s at =
+    record {
+      number = wordAt s at;
+      asc = wordAt s (at + 4);
+      dec = signedOf (wordAt s (at + 8));
+      «asc_rate» = ascRate s at;
+      «dec_rate» = decRate s at;
+    }
+
+abbrev pub ratesTraded : List ℕ → ℕ → Star
+ratesTraded = rated (λ (s : List ℕ) (at : ℕ). signedOf (wordAt s (at + 16))) (λ (s : List ℕ) (at : ℕ). signedOf (wordAt s (at + 12)))
+
+abbrev pub ratesWithoutSign : List ℕ → ℕ → Star
+ratesWithoutSign = rated (λ (s : List ℕ) (at : ℕ). pos (wordAt s (at + 12))) (λ (s : List ℕ) (at : ℕ). pos (wordAt s (at + 16)))
 
 -- ---- the writer
 
@@ -63,7 +105,10 @@ abbrev pub bigEndianWritten : ℕ → List ℕ
 bigEndianWritten n = n / 16777216 ∷ n / 65536 % 256 ∷ n / 256 % 256 ∷ n % 256 ∷ []
 
 abbrev pub numberWrittenTwice : Star → List ℕ
-numberWrittenTwice r = wordsBytes (r .number ∷ r .number ∷ wordOf (r .dec) ∷ [])
+numberWrittenTwice r = wordsBytes (r .number ∷ r .number ∷ wordOf (r .dec) ∷ wordOf (r .«asc_rate») ∷ wordOf (r .«dec_rate») ∷ [])
+
+abbrev pub ratesWrittenTraded : Star → List ℕ
+ratesWrittenTraded r = wordsBytes (r .number ∷ r .asc ∷ wordOf (r .dec) ∷ wordOf (r .«dec_rate») ∷ wordOf (r .«asc_rate») ∷ [])
 
 abbrev pub outOfRangePut : ℕ → Star → Answer (List ℕ)
 outOfRangePut at r = cond (isStart at) (answered (starBytes r)) (refused 8)

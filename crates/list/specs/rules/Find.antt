@@ -3,7 +3,6 @@ use Prim.Native.Nat.{ℕ, suc}
 use mathlib.Core.Bool.{cond}
 use mathlib.Core.List.{List, [], _∷_}
 use lib.Dec.{eqb, ltb}
-use lib.IntN.{ℤ}
 use lib.ListN.{length, getD}
 use Rattle.quantity.specs.rules.Answer.{Answer, answered, refused}
 use Rattle.list.specs.rules.Record.{inRange}
@@ -12,14 +11,13 @@ use Rattle.list.specs.declared.Star.{Star}
 use Rattle.list.specs.declared.Found.{Found}
 use Rattle.list.specs.declared.Found.the-variants.{At, Refused}
 
--- a found star: its index, and the record's other fields
+-- a found star, and its index
 pub record Entry : Type 0 where
   pub index : ℕ
-  pub asc : ℕ
-  pub dec : ℤ
+  pub star : Star
 
 abbrev pub shownFound : Found → Answer Entry
-shownFound (At i asc dec) = answered (record { index = i; asc = asc; dec = dec })
+shownFound (At i r) = answered (record { index = i; star = r })
 shownFound (Refused n) = refused n
 
 -- the index of the first star with the number, or how many there are where none has it
@@ -29,7 +27,7 @@ indexOf number (r ∷ rs) = cond (eqb (r .number) number) 0 (suc (indexOf number
 
 -- the star itself, at index i
 abbrev pub entry : ℕ → Star → Answer Entry
-entry i r = cond (inRange r) (answered (record { index = i; asc = r .asc; dec = r .dec })) (refused 9)
+entry i r = cond (inRange r) (answered (record { index = i; star = r })) (refused 9)
 
 abbrev pub entryAt : List Star → ℕ → Answer Entry
 entryAt rs i = cond (ltb i (length rs)) (entry i (getD rs i nought)) (refused 10)

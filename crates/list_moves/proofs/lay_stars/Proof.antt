@@ -14,13 +14,13 @@ use Rattle.list_moves.proofs.lay_stars.Statement.{statement}
 use Rattle.list_moves.proofs.lay_stars.Tie as tie
 
 abbrev Inv-loop : tie.InvT-loop
-Inv-loop out₀ bytes n first p₀ offset₀ i₀ out p offset i = Laying out₀ bytes n first out p offset i
+Inv-loop out₀ bytes n first moving p₀ offset₀ i₀ out p offset i = Laying out₀ bytes moving n first out p offset i
 
 abbrev μ-loop : tie.MeasureT-loop
-μ-loop out₀ bytes n first p₀ offset₀ i₀ out p offset i = n - i
+μ-loop out₀ bytes n first moving p₀ offset₀ i₀ out p offset i = n - i
 
 loop-holds : tie.Need-loop-holds Inv-loop μ-loop
-loop-holds c = begin _ _ _ _
+loop-holds c = begin _ _ _ _ _
 
 enum-told : tie.Need-enum-told Inv-loop μ-loop
 enum-told c = search needs
@@ -30,8 +30,8 @@ same-length c = length-kept (c .before .before .before .before .loop .inv .wrote
 
 returns : tie.Need-returns Inv-loop μ-loop
 returns c =
-    stops _ _ _ _ _ _ _ _ (c .before .before .before .before .loop .inv) _
-    (not-found readStar _ _ _ (sym (ap shownReceived (c .enum-told .given .1)) ∙ c .before .before .star-from .ensures))
+    stops _ _ _ _ _ _ _ _ _ (c .before .before .before .before .loop .inv) _
+    (not-found (readStar _) _ _ _ (sym (ap shownReceived (c .enum-told .given .1)) ∙ c .before .before .star-from .ensures))
 
 enum-known-star : tie.Need-enum-known-star Inv-loop μ-loop
 enum-known-star c = search needs
@@ -45,15 +45,15 @@ loop-less c = omega arith
 loop-again : tie.Need-loop-again Inv-loop μ-loop
 loop-again c =
     let star = c .before .before .before .before .before in
-    on _ _ _ _ _ _ _ _ (star .before .before .before .before .loop .inv) _ _ _ _ (omega arith)
-    (found readStar _ _ star-leaves-tail _ _ (sym (ap shownReceived (star .star .given .1)) ∙ star .before .before .star-from .ensures) .read-so)
+    on _ _ _ _ _ _ _ _ _ (star .before .before .before .before .loop .inv) _ _ _ _ (omega arith)
+    (found (readStar _) _ _ (star-leaves-tail _) _ _ (sym (ap shownReceived (star .star .given .1)) ∙ star .before .before .star-from .ensures) .read-so)
     (c .before .before .write-star .ensures)
 
 same-length-2 : tie.Need-same-length-2 Inv-loop μ-loop
 same-length-2 c = length-kept (c .before .loop .inv .wrote)
 
 returns-2 : tie.Need-returns-2 Inv-loop μ-loop
-returns-2 c = ends _ _ _ _ _ _ _ _ (c .before .loop .inv) (omega arith)
+returns-2 c = ends _ _ _ _ _ _ _ _ _ (c .before .loop .inv) (omega arith)
 
 pub lay-stars-spec : {M : Type 1} → statement M
 lay-stars-spec =

@@ -17,7 +17,7 @@ use Rattle.list_groups.specs.rules.Groups.{groups}
 use Rattle.list_groups.specs.laws.Length.{at-most-five}
 use Rattle.list_radio.specs.rules.Star.{starGroups}
 use Rattle.list_radio.specs.rules.Radio.{headBytes, radioBytes}
-use Rattle.list_radio.specs.laws.Room.{fifteen-a-star}
+use Rattle.list_radio.specs.laws.Room.{twenty-five-a-star}
 use Rattle.lent.specs.rules.Put.{shownWritten}
 use Rattle.lent.specs.laws.Put.{put-refused, no-room, puts}
 use Rattle.list_moves.specs.laws.Moves.{no-list, no-size, Sized, sized, length-radio}
@@ -64,7 +64,7 @@ cast-n c = let l = list (c .before .before) in omega (arith, c .count .ensures, 
 small : (c : tie.After-size) → c .size .given .0 .0 ≤ 75000
 small c =
     let s = start (list c) .args .bytes .now in
-    omega (arith, good c .is, fifteen-a-star (stars s), length-stars s, few s (is-one (list c)))
+    omega (arith, good c .is, twenty-five-a-star (stars s), length-stars s, few s (is-one (list c)))
 
 add-if2 : tie.Need-add-if2
 add-if2 c = omega (arith, c .count2 .ensures, at-most-five (c .before .count .result))

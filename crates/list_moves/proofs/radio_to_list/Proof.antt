@@ -30,14 +30,15 @@ mul-if1 c = search needs
 
 -- the whole list is good
 abbrev head : tie.After-m → tie.After-n
-head c = c .before .before .before .before
+head c = c .before .before .before .before .before
 
 abbrev start : tie.After-n → tie.Start
 start c = c .before .before .before .before .before
 
-good : (c : tie.After-m) → AllRead (start (head c) .args .bytes .now) (head c .n .given .0 .0) (head c .n .given .0 .1 .0) (c .m .given .0 .0)
+good : (c : tie.After-m) → AllRead (start (head c) .args .bytes .now) (c .before .before .before .is-moving .result) (head c .n .given .0 .0) (head c .n .given .0 .1 .0) (c .m .given .0 .0)
 good c =
     all-stars _ _ _ (sym (ap shownOpened (head c .n .given .1)) ∙ head c .before .before .open .ensures) _
+    (c .before .before .before .is-moving .ensures) _
     (sym (ap shownAccepted (c .m .given .1)) ∙ c .before .before .check-stars .ensures)
 
 returns : tie.Need-returns
@@ -49,9 +50,10 @@ returns-2 c = put-refused _ _ _ _ (no-head _ _ (sym (ap shownOpened (c .before .
 returns-3 : tie.Need-returns-3
 returns-3 c =
     let bad = c .before in
-    let n = bad .before .before .before .before in
+    let by = bad .before .before .before in
+    let n = by .before .before in
     put-refused _ _ _ _
-    (no-stars _ _ _ (sym (ap shownOpened (n .n .given .1)) ∙ n .before .before .open .ensures) _ (sym (ap shownAccepted (bad .k2 .given .1)) ∙ bad .before .before .check-stars .ensures))
+    (no-stars _ _ _ (sym (ap shownOpened (n .n .given .1)) ∙ n .before .before .open .ensures) _ (by .is-moving .ensures) _ (sym (ap shownAccepted (bad .k2 .given .1)) ∙ bad .before .before .check-stars .ensures))
 
 same-length : tie.Need-same-length
 same-length c = length-kept (c .before .before .lay-stars .ensures)
@@ -69,6 +71,7 @@ radio-to-list-spec =
     asks-nothing
     enum-known-k
     enum-known-n
+    asks-nothing
     asks-nothing
     enum-known-k-2
     enum-known-m

@@ -4,7 +4,7 @@ use mathlib.Core.Path.{sym, _∙_}
 use Prim.Native.Nat.{_-_}
 use native.Mathlib.Omega.{arith}
 use Rattle.double.specs.laws.Calls.{asks-nothing}
-use Rattle.list_radio.specs.laws.Star.{at-most-fifteen}
+use Rattle.list_radio.specs.laws.Star.{at-most-twenty-five}
 use Rattle.list_moves.proofs.Measuring.{Measuring, begin, bounded, out-of-range, on, measured}
 use Rattle.list_moves.proofs.stars_size.Statement.{statement}
 use Rattle.list_moves.proofs.stars_size.Tie as tie
@@ -26,7 +26,7 @@ returns c =
 add-size : tie.Need-add-size Inv-loop μ-loop
 add-size c =
     let pass = c .before .before .before in
-    omega (arith, bounded _ _ _ _ (pass .before .before .loop .inv), c .star-size .ensures, at-most-fifteen (pass .nth .result))
+    omega (arith, bounded _ _ _ _ (pass .before .before .loop .inv), c .star-size .ensures, at-most-twenty-five (pass .nth .result))
 
 add-i : tie.Need-add-i Inv-loop μ-loop
 add-i c = omega arith

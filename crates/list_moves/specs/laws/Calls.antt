@@ -14,12 +14,13 @@ use Rattle.lent.specs.declared.Written.the-variants.{To}
 use Rattle.lent.specs.rules.Put.{roomFor, laid, Put}
 use Rattle.lent.specs.laws.Put.{written-loses-nothing}
 use Rattle.list.specs.rules.Record.{width}
-use Rattle.list.specs.rules.Stars.{isList, stars, listBytes, Bytes}
+use Rattle.list.specs.rules.Stars.{isList, stars, listBytes, Bytes, allInRange}
 use Rattle.list.specs.laws.RoundTrips.{length-list}
-use Rattle.list_radio.specs.rules.Radio.{radioBytes, radioStars}
+use Rattle.list_radio.specs.rules.Radio.{radioBytes, isMoving, radioStars}
 use Rattle.list_radio.specs.rules.Reader.{acceptRule}
-use Rattle.list_moves.specs.rules.Moves.{toList, allInRange, toRadio}
-use Rattle.list_moves.specs.notions.Moves.{ThereAndBack, HasWritten, CalledThereAndBack}
+use Rattle.list_moves.specs.rules.Moves.{toList, toRadio}
+use Rattle.list.specs.notions.Moves.{ThereAndBack}
+use Rattle.list_moves.specs.notions.Moves.{HasWritten, CalledThereAndBack}
 use Rattle.list_moves.specs.laws.RoundTrips.{list-to-radio-and-back, radio-to-list-and-back}
 
 -- a text that has room is written
@@ -55,12 +56,12 @@ module _ (s old old′ : List ℕ) (y : Bytes s) (back : length s ≤ length old
       let goes : toRadio s ≡ answered (radioBytes (stars s)) = rw (l, r) in
       called toRadio toList s old old′ m (omega (arith, ap length (same-value (sym (m .goes) ∙ goes)))) back
 
-  -- any accepted radio list, of n stars
-  pub radio-called-to-list-and-back : (n : ℕ) → acceptRule s ≡ answered n → width * n ≤ length old
+  -- any accepted radio list that begins with byte 3, of n stars
+  pub radio-called-to-list-and-back : (n : ℕ) → isMoving s ≡ true → acceptRule s ≡ answered n → width * n ≤ length old
       → CalledThereAndBack toList toRadio s old old′
   unfolding toList acceptRule
-  radio-called-to-list-and-back n a there =
-      let m = radio-to-list-and-back s n y a in
+  radio-called-to-list-and-back n e a there =
+      let m = radio-to-list-and-back s n y e a in
       let c = changed (radioStars s) length n a in
       let goes : toList s ≡ answered (listBytes (c .value)) = ap (with listBytes) (c .first) in
       called toList toRadio s old old′ m

@@ -10,19 +10,20 @@ use Rattle.quantity.specs.notions.Varies.{Varies}
 use Rattle.lent.specs.rules.Put.{Put}
 use Rattle.lent.specs.declared.Written.the-variants.{To}
 use Rattle.lent.specs.notions.Code.{ofBytes}
+use Rattle.list_radio.specs.notions.Good.{formBytes}
 use Rattle.list_radio.specs.laws.Wrong.{twoStars}
 use Rattle.list_moves.specs.rules.Moves.{toList, toRadio}
 use Rattle.list_moves.specs.notions.Computed.{computed}
-use Rattle.list_moves.specs.notions.Wrong.{movesOutOfRange, nineBeforeEight, starsReversed}
+use Rattle.list_moves.specs.notions.Wrong.{movesOutOfRange, nineBeforeEight, starsReversed, byteTwoWritten, ratesDropped}
 
 -- a record whose right ascension is a whole turn, alone and with a byte over
 abbrev turnRecord : List ℕ
-turnRecord = 0x07 ∷ 0 ∷ 0 ∷ 0 ∷ 0x00 ∷ 0x64 ∷ 0x3f ∷ 0x4d ∷ 0 ∷ 0 ∷ 0 ∷ 0 ∷ []
+turnRecord = 0x07 ∷ 0 ∷ 0 ∷ 0 ∷ 0x00 ∷ 0x64 ∷ 0x3f ∷ 0x4d ∷ 0 ∷ 0 ∷ 0 ∷ 0 ∷ 0 ∷ 0 ∷ 0 ∷ 0 ∷ 0 ∷ 0 ∷ 0 ∷ 0 ∷ []
 
 abbrev zeroRecord : List ℕ
-zeroRecord = 0 ∷ 0 ∷ 0 ∷ 0 ∷ 0 ∷ 0 ∷ 0 ∷ 0 ∷ 0 ∷ 0 ∷ 0 ∷ 0 ∷ []
+zeroRecord = 0 ∷ 0 ∷ 0 ∷ 0 ∷ 0 ∷ 0 ∷ 0 ∷ 0 ∷ 0 ∷ 0 ∷ 0 ∷ 0 ∷ 0 ∷ 0 ∷ 0 ∷ 0 ∷ 0 ∷ 0 ∷ 0 ∷ 0 ∷ []
 
-pub to-list-varies : Varies (toList (0x02 ∷ 0x00 ∷ [])) (toList twoStars)
+pub to-list-varies : Varies (toList (0x03 ∷ 0x00 ∷ [])) (toList twoStars)
 unfolding computed
 to-list-varies = record { here = refl; there = refl; apart = apart (ofAnswer ofBytes) refl }
 
@@ -39,10 +40,18 @@ unfolding computed
 nine-before-eight-excluded = apart (ofAnswer ofBytes) refl
 
 -- the radio list of no star has two bytes, and one is put into a slice of one
-pub short-slice-written-excluded : ¬ Put (toRadio []) (0 ∷ []) 0 (2 ∷ []) (To 1)
+pub short-slice-written-excluded : ¬ Put (toRadio []) (0 ∷ []) 0 (3 ∷ []) (To 1)
 unfolding computed
 short-slice-written-excluded wrong = apart ofBytes refl (wrong .slice)
 
 pub stars-reversed-excluded : starsReversed twoStars ≢ toList twoStars
 unfolding computed
 stars-reversed-excluded = apart (ofAnswer ofBytes) refl
+
+pub byte-two-written-excluded : byteTwoWritten zeroRecord ≢ toRadio zeroRecord
+unfolding computed formBytes
+byte-two-written-excluded = apart (ofAnswer ofBytes) refl
+
+pub rates-dropped-excluded : ratesDropped twoStars ≢ toList twoStars
+unfolding computed
+rates-dropped-excluded = apart (ofAnswer ofBytes) refl

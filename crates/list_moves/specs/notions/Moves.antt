@@ -1,4 +1,4 @@
--- Bytes that move there and back.
+-- Bytes that move there and back, of the rules and of calls.
 use Prim.Native.Nat.{ℕ}
 use mathlib.Core.Path.{_≡_}
 use mathlib.Core.List.{List}
@@ -7,12 +7,16 @@ use Rattle.quantity.specs.rules.Answer.{Answer, answered}
 use Rattle.lent.specs.declared.Written.{Written}
 use Rattle.lent.specs.declared.Written.the-variants.{To}
 use Rattle.lent.specs.rules.Put.{Put}
+use Rattle.list.specs.declared.Star.{Star}
+use Rattle.list_radio.specs.rules.Radio.{radioBytes, radioStars}
+use Rattle.list_moves.specs.rules.Moves.{toRadio}
 
--- s moves there, and what it becomes moves back to s
-pub record ThereAndBack (there back : List ℕ → Answer (List ℕ)) (s : List ℕ) : Type 0 where
-  pub moved : List ℕ
-  pub goes : there s ≡ answered moved
-  pub returns : back moved ≡ answered s
+-- what was read of s, and moved to t, is written again as the radio list of the same stars
+pub record WrittenAgain (s t : List ℕ) : Type 0 where
+  pub rs : List Star
+  pub was : radioStars s ≡ answered rs
+  pub written : toRadio t ≡ answered (radioBytes rs)
+  pub same : radioStars (radioBytes rs) ≡ answered rs
 
 -- ---- of calls: what any call leaves and answers that keeps a mover's promise
 

@@ -1,12 +1,13 @@
 -- Wrong variants of the moves.
 use Prim.Native.Nat.{ℕ}
-use mathlib.Core.Bool.{cond}
-use mathlib.Core.List.{List, reverse}
+use mathlib.Core.Bool.{false, cond}
+use mathlib.Core.List.{List, reverse, map}
 use Rattle.quantity.specs.rules.Answer.{Answer, answered, refused, with}
 use Rattle.list.specs.declared.Star.{Star}
-use Rattle.list.specs.rules.Stars.{isList, stars, listBytes}
+use Rattle.list.specs.rules.Stars.{isList, stars, listBytes, allInRange}
+use Rattle.list_radio.specs.rules.Star.{starOf}
 use Rattle.list_radio.specs.rules.Radio.{radioBytes, radioStars}
-use Rattle.list_moves.specs.rules.Moves.{allInRange}
+use Rattle.list_radio.specs.notions.Good.{formNumbers, formBytes}
 
 -- a record out of range moved
 abbrev pub movesOutOfRange : List ℕ → Answer (List ℕ)
@@ -19,3 +20,12 @@ nineBeforeEight s = cond (allInRange (stars s)) (cond (isList s) (answered (radi
 -- the last star first
 abbrev pub starsReversed : List ℕ → Answer (List ℕ)
 starsReversed s = with (λ (rs : List Star). listBytes (reverse rs)) (radioStars s)
+
+-- the radio list of before: byte 2, and three numbers a star
+abbrev pub byteTwoWritten : List ℕ → Answer (List ℕ)
+byteTwoWritten s = cond (isList s) (cond (allInRange (stars s)) (answered (formBytes false (stars s))) (refused 9)) (refused 8)
+
+-- yearly changes that are read and not written
+abbrev pub ratesDropped : List ℕ → Answer (List ℕ)
+ratesDropped s =
+    with (λ (rs : List Star). listBytes (map (λ (r : Star). starOf (formNumbers false r)) rs)) (radioStars s)

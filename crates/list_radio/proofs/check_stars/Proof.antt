@@ -13,21 +13,21 @@ use Rattle.list_radio.proofs.check_stars.Statement.{statement}
 use Rattle.list_radio.proofs.check_stars.Tie as tie
 
 abbrev Inv-loop : tie.InvT-loop
-Inv-loop bytes n first p₀ i₀ p i = Checking bytes n first p i
+Inv-loop bytes n first moving p₀ i₀ p i = Checking bytes moving n first p i
 
 abbrev μ-loop : tie.MeasureT-loop
-μ-loop bytes n first p₀ i₀ p i = n - i
+μ-loop bytes n first moving p₀ i₀ p i = n - i
 
 loop-holds : tie.Need-loop-holds Inv-loop μ-loop
-loop-holds c = begin _ _ _
+loop-holds c = begin _ _ _ _
 
 enum-known-k : tie.Need-enum-known-k Inv-loop μ-loop
 enum-known-k c = search needs
 
 returns : tie.Need-returns Inv-loop μ-loop
 returns c =
-    star-bad _ _ _ _ _ (c .before .before .before .before .before .loop .inv) _ (omega arith)
-    (not-found readStar _ _ _ (sym (ap shownReceived (c .before .k .given .1)) ∙ c .before .before .before .star-from .ensures))
+    star-bad _ _ _ _ _ _ (c .before .before .before .before .before .loop .inv) (c .before .k .given .0 .0) (omega arith)
+    (not-found (readStar _) _ _ _ (sym (ap shownReceived (c .before .k .given .1)) ∙ c .before .before .before .star-from .ensures))
 
 enum-known-next : tie.Need-enum-known-next Inv-loop μ-loop
 enum-known-next c = search needs
@@ -40,14 +40,14 @@ loop-less c = omega arith
 
 loop-again : tie.Need-loop-again Inv-loop μ-loop
 loop-again c =
-    on _ _ _ _ _ (c .before .before .before .before .before .loop .inv) _ _ (omega arith)
-    (found readStar _ _ star-leaves-tail _ _ (sym (ap shownReceived (c .before .next .given .1)) ∙ c .before .before .before .star-from .ensures) .read-so)
+    on _ _ _ _ _ _ (c .before .before .before .before .before .loop .inv) (c .before .next .given .0 .0) (c .before .next .given .0 .1 .0) (omega arith)
+    (found (readStar _) _ _ (star-leaves-tail _) _ _ (sym (ap shownReceived (c .before .next .given .1)) ∙ c .before .before .before .star-from .ensures) .read-so)
 
 returns-2 : tie.Need-returns-2 Inv-loop μ-loop
-returns-2 c = bytes-over _ _ _ _ _ (c .before .before .loop .inv) (omega arith) (c .if1 .taken)
+returns-2 c = bytes-over _ _ _ _ _ _ (c .before .before .loop .inv) (omega arith) (c .if1 .taken)
 
 returns-3 : tie.Need-returns-3 Inv-loop μ-loop
-returns-3 c = all-good _ _ _ _ _ (c .before .before .loop .inv) (omega arith) (c .if1 .left)
+returns-3 c = all-good _ _ _ _ _ _ (c .before .before .loop .inv) (omega arith) (c .if1 .left)
 
 pub check-stars-spec : {M : Type 1} → statement M
 check-stars-spec =

@@ -1,16 +1,16 @@
--- `list_radio::star_from` meets its contract: what `number_at` says of each number, and the range after the last.
+-- `list_radio::star_from` meets its contract: what is said of the first three numbers, and of the two yearly changes.
 use borrow.Author.Needs.{needs}
+use borrow.Author.Tests.{not-true, not-false}
 use mathlib.Core.Path.{sym, ap, _∙_}
-use mir.Syntax.{w32}
-use mir.Facts.{toZ-ofZ}
+use mathlib.Core.List.{[], _∷_}
 use Rattle.double.specs.laws.Calls.{asks-nothing}
 use Rattle.list_groups.specs.rules.Reading.{readNumber}
-use Rattle.list_groups.specs.rules.Read.{shownRead}
+use Rattle.list_groups.specs.rules.Several.{readAll}
 use Rattle.list_groups.specs.notions.Tail.{Found}
-use Rattle.list_groups.specs.laws.Tails.{found, not-found, refuses, number-leaves-tail}
-use Rattle.list_radio.specs.rules.Star.{readStar}
-use Rattle.list_radio.specs.laws.Star.{first-refused, second-refused, third-refused, all-read}
-use Rattle.list_radio.proofs.Reading.{star-received, star-refused}
+use Rattle.list_groups.specs.laws.Tails.{found, not-found, number-leaves-tail}
+use Rattle.list_groups.specs.laws.Several.{all-leave-tail}
+use Rattle.list_radio.specs.rules.Reader.{shownPlace, shownRates}
+use Rattle.list_radio.proofs.Reading.{place-refused, still-read, rates-refused, rates-read}
 use Rattle.list_radio.proofs.star_from.Statement.{statement}
 use Rattle.list_radio.proofs.star_from.Tie as tie
 
@@ -23,61 +23,51 @@ enum-known-number c = search needs
 enum-known-k-2 : tie.Need-enum-known-k-2
 enum-known-k-2 c = search needs
 
-enum-known-asc : tie.Need-enum-known-asc
-enum-known-asc c = search needs
-
-enum-known-k-3 : tie.Need-enum-known-k-3
-enum-known-k-3 c = search needs
-
-enum-known-folded : tie.Need-enum-known-folded
-enum-known-folded c = search needs
+enum-known-asc-rate : tie.Need-enum-known-asc-rate
+enum-known-asc-rate c = search needs
 
 -- ---- the numbers that were read
 abbrev start : tie.After-number → tie.Start
 start c = c .before .before .before .before
 
-first : (c : tie.After-number) → Found readNumber (start c .args .bytes .now) (start c .args .at) (c .number .given .0 .0) (c .number .given .0 .1 .0)
-first c = found readNumber _ _ number-leaves-tail _ _ (sym (ap shownRead (c .number .given .1)) ∙ c .before .before .number-at .ensures)
+place : (c : tie.After-number)
+    → Found (readAll readNumber 3) (start c .args .bytes .now) (start c .args .at) (c .number .given .0 .0 ∷ c .number .given .0 .1 .0 ∷ c .number .given .0 .1 .1 .0 ∷ []) (c .number .given .0 .1 .1 .1 .0)
+place c =
+    found (readAll readNumber 3) _ _ (all-leave-tail readNumber number-leaves-tail 3) _ _
+    (sym (ap shownPlace (c .number .given .1)) ∙ c .before .before .place-at .ensures)
 
-abbrev after-first : tie.After-asc → tie.After-number
-after-first c = c .before .before .before .before
+abbrev moves : tie.After-asc-rate → tie.Else1
+moves c = c .before .before .before
 
-second : (c : tie.After-asc) → Found readNumber (start (after-first c) .args .bytes .now) (after-first c .number .given .0 .1 .0) (c .asc .given .0 .0) (c .asc .given .0 .1 .0)
-second c = found readNumber _ _ number-leaves-tail _ _ (sym (ap shownRead (c .asc .given .1)) ∙ c .before .before .number-at2 .ensures)
+abbrev after-place : tie.Else1 → tie.After-number
+after-place c = c .before .before
 
-abbrev after-second : tie.After-folded → tie.After-asc
-after-second c = c .before .before .before .before
+rates : (c : tie.After-asc-rate)
+    → Found (readAll readNumber 2) (start (after-place (moves c)) .args .bytes .now) (after-place (moves c) .number .given .0 .1 .1 .1 .0) (c .asc-rate .given .0 .0 ∷ c .asc-rate .given .0 .1 .0 ∷ []) (c .asc-rate .given .0 .1 .1 .0)
+rates c =
+    found (readAll readNumber 2) _ _ (all-leave-tail readNumber number-leaves-tail 2) _ _
+    (sym (ap shownRates (c .asc-rate .given .1)) ∙ c .before .before .rates-at .ensures)
 
-third : (c : tie.After-folded) → Found readNumber (start (after-first (after-second c)) .args .bytes .now) (after-second c .asc .given .0 .1 .0) (c .folded .given .0 .0) (c .folded .given .0 .1 .0)
-third c = found readNumber _ _ number-leaves-tail _ _ (sym (ap shownRead (c .folded .given .1)) ∙ c .before .before .number-at3 .ensures)
-
+-- ---- the answers
 returns : tie.Need-returns
-returns c = refuses readStar _ _ _ (first-refused _ (not-found readNumber _ _ _ (sym (ap shownRead (c .before .k .given .1)) ∙ c .before .before .before .number-at .ensures)))
+returns c = still-read _ _ _ _ _ _ (place (c .before .before .before)) _ _ (not-true _ (c .before .if1 .taken)) (c .star-of .ensures)
 
 returns-2 : tie.Need-returns-2
 returns-2 c =
-    refuses readStar _ _ _
-    (second-refused _ (first (c .before .before .before .before .before) .read-so) (not-found readNumber _ _ _ (sym (ap shownRead (c .before .k2 .given .1)) ∙ c .before .before .before .number-at2 .ensures)))
+    place-refused _ _ _ _
+    (not-found (readAll readNumber 3) _ _ _ (sym (ap shownPlace (c .before .k .given .1)) ∙ c .before .before .before .place-at .ensures))
 
 returns-3 : tie.Need-returns-3
 returns-3 c =
-    let n2 = c .before .before .before .before .before in
-    refuses readStar _ _ _
-    (third-refused _ (first (after-first n2) .read-so) (second n2 .read-so) (not-found readNumber _ _ _ (sym (ap shownRead (c .before .k3 .given .1)) ∙ c .before .before .before .number-at3 .ensures)))
+    let else = c .before .before .before .before in
+    rates-refused _ _ _ _ _ _ (place (after-place else)) _ (not-false _ (else .if1 .left)) _
+    (not-found (readAll readNumber 2) _ _ _ (sym (ap shownRates (c .before .k2 .given .1)) ∙ c .before .before .before .rates-at .ensures))
 
 returns-4 : tie.Need-returns-4
 returns-4 c =
-    let n3 = c .before .before .before .before in
-    let n2 = after-second n3 in
-    let dec = c .before .before .unfold in
-    star-received _ _ _ _ _ _ _ (toZ-ofZ {w = w32} (record { sfits = dec .ok }) ∙ dec .ensures) (all-read _ (first (after-first n2) .read-so) (second n2 .read-so) (third n3 .read-so)) (sym (c .before .in-range .ensures) ∙ c .if1 .taken) (third n3 .inside)
-
-returns-5 : tie.Need-returns-5
-returns-5 c =
-    let n3 = c .before .before .before .before in
-    let n2 = after-second n3 in
-    let dec = c .before .before .unfold in
-    star-refused _ _ _ _ _ _ (n3 .folded .given .0 .1 .0) (toZ-ofZ {w = w32} (record { sfits = dec .ok }) ∙ dec .ensures) (all-read _ (first (after-first n2) .read-so) (second n2 .read-so) (third n3 .read-so)) (sym (c .before .in-range .ensures) ∙ c .if1 .left)
+    let rate = c .before .before in
+    let else = moves rate in
+    rates-read _ _ _ _ _ _ (place (after-place else)) _ (not-false _ (else .if1 .left)) _ _ _ _ (rates rate) (c .star-of2 .ensures)
 
 pub star-from-spec : {M : Type 1} → statement M
 star-from-spec =
@@ -87,15 +77,11 @@ star-from-spec =
     enum-known-k
     enum-known-number
     asks-nothing
-    enum-known-k-2
-    enum-known-asc
-    asks-nothing
-    enum-known-k-3
-    enum-known-folded
-    asks-nothing
-    asks-nothing
     returns
+    asks-nothing
+    enum-known-k-2
+    enum-known-asc-rate
+    asks-nothing
     returns-2
     returns-3
-    returns-4
-    returns-5)
+    returns-4)

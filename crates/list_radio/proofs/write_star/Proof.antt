@@ -13,8 +13,8 @@ use Rattle.list_radio.specs.rules.Star.{starGroups}
 use Rattle.list_radio.proofs.write_star.Statement.{statement}
 use Rattle.list_radio.proofs.write_star.Tie as tie
 
-joined : (a b c : List ℕ) → a ++ b ++ c ≡ a ++ (b ++ (c ++ []))
-joined a b c = simp (append-assoc, append-nil)
+joined : (a b c d e : List ℕ) → a ++ b ++ c ++ d ++ e ≡ a ++ (b ++ (c ++ (d ++ (e ++ []))))
+joined a b c d e = simp (append-assoc, append-nil)
 
 same-length : tie.Need-same-length
 same-length c = search needs
@@ -22,12 +22,30 @@ same-length c = search needs
 returns : tie.Need-returns
 unfolding starGroups
 returns c =
-    let start = c .before .before .before .before .before .before .before .before .before .before .before .before .before .before .before in
-    let star = start .args .star in
-    let dec = c .before .before .before .fold .ensures ∙ ap folded (signed-word (star .dec) (start .good .1 .1 .0 .1 .1 .1 .1 .0 .1)) in
+    let c5 = c .before .before in
+    let c4 = c5 .before .before .before .before .before .before in
+    let c3 = c4 .before .before .before .before .before .before in
+    let c2 = c3 .before .before .before .before .before .before in
+    let c1 = c2 .before .before .before .before in
+    let r = c1 .before .before .before .args .star in
+    let d = c3 .before .fold .ensures ∙ ap folded (signed-word (r .dec) (c3 .before .before .struct-told .given .1 .1 .0 .1)) in
+    let u = c4 .before .fold2 .ensures ∙ ap folded (signed-word (r .«asc_rate») (c4 .before .before .struct-told2 .given .1 .1 .1 .0 .1)) in
+    let v = c5 .before .fold3 .ensures ∙ ap folded (signed-word (r .«dec_rate») (c5 .before .before .struct-told3 .given .1 .1 .1 .1 .0 .1)) in
     same
-    (joined (groups (star .number)) (groups (star .asc)) _ ∙ ap (λ (n : ℕ). spellAll groups (star .number ∷ star .asc ∷ n ∷ [])) dec)
-    (after (after (c .before .before .before .before .before .before .before .before .before .before .before .before .put-number .ensures) (c .before .before .before .before .before .before .before .before .put-number2 .ensures)) (c .before .before .put-number3 .ensures))
+    (joined (groups (r .number)) (groups (r .asc)) _ _ _ ∙ (λ i. spellAll groups (r .number ∷ r .asc ∷ d i ∷ u i ∷ v i ∷ [])))
+    (after (after (after (after (c1 .put-number .ensures) (c2 .put-number2 .ensures)) (c3 .put-number3 .ensures)) (c4 .put-number4 .ensures)) (c5 .put-number5 .ensures))
 
 pub write-star-spec : {M : Type 1} → statement M
-write-star-spec = tie.close (tie.spec asks-nothing asks-nothing asks-nothing asks-nothing same-length returns)
+write-star-spec =
+    tie.close
+    (tie.spec
+    asks-nothing
+    asks-nothing
+    asks-nothing
+    asks-nothing
+    asks-nothing
+    asks-nothing
+    asks-nothing
+    asks-nothing
+    same-length
+    returns)

@@ -10,14 +10,14 @@ use Rattle.list.specs.declared.Star.{Star}
 use Rattle.list_groups.specs.rules.Reading.{Got, readAt}
 use Rattle.quantity.specs.laws.Steps.{refused-not-answered}
 use Rattle.list_groups.specs.laws.Tails.{found, not-found}
-use Rattle.list_radio.specs.rules.Radio.{markRefusal, readCount, starsOf, radioStars}
+use Rattle.list_radio.specs.rules.Radio.{markRefusal, isMoving, readCount, starsOf, radioStars}
 use Rattle.list_radio.specs.rules.Reader.{openRule, acceptRule}
 use Rattle.list_radio.specs.laws.Radio.{count-leaves-tail}
 
-abbrev stars : Got ℕ → Answer (List Star)
-stars g = starsOf (g .value) (g .rest)
-
 module _ (s : List ℕ) where
+  abbrev stars : Got ℕ → Answer (List Star)
+  stars g = starsOf (isMoving s) (g .value) (g .rest)
+
   -- what refuses the head refuses the list
   pub head-refused : (k : ℕ) → refused k ≡ openRule s → radioStars s ≡ refused k
   unfolding openRule radioStars
@@ -29,12 +29,12 @@ module _ (s : List ℕ) where
       go false e = cc
 
   -- and where the head is answered, the stars are read from the offset that it answers
-  pub head-answered : (n first : ℕ) → answered (record { value = n; offset = first }) ≡ openRule s → radioStars s ≡ starsOf n (drop first s)
+  pub head-answered : (n first : ℕ) → answered (record { value = n; offset = first }) ≡ openRule s → radioStars s ≡ starsOf (isMoving s) n (drop first s)
   unfolding openRule radioStars
   head-answered n first = go (eqb (markRefusal s) 0)
     where
       go : (t : Bool) → answered (record { value = n; offset = first }) ≡ cond t (readAt readCount s 1) (refused (markRefusal s))
-          → cond t (then (readCount (drop 1 s)) stars) (refused (markRefusal s)) ≡ starsOf n (drop first s)
+          → cond t (then (readCount (drop 1 s)) stars) (refused (markRefusal s)) ≡ starsOf (isMoving s) n (drop first s)
       go true e = rw (found readCount s 1 count-leaves-tail n first e .read-so)
       go false e = absurd (refused-not-answered (sym e))
 
@@ -43,6 +43,6 @@ module _ (s : List ℕ) where
   accept-refused k e = rw (head-refused k e)
 
   pub accept-answered : (n first : ℕ) → answered (record { value = n; offset = first }) ≡ openRule s
-      → with length (starsOf n (drop first s)) ≡ acceptRule s
+      → with length (starsOf (isMoving s) n (drop first s)) ≡ acceptRule s
   unfolding acceptRule
   accept-answered n first e = rw (head-answered n first e)

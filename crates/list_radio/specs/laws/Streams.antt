@@ -7,7 +7,7 @@ use Prim.Native.Nat.{ℕ}
 use native.Mathlib.Omega.{arith}
 use lib.Dec.{eqb, leb}
 use lib.ListN.{length}
-use Rattle.quantity.specs.rules.Answer.{Answer, answered, refused, unless, with, then}
+use Rattle.quantity.specs.rules.Answer.{Answer, answered, refused, with, then}
 use Rattle.list.specs.declared.Star.{Star}
 use Rattle.list.specs.rules.Record.{inRange}
 use Rattle.list.specs.rules.Stars.{mostStars}
@@ -17,8 +17,9 @@ use Rattle.quantity.specs.laws.Steps.{refused-not-answered, with-refused}
 use Rattle.list_groups.specs.notions.Streams.{longer, Streams}
 use Rattle.list_groups.specs.laws.Streams.{number-streams, all-stream, then-streams}
 use Rattle.list_radio.specs.rules.Star.{numberCount, starOf, ranged, readStar}
-use Rattle.list_radio.specs.rules.Radio.{mark, markRefusal, few, readCount, nothingOver, starsOf, radioStars}
+use Rattle.list_radio.specs.rules.Radio.{markRefusal, few, readCount, nothingOver, starsOf, radioStars}
 use Rattle.list_radio.specs.rules.Reader.{acceptRule}
+use Rattle.list_radio.specs.laws.Mark.{starsAfter, under-mark}
 
 -- ---- a star, and the count
 
@@ -40,10 +41,10 @@ ranged-stops g k more = go (inRange (starOf (g .value)))
     go true e = absurd (refused-not-answered (sym e))
     go false e = e
 
-pub star-streams : Streams readStar
+pub star-streams : (moving : Bool) → Streams (readStar moving)
 unfolding readStar
-star-streams =
-    then-streams (readAll readNumber numberCount) (all-stream readNumber number-streams numberCount) ranged
+star-streams moving =
+    then-streams (readAll readNumber (numberCount moving)) (all-stream readNumber number-streams (numberCount moving)) ranged
     ranged-passes ranged-stops
 
 few-passes : (g h : Got ℕ) (more : List ℕ) → few g ≡ answered h → few (longer more g) ≡ answered (longer more h)
@@ -75,35 +76,31 @@ over-only-thirteen g k = go (eqb (length (g .rest)) 0)
     go true e = absurd (refused-not-answered (sym e))
     go false e = cc
 
-module _ (k : ℕ) (other : k ≡ 13 → ⊥) (more : List ℕ) where
-  stars-refuse : (n : ℕ) (bs : List ℕ) → starsOf n bs ≡ refused k → starsOf n (bs ++ more) ≡ refused k
+module _ (k : ℕ) (no-end : k ≡ 13 → ⊥) (more : List ℕ) where
+  stars-refuse : (moving : Bool) (n : ℕ) (bs : List ℕ) → starsOf moving n bs ≡ refused k → starsOf moving n (bs ++ more) ≡ refused k
   unfolding starsOf
-  stars-refuse n bs = go (readAll readStar n bs) refl
+  stars-refuse moving n bs = go (readAll (readStar moving) n bs) refl
     where
-      go : (x : Answer (Got (List Star))) → readAll readStar n bs ≡ x → then x nothingOver ≡ refused k
-          → then (readAll readStar n (bs ++ more)) nothingOver ≡ refused k
-      go (answered g) e h = absurd (other (over-only-thirteen g k h))
-      go (refused j) e h = rw (all-stream readStar star-streams n .refuses bs more k (e ∙ ap refused (let q : j ≡ k = cc in q)) other)
+      go : (x : Answer (Got (List Star))) → readAll (readStar moving) n bs ≡ x → then x nothingOver ≡ refused k
+          → then (readAll (readStar moving) n (bs ++ more)) nothingOver ≡ refused k
+      go (answered g) e h = absurd (no-end (over-only-thirteen g k h))
+      go (refused j) e h =
+          rw (all-stream (readStar moving) (star-streams moving) n .refuses bs more k (e ∙ ap refused (let q : j ≡ k = cc in q)) no-end)
 
-  after-mark : (bs : List ℕ) → then (readCount bs) (λ (g : Got ℕ). starsOf (g .value) (g .rest)) ≡ refused k
-      → then (readCount (bs ++ more)) (λ (g : Got ℕ). starsOf (g .value) (g .rest)) ≡ refused k
+  after-mark : (moving : Bool) (bs : List ℕ) → then (readCount bs) (starsAfter moving) ≡ refused k
+      → then (readCount (bs ++ more)) (starsAfter moving) ≡ refused k
   unfolding then
-  after-mark bs = go (readCount bs) refl
+  after-mark moving bs = go (readCount bs) refl
     where
-      go : (x : Answer (Got ℕ)) → readCount bs ≡ x → then x (λ (g : Got ℕ). starsOf (g .value) (g .rest)) ≡ refused k
-          → then (readCount (bs ++ more)) (λ (g : Got ℕ). starsOf (g .value) (g .rest)) ≡ refused k
-      go (answered g) e h = rw (count-streams .answers bs more g e) (stars-refuse (g .value) (g .rest) h)
-      go (refused j) e h = rw (count-streams .refuses bs more k (e ∙ ap refused (let q : j ≡ k = cc in q)) other)
+      go : (x : Answer (Got ℕ)) → readCount bs ≡ x → then x (starsAfter moving) ≡ refused k
+          → then (readCount (bs ++ more)) (starsAfter moving) ≡ refused k
+      go (answered g) e h = rw (count-streams .answers bs more g e) (stars-refuse moving (g .value) (g .rest) h)
+      go (refused j) e h = rw (count-streams .refuses bs more k (e ∙ ap refused (let q : j ≡ k = cc in q)) no-end)
 
   pub radio-refuses : (s : List ℕ) → radioStars s ≡ refused k → radioStars (s ++ more) ≡ refused k
   unfolding radioStars markRefusal
-  radio-refuses [] h = absurd (other (let q : k ≡ 13 = cc in q))
-  radio-refuses (b ∷ bs) h = go (eqb b mark) h
-    where
-      go : (t : Bool) → unless (cond t 0 11) (then (readCount bs) (λ (g : Got ℕ). starsOf (g .value) (g .rest))) ≡ refused k
-          → unless (cond t 0 11) (then (readCount (bs ++ more)) (λ (g : Got ℕ). starsOf (g .value) (g .rest))) ≡ refused k
-      go true h = after-mark bs h
-      go false h = h
+  radio-refuses [] h = absurd (no-end (let q : k ≡ 13 = cc in q))
+  radio-refuses (b ∷ bs) h = under-mark more b bs k (λ (moving : Bool). after-mark moving bs) h
 
   -- 8, 9, 11 and 12 at the byte that shows it
   pub refused-at-its-byte : (s : List ℕ) → acceptRule s ≡ refused k → acceptRule (s ++ more) ≡ refused k

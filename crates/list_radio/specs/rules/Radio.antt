@@ -1,10 +1,11 @@
--- A list over the radio link: byte 2, the star count, then each star. Refusals, the first met: 13 of an empty list, 11 of another first
--- byte, 12 or 13 of the count, 8 of a count above what a list may have; of each star 12, 13 or 9; then 13 for bytes over.
+-- A list over the radio link: byte 3, the star count, then each star; a list that begins with byte 2 is read too, and never written.
+-- Refusals, the first met: 13 of an empty list, 11 of another first byte, 12 or 13 of the count, 8 of a count above what a list may have;
+-- of each star 12, 13 or 9; then 13 for bytes over.
 use Prim.Native.Nat.{ℕ}
-use mathlib.Core.Bool.{cond}
+use mathlib.Core.Bool.{Bool, true, false, cond}
 use mathlib.Core.List.{List, [], _∷_, _++_}
 use lib.Dec.{eqb, leb}
-use lib.ListN.{length, drop}
+use lib.ListN.{length, drop, getD}
 use Rattle.quantity.specs.rules.Answer.{Answer, answered, refused, unless, then}
 use Rattle.list.specs.declared.Star.{Star}
 use Rattle.list.specs.rules.Stars.{mostStars}
@@ -13,14 +14,15 @@ use Rattle.list_groups.specs.rules.Reading.{Got, readNumber}
 use Rattle.list_groups.specs.rules.Several.{spellAll, readAll}
 use Rattle.list_radio.specs.rules.Star.{starGroups, readStar}
 
--- the first byte
-abbrev pub mark : ℕ
-mark = 2
+-- the first byte of stars with yearly changes, and of stars without
+abbrev pub mark : Bool → ℕ
+mark true = 3
+mark false = 2
 
 -- ---- a list written
 
 unfoldable pub headBytes : ℕ → List ℕ
-headBytes n = mark ∷ groups n
+headBytes n = mark true ∷ groups n
 
 unfoldable pub radioBytes : List Star → List ℕ
 radioBytes rs = headBytes (length rs) ++ spellAll starGroups rs
@@ -30,7 +32,11 @@ radioBytes rs = headBytes (length rs) ++ spellAll starGroups rs
 -- 0 where the first byte stands
 unfoldable pub markRefusal : List ℕ → ℕ
 markRefusal [] = 13
-markRefusal (b ∷ bs) = cond (eqb b mark) 0 11
+markRefusal (b ∷ bs) = cond (eqb b (mark true)) 0 (cond (eqb b (mark false)) 0 11)
+
+-- whether its stars have yearly changes
+unfoldable pub isMoving : List ℕ → Bool
+isMoving s = eqb (getD s 0 0) (mark true)
 
 abbrev pub few : Got ℕ → Answer (Got ℕ)
 few g = cond (leb (g .value) mostStars) (answered g) (refused 8)
@@ -44,10 +50,10 @@ abbrev pub nothingOver : Got (List Star) → Answer (List Star)
 nothingOver g = cond (eqb (length (g .rest)) 0) (answered (g .value)) (refused 13)
 
 -- so many stars, and nothing after them
-unfoldable pub starsOf : ℕ → List ℕ → Answer (List Star)
+unfoldable pub starsOf : Bool → ℕ → List ℕ → Answer (List Star)
 unfolding then
-starsOf n bs = then (readAll readStar n bs) nothingOver
+starsOf moving n bs = then (readAll (readStar moving) n bs) nothingOver
 
 unfoldable pub radioStars : List ℕ → Answer (List Star)
 unfolding then
-radioStars s = unless (markRefusal s) (then (readCount (drop 1 s)) (λ (g : Got ℕ). starsOf (g .value) (g .rest)))
+radioStars s = unless (markRefusal s) (then (readCount (drop 1 s)) (λ (g : Got ℕ). starsOf (isMoving s) (g .value) (g .rest)))

@@ -1,20 +1,52 @@
 -- Raising the tally of some statuses by one more is the tally of them all.
 use mathlib.Core.Path.{_≡_, refl, sym, ap, _∙_}
-use mathlib.Core.Bool.{Bool, cond}
+use mathlib.Core.Bool.{Bool, true, false, cond}
 use mathlib.Core.List.{List, [], _∷_, _++_, append-assoc, append-nil}
-use Prim.Native.Nat.{ℕ, _+_, _≤_, _<_}
-use native.Mathlib.Nat.{add-zero, add-assoc}
+use Prim.Native.Nat.{ℕ, zero, suc, _+_, _≤_, _<_}
+use native.Mathlib.Nat.{add-zero, add-assoc, le-of-suc-le-suc, not-suc-le-zero}
 use native.Mathlib.Omega.{arith}
-use lib.Dec.{eqb}
+use lib.Dec.{leb, ltb, eqb}
 use lib.ListN.{length, getD, set, length-append}
-use borrow.Author.Tests.{le-leb, lt-ltb, eq-eqb, ne-eqb}
+use borrow.Author.Tests.{le-leb, leb-true, lt-ltb, eq-eqb, ne-eqb}
 use Rattle.lent.specs.rules.Rows.{upto}
 use Rattle.lent.specs.laws.Flags.{at-most-one}
 use Rattle.lent.specs.laws.Upto.{getD-upto, set-upto}
 use Rattle.list_tally.specs.rules.Status.{highestStatus}
-use Rattle.list_tally.specs.rules.Tally.{fullest, countsInAll, raiseRefusal, raised, raiseRule, times, tallyOf, empty, raisedBy, AllKnown}
+use Rattle.list_tally.specs.rules.Tally.{fullest, countsInAll, countOf, storedTo, raiseRefusal, raised, raiseRule, times, tallyOf, empty, raisedBy, AllKnown}
 use Rattle.list_tally.specs.declared.Tally.{Tally}
 use Rattle.list_tally.specs.declared.Raised.{Raised}
+
+-- the count that is stored to is one of the tally
+pub count-below : (status : ℕ) → countOf status < countsInAll
+count-below status = by-case (leb status highestStatus) refl
+  where
+    by-case : (b : Bool) → leb status highestStatus ≡ b → cond b status 0 < countsInAll
+    by-case true e = omega (arith, leb-true status highestStatus e)
+    by-case false e = omega arith
+
+set-getD : (l : List ℕ) (k d : ℕ) → k < length l → set l k (getD l k d) ≡ l
+set-getD [] k d h = absurd (not-suc-le-zero h)
+set-getD (x ∷ l) zero d h = refl
+set-getD (x ∷ l) (suc k) d h = ap (λ (m : List ℕ). x ∷ m) (set-getD l k d (le-of-suc-le-suc h))
+
+-- one store raises the count, or leaves all as it is
+pub stored-raises : (t : Tally) (status : ℕ) → length (t .counts) ≡ countsInAll → storedTo t status ≡ raiseRule t status
+unfolding raiseRule raiseRefusal
+stored-raises t status long = by-case (leb status highestStatus) refl
+  where
+    counts : List ℕ
+    counts = t .counts
+
+    same : (k : ℕ) → k < countsInAll → set counts k (getD counts k 0 + 0) ≡ counts
+    same k h = ap (set counts k) (add-zero (getD counts k 0)) ∙ set-getD counts k 0 (omega (arith, long))
+
+    full : leb status highestStatus ≡ true → (b : Bool) → ltb (getD counts status 0) fullest ≡ b → storedTo t status ≡ raiseRule t status
+    full e true f = simp (e, f)
+    full e false f = simp (e, f) (ap (λ (l : List ℕ). record { tally = record { counts = l }; refusal = 8 }) (same status (omega (arith, leb-true status highestStatus e))))
+
+    by-case : (b : Bool) → leb status highestStatus ≡ b → storedTo t status ≡ raiseRule t status
+    by-case true e = full e (ltb (getD counts status 0) fullest) refl
+    by-case false e = simp e (ap (λ (l : List ℕ). record { tally = record { counts = l }; refusal = 9 }) (same 0 (omega arith)))
 
 -- no status stands more often than there are statuses
 pub times-most : (k : ℕ) (xs : List ℕ) → times k xs ≤ length xs

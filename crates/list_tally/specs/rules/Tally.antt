@@ -18,8 +18,11 @@ abbrev pub countsInAll : ℕ
 countsInAll = 20
 
 -- 9 for a status that is not known, then 8 for a full count
+abbrev pub refusalAt : ℕ → ℕ → ℕ
+refusalAt status n = cond (leb status highestStatus) (cond (ltb n fullest) 0 8) 9
+
 unfoldable pub raiseRefusal : Tally → ℕ → ℕ
-raiseRefusal t status = cond (leb status highestStatus) (cond (ltb (getD (t .counts) status 0) fullest) 0 8) 9
+raiseRefusal t status = refusalAt status (getD (t .counts) status 0)
 
 abbrev pub raised : Tally → ℕ → Tally
 raised t status = record { counts = set (t .counts) status (getD (t .counts) status 0 + 1) }
@@ -49,3 +52,20 @@ raisedBy t (x ∷ xs) = raisedBy (raiseRule t x .tally) xs
 abbrev pub AllKnown : List ℕ → Type 0
 AllKnown [] = Unit {0}
 AllKnown (x ∷ xs) = (x ≤ highestStatus) × AllKnown xs
+
+-- ---- how it is done
+
+-- the count that is stored to: a status that is not known leaves the first as it is
+abbrev pub countOf : ℕ → ℕ
+countOf status = cond (leb status highestStatus) status 0
+
+abbrev pub countAfter : ℕ → ℕ → ℕ
+countAfter status n = n + cond (eqb (refusalAt status n) 0) 1 0
+
+abbrev pub storedTo : Tally → ℕ → Raised
+storedTo t status =
+    let n = getD (t .counts) (countOf status) 0 in
+    record {
+      tally = record { counts = set (t .counts) (countOf status) (countAfter status n) };
+      refusal = refusalAt status n;
+    }

@@ -14,7 +14,7 @@ enum-known-k : tie.Need-enum-known-k
 enum-known-k c = search needs
 
 slice-reshare-prefix-write-all : tie.Need-slice-reshare-prefix-write-all
-slice-reshare-prefix-write-all c = subst (λ (w : Sheet). bytesOf w ≤ length (c .before .before .before .before .before .render .last .1 .0)) (c .before .k .given .1) (c .before .before .before .before .before .render .ensures .1 .1)
+slice-reshare-prefix-write-all c = subst (λ (w : Sheet). bytesOf w ≤ length (c .before .before .before .before .before .render .last .1 .1 .0)) (c .before .k .given .1) (c .before .before .before .before .before .render .ensures .1 .1)
 
 slice-aggregate-write-all : tie.Need-slice-aggregate-write-all
 slice-aggregate-write-all c = sym (length-take-le _ _ (slice-reshare-prefix-write-all (c .before)))

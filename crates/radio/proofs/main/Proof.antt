@@ -7,6 +7,15 @@ use Rattle.lent.specs.laws.Put.{offset-inside}
 use Rattle.radio.proofs.main.Statement.{statement}
 use Rattle.radio.proofs.main.Tie as tie
 
+slice-aggregate-asked : tie.Need-slice-aggregate-asked
+slice-aggregate-asked c = search needs
+
+slice-aggregate-asked-2 : tie.Need-slice-aggregate-asked-2
+slice-aggregate-asked-2 c = search needs
+
+slice-aggregate-asked-3 : tie.Need-slice-aggregate-asked-3
+slice-aggregate-asked-3 c = search needs
+
 slice-aggregate-read-full : tie.Need-slice-aggregate-read-full
 slice-aggregate-read-full c = search needs
 
@@ -41,6 +50,11 @@ pub main-spec : {M : Type 1} → statement M
 main-spec =
     tie.close
     (tie.spec
+    slice-aggregate-asked
+    asks-nothing
+    slice-aggregate-asked-2
+    asks-nothing
+    slice-aggregate-asked-3
     asks-nothing
     slice-aggregate-read-full
     asks-nothing

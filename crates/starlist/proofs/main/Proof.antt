@@ -26,7 +26,7 @@ enum-known-k : tie.Need-enum-known-k
 enum-known-k c = search needs
 
 array-share-prefix-out : tie.Need-array-share-prefix-out
-array-share-prefix-out c = subst (λ (w : Sheet). bytesOf w ≤ length (c .before .before .before .before .render .last .1 .0)) (c .before .k .given .1) (c .before .before .before .before .render .ensures .1 .1)
+array-share-prefix-out c = subst (λ (w : Sheet). bytesOf w ≤ length (c .before .before .before .before .render .last .1 .1 .0)) (c .before .k .given .1) (c .before .before .before .before .render .ensures .1 .1)
 
 slice-aggregate-write : tie.Need-slice-aggregate-write
 slice-aggregate-write c = sym (length-take-le _ _ (array-share-prefix-out (c .before)))
@@ -44,6 +44,7 @@ pub main-spec : {M : Type 1} → statement M
 main-spec =
     tie.close
     (tie.spec
+    asks-nothing
     slice-aggregate-read-full
     asks-nothing
     array-share-prefix-input

@@ -17,10 +17,11 @@ callWords n =
 -- what one of its stars can be refused by
 unfoldable pub starWords : ℕ → List ℕ
 starWords n =
-    cond (eqb n 4) (ascii ": too close to the pole: choose another star")
+    cond (eqb n 3) (ascii ": carried past the pole: check its rates")
+    (cond (eqb n 4) (ascii ": too close to the pole: choose another star")
     (cond (eqb n 7) (ascii ": at the pole: choose another star")
     (cond (eqb n 9) (ascii ": the record is damaged")
-    (cond (eqb n 14) (ascii ": exactly at the pole: choose another star") [])))
+    (cond (eqb n 14) (ascii ": exactly at the pole: choose another star") []))))
 
 -- what a plan's observer can be refused by; 64 radians are 3666.9 degrees
 unfoldable pub observerWords : ℕ → List ℕ
@@ -35,6 +36,6 @@ numberWords n = refusedWord ++ (decimalText n ++ callWords n)
 unfoldable pub refusalText : ℕ → List ℕ
 refusalText n = numberWords n ++ (starWords n ++ (lineEnd ∷ []))
 
--- of a plan's call, where 4 is the observer's and not a star's
+-- of a plan's call, where 3 and 4 are the observer's and not a star's
 unfoldable pub planRefusalText : ℕ → List ℕ
 planRefusalText n = numberWords n ++ (observerWords n ++ (lineEnd ∷ []))

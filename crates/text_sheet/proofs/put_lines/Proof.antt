@@ -11,16 +11,16 @@ use Rattle.text_sheet.proofs.put_lines.Statement.{statement}
 use Rattle.text_sheet.proofs.put_lines.Tie as tie
 
 abbrev Inv-loop : tie.InvT-loop
-Inv-loop out₀ at bytes n offset₀ i₀ out offset i = Walked out₀ at n (lineAt bytes) out offset i
+Inv-loop out₀ at rates bytes n offset₀ i₀ out offset i = Walked out₀ at n (lineAt rates bytes) out offset i
 
 abbrev μ-loop : tie.MeasureT-loop
-μ-loop out₀ at bytes n offset₀ i₀ out offset i = n - i
+μ-loop out₀ at rates bytes n offset₀ i₀ out offset i = n - i
 
 loop-again : tie.Need-loop-again Inv-loop μ-loop
 loop-again c =
     let pass = c .before .before .before .before .before in
     passed (pass .before .loop .inv) (pass .loop-test .taken)
-    (same (ap line (c .before .before .before .nth .ensures)) (c .before .before .put-line .ensures))
+    (same (ap (line _) (c .before .before .before .nth .ensures)) (c .before .before .put-line .ensures))
 
 pub put-lines-spec : {M : Type 1} → statement M
 put-lines-spec =

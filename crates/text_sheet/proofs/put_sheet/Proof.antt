@@ -1,7 +1,7 @@
 -- `text_sheet::put_sheet` meets its contract: heading, lines and footing, one after the other.
 use borrow.Author.Needs.{needs}
 use mathlib.Core.Path.{_≡_, sym, _∙_}
-use mathlib.Core.Bool.{true, false}
+use mathlib.Core.Bool.{Bool, true, false}
 use mathlib.Core.List.{List, _++_, append-assoc}
 use Prim.Native.Nat.{ℕ, _-_}
 use native.Mathlib.Omega.{arith}
@@ -17,14 +17,15 @@ use Rattle.text_sheet.specs.laws.Sheet.{goods-most}
 use Rattle.text_sheet.proofs.put_sheet.Statement.{statement}
 use Rattle.text_sheet.proofs.put_sheet.Tie as tie
 
-no-list : (s : List ℕ) → isList s ≡ false → refusedText 8 ≡ sheetOf s
+no-list : (rates : Bool) (s : List ℕ) → isList s ≡ false → refusedText 8 ≡ sheetOf rates s
 unfolding sheetOf
-no-list s e = simp e
+no-list rates s e = simp e
 
 -- n and good are what was counted
-a-list : (s : List ℕ) (n good : ℕ) → isList s ≡ true → n ≡ countOf s → good ≡ goods (stars s) → heading n ++ texts n (lineAt s) ++ footing good (n - good) ≡ sheetOf s
+a-list : (rates : Bool) (s : List ℕ) (n good : ℕ) → isList s ≡ true → n ≡ countOf s → good ≡ goods (stars s)
+    → heading n ++ texts n (lineAt rates s) ++ footing good (n - good) ≡ sheetOf rates s
 unfolding sheetOf
-a-list s n good t e g = simp (append-assoc, t, e, g)
+a-list rates s n good t e g = simp (append-assoc, t, e, g)
 
 same-length : tie.Need-same-length
 same-length c = search needs
@@ -35,7 +36,7 @@ returns c =
     let c5 = c2 .before .before in
     let c6 = c5 .before in
     let c9 = c6 .before .before .before in
-    same (no-list (c9 .args .bytes .now) (sym (c6 .is-list .ensures) ∙ not-true _ (c5 .if1 .taken))) (c2 .put-refused .ensures)
+    same (no-list (c9 .args .rates) (c9 .args .bytes .now) (sym (c6 .is-list .ensures) ∙ not-true _ (c5 .if1 .taken))) (c2 .put-refused .ensures)
 
 sub-put-footing : tie.Need-sub-put-footing
 sub-put-footing c =
@@ -49,7 +50,7 @@ returns-2 : tie.Need-returns-2
 returns-2 c =
     let counted = c .before .before .before .before .before .before .before .before .before .before .before .before in
     let test = sym (counted .before .before .before .is-list .ensures) ∙ not-false _ (counted .before .before .if1 .left) in
-    same (a-list (counted .before .before .before .before .before .before .args .bytes .now) (counted .before .count .result) (counted .goods .result) test (counted .before .count .ensures) (counted .goods .ensures))
+    same (a-list _ (counted .before .before .before .before .before .before .args .bytes .now) (counted .before .count .result) (counted .goods .result) test (counted .before .count .ensures) (counted .goods .ensures))
     (after (after (c .before .before .before .before .before .before .before .before .before .before .put-heading .ensures) (c .before .before .before .before .before .before .put-lines .ensures)) (c .before .before .put-footing .ensures))
 
 pub put-sheet-spec : {M : Type 1} → statement M

@@ -1,7 +1,7 @@
 -- The sheet of any bytes has room in `room` bytes.
 use mathlib.Core.Path.{_≡_, refl}
 use mathlib.Core.Bool.{Bool, true, false, cond}
-use mathlib.Core.List.{List, _∷_, _++_}
+use mathlib.Core.List.{List, _++_}
 use Prim.Native.Nat.{ℕ, _*_, _-_, _≤_, _<_}
 use native.Mathlib.Omega.{arith}
 use lib.IntN.{ℤ, pos, negsuc, natAbs}
@@ -14,11 +14,10 @@ use Rattle.list.specs.rules.Stars.{isList, countOf, stars, nth, Bytes}
 use Rattle.list.specs.laws.Stars.{few, length-stars, nth-is}
 use Rattle.list.specs.laws.Record.{star-fits}
 use Rattle.list.specs.declared.Star.{Star}
-use Rattle.text_number.specs.rules.Bytes.{space}
-use Rattle.text_number.specs.rules.Number.{decimalText, integerText}
+use Rattle.text_number.specs.rules.Number.{decimalText}
 use Rattle.text_number.specs.rules.Refused.{refusedText}
 use Rattle.text_number.specs.laws.Number.{decimal-short, integer-short, refused-short}
-use Rattle.text_sheet.specs.rules.Sheet.{okEnd, badEnd, line, lineAt, goods, heading, footing, sheetOf}
+use Rattle.text_sheet.specs.rules.Sheet.{okEnd, badEnd, placeText, ratesText, line, lineAt, goods, heading, footing, sheetOf}
 use Rattle.text_sheet.specs.rules.Render.{room}
 use Rattle.text_sheet.specs.laws.Sheet.{goods-most}
 
@@ -26,23 +25,29 @@ small : (z : ℤ) → HasWord z → natAbs z < 4294967296
 small (pos n) h = omega arith
 small (negsuc n) h = omega arith
 
-pub line-short : (r : Star) → Fitting r → length (line r) ≤ 40
-unfolding line
-line-short r f =
-    let n = decimal-short (r .number) (f .number) in
+place-short : (r : Star) → Fitting r → length (placeText r) ≤ 23
+unfolding placeText
+place-short r f =
     let a = decimal-short (r .asc) (f .asc) in
     let d = integer-short (r .dec) (small (r .dec) (f .dec)) in
-    by-case (inRange r) n a d
+    simp length-append (omega arith)
+
+rates-short : (rates : Bool) (r : Star) → Fitting r → length (ratesText rates r) ≤ 24
+unfolding ratesText
+rates-short false r f = omega arith
+rates-short true r f =
+    let a = integer-short (r .«asc_rate») (small (r .«asc_rate») (f .«asc_rate»)) in
+    let d = integer-short (r .«dec_rate») (small (r .«dec_rate») (f .«dec_rate»)) in
+    simp length-append (omega arith)
+
+pub line-short : (rates : Bool) (r : Star) → Fitting r → length (line rates r) ≤ 64
+unfolding line
+line-short rates r f = by-case (inRange r) (decimal-short (r .number) (f .number)) (place-short r f) (rates-short rates r f)
   where
-    by-case : (b : Bool)
-        → length (decimalText (r .number)) ≤ 10
-        → length (decimalText (r .asc)) ≤ 10
-        → length (integerText (r .dec)) ≤ 11
-        → length
-        (decimalText (r .number) ++ cond b (space ∷ (decimalText (r .asc) ++ (space ∷ (integerText (r .dec) ++ okEnd)))) badEnd)
-        ≤ 40
-    by-case true n a d = simp length-append (omega arith)
-    by-case false n a d = simp length-append (omega arith)
+    by-case : (b : Bool) → length (decimalText (r .number)) ≤ 10 → length (placeText r) ≤ 23 → length (ratesText rates r) ≤ 24
+        → length (decimalText (r .number) ++ cond b (placeText r ++ (ratesText rates r ++ okEnd)) badEnd) ≤ 64
+    by-case true n a t = simp length-append (omega arith)
+    by-case false n a t = simp length-append (omega arith)
 
 heading-short : (n : ℕ) → n < 4294967296 → length (heading n) ≤ 20
 unfolding heading
@@ -52,26 +57,26 @@ footing-short : (g b : ℕ) → g < 4294967296 → b < 4294967296 → length (fo
 unfolding footing
 footing-short g b h k = let d = decimal-short g h in let e = decimal-short b k in simp length-append (omega arith)
 
-module _ (s : List ℕ) (y : Bytes s) where
+module _ (rates : Bool) (s : List ℕ) (y : Bytes s) where
   list-short : isList s ≡ true
-      → length (heading (countOf s) ++ (texts (countOf s) (lineAt s) ++ footing (goods (stars s)) (countOf s - goods (stars s)))) ≤ room
+      → length (heading (countOf s) ++ (texts (countOf s) (lineAt rates s) ++ footing (goods (stars s)) (countOf s - goods (stars s)))) ≤ room
   list-short t =
       let n = few s t in
       let g = goods-most (stars s) in
       let l = length-stars s in
       let a = heading-short (countOf s) (omega arith) in
-      let b = texts-short 40 (countOf s) (lineAt s) (λ (i : ℕ) h. line-short (nth s i) (rw (nth-is s i h) (star-fits s y (i * width)))) in
+      let b = texts-short 64 (countOf s) (lineAt rates s) (λ (i : ℕ) h. line-short rates (nth s i) (rw (nth-is s i h) (star-fits s y (i * width)))) in
       let c = footing-short (goods (stars s)) (countOf s - goods (stars s)) (omega arith) (omega arith) in
       simp length-append (omega arith)
 
-  pub has-room : length (sheetOf s) ≤ room
+  pub has-room : length (sheetOf rates s) ≤ room
   unfolding sheetOf
   has-room = by-case (isList s) refl
     where
       by-case : (b : Bool) → isList s ≡ b
           → length
           (cond b
-          (heading (countOf s) ++ (texts (countOf s) (lineAt s) ++ footing (goods (stars s)) (countOf s - goods (stars s))))
+          (heading (countOf s) ++ (texts (countOf s) (lineAt rates s) ++ footing (goods (stars s)) (countOf s - goods (stars s))))
           (refusedText 8))
           ≤ room
       by-case true t = list-short t

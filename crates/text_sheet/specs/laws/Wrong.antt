@@ -2,7 +2,8 @@
 -- answers a constant, does not meet it.
 use Prim.Native.Nat.{ℕ}
 use mathlib.Core.Path.{_≡_, refl}
-use mathlib.Core.List.{List, [], _∷_}
+use mathlib.Core.Bool.{true, false}
+use mathlib.Core.List.{List, [], _∷_, _++_}
 use std.Logic.{_≢_}
 use lib.ListN.{length}
 use Rattle.double.specs.notions.Code.{ofNumber}
@@ -15,7 +16,7 @@ use Rattle.text_number.specs.notions.Code.{ofText}
 use Rattle.text_sheet.specs.rules.Sheet.{sheetOf}
 use Rattle.text_sheet.specs.rules.Render.{room, renderRule}
 use Rattle.text_sheet.specs.notions.Computed.{computed}
-use Rattle.text_sheet.specs.notions.Wrong.{capitalOk, goodAndBadTraded, refusedByNine}
+use Rattle.text_sheet.specs.notions.Wrong.{capitalOk, ratesUnasked, ratesPrintedTraded, goodAndBadTraded, refusedByNine}
 
 -- a list of one star, whose record is zeros, and bytes that are no list
 abbrev single : List ℕ
@@ -24,19 +25,31 @@ single = upto width (λ (i : ℕ). 0)
 abbrev short : List ℕ
 short = 0 ∷ []
 
+-- a list of one star with yearly changes of 0 and 1
+abbrev moving : List ℕ
+moving = upto 16 (λ (i : ℕ). 0) ++ (1 ∷ 0 ∷ 0 ∷ 0 ∷ [])
+
 -- into any slice that has room
-pub render-varies : (old : List ℕ) → length old ≡ room → Varies (renderRule single old) (renderRule [] old)
+pub render-varies : (old : List ℕ) → length old ≡ room → Varies (renderRule false single old) (renderRule false [] old)
 unfolding computed
 render-varies old h = rw h (record { here = refl; there = refl; apart = apart (ofAnswer ofNumber) refl })
 
-pub capital-ok-excluded : capitalOk single ≢ sheetOf single
+pub capital-ok-excluded : capitalOk false single ≢ sheetOf false single
 unfolding computed
 capital-ok-excluded = apart ofText refl
 
-pub good-and-bad-traded-excluded : goodAndBadTraded single ≢ sheetOf single
+pub rates-unasked-excluded : ratesUnasked single ≢ sheetOf false single
+unfolding computed
+rates-unasked-excluded = apart ofText refl
+
+pub rates-printed-traded-excluded : ratesPrintedTraded moving ≢ sheetOf true moving
+unfolding computed
+rates-printed-traded-excluded = apart ofText refl
+
+pub good-and-bad-traded-excluded : goodAndBadTraded false single ≢ sheetOf false single
 unfolding computed
 good-and-bad-traded-excluded = apart ofText refl
 
-pub refused-by-nine-excluded : refusedByNine short ≢ sheetOf short
+pub refused-by-nine-excluded : refusedByNine false short ≢ sheetOf false short
 unfolding computed
 refused-by-nine-excluded = apart ofText refl

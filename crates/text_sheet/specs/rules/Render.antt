@@ -1,6 +1,6 @@
 -- The sheet written into a lent slice. One that is shorter than the longest sheet is refused by 8 and stays as it was.
 use Prim.Native.Nat.{ℕ, _+_, _*_}
-use mathlib.Core.Bool.{cond}
+use mathlib.Core.Bool.{Bool, cond}
 use mathlib.Core.List.{List, _++_}
 use lib.Dec.{ltb}
 use lib.ListN.{length, drop}
@@ -20,12 +20,12 @@ abbrev pub bytesOf : Sheet → ℕ
 bytesOf (Bytes n) = n
 bytesOf (Refused n) = 0
 
--- forty bytes a star, and sixty more
+-- sixty-four bytes a star, and sixty more
 abbrev pub room : ℕ
-room = 60 + 40 * mostStars
+room = 60 + 64 * mostStars
 
-abbrev pub renderRule : List ℕ → List ℕ → Answer ℕ
-renderRule s old = cond (ltb (length old) room) (refused 8) (answered (length (sheetOf s)))
+abbrev pub renderRule : Bool → List ℕ → List ℕ → Answer ℕ
+renderRule rates s old = cond (ltb (length old) room) (refused 8) (answered (length (sheetOf rates s)))
 
-abbrev pub rendered : List ℕ → List ℕ → List ℕ
-rendered s old = cond (ltb (length old) room) old (sheetOf s ++ drop (length (sheetOf s)) old)
+abbrev pub rendered : Bool → List ℕ → List ℕ → List ℕ
+rendered rates s old = cond (ltb (length old) room) old (sheetOf rates s ++ drop (length (sheetOf rates s)) old)

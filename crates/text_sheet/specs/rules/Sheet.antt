@@ -1,6 +1,7 @@
--- The text of a list: how many stars, a line for each, and how many are good and bad. A text is a list of bytes.
+-- The text of a list: how many stars, a line for each, and how many are good and bad; a line with the star's yearly changes where they
+-- are asked for. A text is a list of bytes.
 use Prim.Native.Nat.{ℕ, _+_, _-_}
-use mathlib.Core.Bool.{cond}
+use mathlib.Core.Bool.{Bool, cond}
 use mathlib.Core.List.{List, [], _∷_, _++_}
 use Rattle.lent.specs.rules.Texts.{texts}
 use Rattle.list.specs.rules.Record.{inRange}
@@ -26,15 +27,21 @@ goodWord = ascii "good "
 abbrev pub badWord : List ℕ
 badWord = ascii " bad "
 
--- the number, right ascension and declination; of a star out of range the number alone
-unfoldable pub line : Star → List ℕ
-line r =
-    decimalText (r .number)
-    ++ cond (inRange r) (space ∷ (decimalText (r .asc) ++ (space ∷ (integerText (r .dec) ++ okEnd)))) badEnd
+-- right ascension and declination
+unfoldable pub placeText : Star → List ℕ
+placeText r = space ∷ (decimalText (r .asc) ++ (space ∷ integerText (r .dec)))
+
+-- both yearly changes, where they are asked for
+unfoldable pub ratesText : Bool → Star → List ℕ
+ratesText rates r = cond rates (space ∷ (integerText (r .«asc_rate») ++ (space ∷ integerText (r .«dec_rate»)))) []
+
+-- the number and what follows it; of a star out of range the number alone
+unfoldable pub line : Bool → Star → List ℕ
+line rates r = decimalText (r .number) ++ cond (inRange r) (placeText r ++ (ratesText rates r ++ okEnd)) badEnd
 
 -- of star i of the list
-abbrev pub lineAt : List ℕ → ℕ → List ℕ
-lineAt s i = line (nth s i)
+abbrev pub lineAt : Bool → List ℕ → ℕ → List ℕ
+lineAt rates s i = line rates (nth s i)
 
 -- how many are in range
 abbrev pub goods : List Star → ℕ
@@ -47,8 +54,8 @@ heading n = starsWord ++ (decimalText n ++ (lineEnd ∷ []))
 unfoldable pub footing : ℕ → ℕ → List ℕ
 footing good bad = goodWord ++ (decimalText good ++ (badWord ++ (decimalText bad ++ (lineEnd ∷ []))))
 
-unfoldable pub sheetOf : List ℕ → List ℕ
-sheetOf s =
+unfoldable pub sheetOf : Bool → List ℕ → List ℕ
+sheetOf rates s =
     cond (isList s)
-    (heading (countOf s) ++ (texts (countOf s) (lineAt s) ++ footing (goods (stars s)) (countOf s - goods (stars s))))
+    (heading (countOf s) ++ (texts (countOf s) (lineAt rates s) ++ footing (goods (stars s)) (countOf s - goods (stars s))))
     (refusedText 8)

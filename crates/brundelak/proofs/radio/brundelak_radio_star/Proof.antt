@@ -3,6 +3,7 @@ use borrow.Author.Needs.{needs}
 use Rattle.double.specs.laws.Calls.{asks-nothing}
 use Rattle.signed.specs.laws.Signed.{signed-word}
 use Rattle.brundelak.specs.laws.Radio.{received-handed, not-received-handed}
+use Rattle.brundelak.specs.laws.Stored.{field-by-field}
 use Rattle.brundelak.proofs.radio.brundelak_radio_star.Statement.{statement}
 use Rattle.brundelak.proofs.radio.brundelak_radio_star.Tie as tie
 
@@ -14,8 +15,14 @@ enum-known-n c = search needs
 
 returns : tie.Need-returns
 returns c =
-    let c2 = c .before .before in
-    received-handed (c2 .before .before .star-at .ensures) (c2 .star .given .1) (signed-word (c2 .star .given .0 .0 .dec) (c .struct-told .given .1 .1 .0 .1))
+    let told = c .before .before in
+    let shown = told .before .before in
+    let star = shown .star .given .0 .0 in
+    received-handed (shown .before .before .star-at .ensures) (shown .star .given .1)
+    (field-by-field star
+    (signed-word (star .dec) (told .struct-told .given .1 .1 .0 .1))
+    (signed-word (star .«asc_rate») (c .before .struct-told2 .given .1 .1 .1 .0 .1))
+    (signed-word (star .«dec_rate») (c .struct-told3 .given .1 .1 .1 .1 .0 .1)))
 
 returns-2 : tie.Need-returns-2
 returns-2 c = not-received-handed (c .before .before .before .star-at .ensures) (c .before .n .given .1)

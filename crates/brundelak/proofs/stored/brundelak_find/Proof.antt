@@ -13,7 +13,14 @@ enum-known-n : tie.Need-enum-known-n
 enum-known-n c = search needs
 
 returns : tie.Need-returns
-returns c = found-handed (c .before .before .before .find .ensures) (c .before .i .given .1) (signed-word (c .before .i .given .0 .1 .1 .0) (c .known-told .given .1 .1 .0 .1))
+returns c =
+    let told = c .before .before in
+    let i = told .before .before in
+    let star = i .i .given .0 .1 .0 in
+    found-handed (i .before .before .find .ensures) (i .i .given .1)
+    (signed-word (star .dec) (told .struct-told .given .1 .1 .0 .1))
+    (signed-word (star .«asc_rate») (c .before .struct-told2 .given .1 .1 .1 .0 .1))
+    (signed-word (star .«dec_rate») (c .struct-told3 .given .1 .1 .1 .1 .0 .1))
 
 returns-2 : tie.Need-returns-2
 returns-2 c = not-found-handed (c .before .before .before .find .ensures) (c .before .n .given .1)

@@ -2,7 +2,7 @@
 use borrow.Author.Needs.{needs}
 use Rattle.double.specs.laws.Calls.{asks-nothing}
 use Rattle.signed.specs.laws.Signed.{signed-word}
-use Rattle.brundelak.specs.laws.Stored.{star-handed, end-handed, not-stored-handed}
+use Rattle.brundelak.specs.laws.Stored.{star-handed, end-handed, not-stored-handed, field-by-field}
 use Rattle.brundelak.proofs.stored.brundelak_star.Statement.{statement}
 use Rattle.brundelak.proofs.stored.brundelak_star.Tie as tie
 
@@ -17,9 +17,14 @@ enum-known-n c = search needs
 
 returns : tie.Need-returns
 returns c =
-    let c2 = c .before .before in
-    let c4 = c2 .before .before in
-    star-handed (c4 .star-at .ensures) (c2 .star .given .1) (signed-word (c2 .star .given .0 .0 .dec) (c .struct-told .given .1 .1 .0 .1))
+    let told = c .before .before in
+    let shown = told .before .before in
+    let star = shown .star .given .0 .0 in
+    star-handed (shown .before .before .star-at .ensures) (shown .star .given .1)
+    (field-by-field star
+    (signed-word (star .dec) (told .struct-told .given .1 .1 .0 .1))
+    (signed-word (star .«asc_rate») (c .before .struct-told2 .given .1 .1 .1 .0 .1))
+    (signed-word (star .«dec_rate») (c .struct-told3 .given .1 .1 .1 .1 .0 .1)))
 
 returns-2 : tie.Need-returns-2
 returns-2 c = end-handed (c .before .before .star-at .ensures) (c .enum-told .given .1)

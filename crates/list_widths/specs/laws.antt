@@ -1,0 +1,5 @@
+-- What is proved of the moves between widths, for callers to cite. Theorems only.
+pub mod Narrow
+pub mod Checked
+pub mod Widths
+pub mod Wrong

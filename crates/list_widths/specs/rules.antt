@@ -1,0 +1,3 @@
+-- The moves between widths as the request writes them. Definitions only.
+pub mod Narrow
+pub mod Widths
