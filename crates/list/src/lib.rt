@@ -6,7 +6,7 @@ ghost use lib.ListN.{length};
 ghost use Rattle.lent.specs.rules.Writing.{Wrote};
 ghost use Rattle.lent.specs.rules.Put.{Put};
 ghost use Rattle.list.specs.rules.Record.{width, wordAt, starAt, inRange, wordBytes, starBytes};
-ghost use Rattle.list.specs.rules.Stars.{isList, countOf, stars, nth};
+ghost use Rattle.list.specs.rules.Stars.{isList, countOf, stars, nought, nth};
 ghost use Rattle.list.specs.rules.Reader.{shownStored, readRule};
 ghost use Rattle.list.specs.rules.Writer.{isStart, recordText};
 ghost use Rattle.list.specs.rules.Find.{shownFound, indexOf, findRule};
@@ -127,13 +127,10 @@ pub fn count(bytes: &[u8]) -> usize
     bytes.len() / WIDTH
 }
 
-// Star i, in range or not; past the last one a star of zeros.
-pub fn nth(bytes: &[u8], i: usize) -> Star
-    ensures { λ r. ⌜ r ≡ nth (now (bytes .entry)) i ⌝ }
+// The star of a record of zeros.
+pub fn nought() -> Star
+    ensures { λ r. ⌜ r ≡ nought ⌝ }
 {
-    if i < count(bytes) {
-        return record_at(bytes, i * WIDTH);
-    }
     Star {
         number: 0,
         asc: 0,
@@ -141,6 +138,16 @@ pub fn nth(bytes: &[u8], i: usize) -> Star
         asc_rate: 0,
         dec_rate: 0,
     }
+}
+
+// Star i, in range or not; past the last one a star of zeros.
+pub fn nth(bytes: &[u8], i: usize) -> Star
+    ensures { λ r. ⌜ r ≡ nth (now (bytes .entry)) i ⌝ }
+{
+    if i < count(bytes) {
+        return record_at(bytes, i * WIDTH);
+    }
+    nought()
 }
 
 // What stands at an offset of a list: a star, in range or not, or at the end none.

@@ -57,13 +57,7 @@ fn narrow_nth(bytes: &[u8], i: usize) -> Star
     if i < narrow_count(bytes) {
         return narrow_at(bytes, i * NARROW_WIDTH);
     }
-    Star {
-        number: 0,
-        asc: 0,
-        dec: 0,
-        asc_rate: 0,
-        dec_rate: 0,
-    }
+    list::nought()
 }
 
 // Whether a star stands still.

@@ -22,7 +22,7 @@ returns : tie.Need-returns
 returns c = c .record-at .ensures ∙ sym (nth-is _ _ (index (c .before)))
 
 returns-2 : tie.Need-returns-2
-returns-2 c = sym (nth-past _ _ (omega (arith, c .before .count .ensures, c .if1 .left)))
+returns-2 c = c .nought .ensures ∙ sym (nth-past _ _ (omega (arith, c .before .before .count .ensures, c .before .if1 .left)))
 
 pub nth-spec : {M : Type 1} → statement M
-nth-spec = tie.close (tie.spec asks-nothing mul-record-at record-at-requires returns returns-2)
+nth-spec = tie.close (tie.spec asks-nothing mul-record-at record-at-requires returns asks-nothing returns-2)

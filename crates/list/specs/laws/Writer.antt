@@ -54,16 +54,16 @@ module _ (at : ℕ) (r : Star) where
       go true false e h = absurd (refused-not-answered h)
       go false s e h = absurd (refused-not-answered h)
 
--- ---- stars and bytes, one more
+-- ---- stars and bytes, joined
 
-bytes-join : (rs qs : List Star) → listBytes (rs ++ qs) ≡ listBytes rs ++ listBytes qs
+pub bytes-join : (rs qs : List Star) → listBytes (rs ++ qs) ≡ listBytes rs ++ listBytes qs
 bytes-join [] qs = refl
 bytes-join (r ∷ rs) qs =
     ap (λ (l : List ℕ). starBytes r ++ l) (bytes-join rs qs) ∙ sym (append-assoc (starBytes r) (listBytes rs) (listBytes qs))
 
-fitting-join : (rs : List Star) (r : Star) → AllFitting rs → Fitting r → AllFitting (rs ++ (r ∷ []))
-fitting-join [] r f g = (g, tt)
-fitting-join (q ∷ qs) r f g = (f .0, fitting-join qs r (f .1) g)
+pub fitting-join : (rs qs : List Star) → AllFitting rs → AllFitting qs → AllFitting (rs ++ qs)
+fitting-join [] qs f g = g
+fitting-join (r ∷ rs) qs f g = (f .0, fitting-join rs qs (f .1) g)
 
 bytes-take : (k : ℕ) (s : List ℕ) → Bytes s → Bytes (take k s)
 bytes-take zero s y i = omega arith
@@ -107,4 +107,4 @@ put-adds-its-star old new at next r y fit p = record { list = listed; added = mo
     more =
         let w = bytes-back before (ap (λ (n : ℕ). n % width) at-long ∙ start at (is .0) .1) (bytes-take at old y) in
         ap stars (front ∙ ap (λ (l : List ℕ). l ++ starBytes r) (sym (w .bytes)) ∙ ap (λ (l : List ℕ). listBytes (stars before) ++ l) (sym (append-nil (starBytes r))) ∙ sym (bytes-join (stars before) (r ∷ [])))
-        ∙ stars-back (stars before ++ (r ∷ [])) (fitting-join (stars before) r (w .fitting) fit)
+        ∙ stars-back (stars before ++ (r ∷ [])) (fitting-join (stars before) (r ∷ []) (w .fitting) (fit, tt))

@@ -1,6 +1,6 @@
 -- A stored list as the list of its stars: star i is the record at the i-th offset.
 use Prim.Native.Nat.{ℕ, _*_, _/_, _%_, _<_}
-use mathlib.Core.Bool.{Bool, true, _&&_}
+use mathlib.Core.Bool.{Bool, true, cond, not, _&&_}
 use mathlib.Core.List.{List, [], _∷_, _++_}
 use lib.Dec.{eqb, leb}
 use lib.IntN.{pos}
@@ -35,6 +35,14 @@ allAre is (r ∷ rs) = is r && allAre is rs
 
 abbrev pub allInRange : List Star → Bool
 allInRange rs = allAre inRange rs
+
+-- number 0 is an empty place, whatever stands behind it; every other star is kept
+abbrev pub isKept : Star → Bool
+isKept r = not (eqb (r .number) 0)
+
+abbrev pub kept : List Star → List Star
+kept [] = []
+kept (r ∷ rs) = cond (isKept r) (r ∷ kept rs) (kept rs)
 
 -- the star of a record of zeros, which stands past the last one
 abbrev pub nought : Star

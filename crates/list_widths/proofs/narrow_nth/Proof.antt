@@ -22,7 +22,7 @@ returns : tie.Need-returns
 returns c = c .narrow-at .ensures ∙ sym (narrow-nth-is _ _ (index (c .before)))
 
 returns-2 : tie.Need-returns-2
-returns-2 c = sym (narrow-nth-past _ _ (omega (arith, c .before .narrow-count .ensures, c .if1 .left)))
+returns-2 c = c .nought .ensures ∙ sym (narrow-nth-past _ _ (omega (arith, c .before .before .narrow-count .ensures, c .before .if1 .left)))
 
 pub narrow-nth-spec : {M : Type 1} → statement M
-narrow-nth-spec = tie.close (tie.spec asks-nothing mul-narrow-at narrow-at-requires returns returns-2)
+narrow-nth-spec = tie.close (tie.spec asks-nothing mul-narrow-at narrow-at-requires returns asks-nothing returns-2)
