@@ -130,7 +130,7 @@ static void draw(const struct function *f)
 enum { WIDTH = BRUNDELAK_RECORD_BYTES, STARS = BRUNDELAK_MOST_STARS, LIST = BRUNDELAK_MOST_BYTES, RADIO = BRUNDELAK_MOST_RADIO_BYTES };
 /* Bytes of a record of the days before there were rates. */
 enum { OLD = 12 };
-static uint8_t list[LIST + 1], still[LIST], old[OLD * STARS + 1], radio[RADIO], text[LIST > RADIO ? LIST : RADIO], statuses[STARS];
+static uint8_t list[LIST + 1], holed[LIST], still[LIST], old[OLD * STARS + 1], radio[RADIO], text[LIST > RADIO ? LIST : RADIO], statuses[STARS];
 static double ascs[STARS], decs[STARS];
 static uint32_t tally[BRUNDELAK_COUNTS], word[3];
 static int32_t signed_word[3];
@@ -143,7 +143,8 @@ static int32_t any_rate(void)
     return (int32_t)drawn_below(40001) - 20000;
 }
 
-/* A list of so many stars and its radio form; the list of before, without rates, and that one moved up. */
+/* A list of so many stars and its radio form; the list of before, without rates, and that one moved up; the list with every third place
+ * empty. */
 static void fill(size_t stars)
 {
     for (size_t i = 0; i < stars; i++) {
@@ -151,6 +152,9 @@ static void fill(size_t stars)
                                (int32_t)drawn_below(648000001) - 324000000, any_rate(), any_rate(), &after) != 0)
             exit(1);
         memcpy(old + OLD * i, list + WIDTH * i, OLD);
+        memcpy(holed + WIDTH * i, list + WIDTH * i, WIDTH);
+        if (i % 3 == 1)
+            memset(holed + WIDTH * i, 0, 4);
     }
     list_len = WIDTH * stars;
     old_len = OLD * stars;
@@ -165,6 +169,7 @@ static void damage(void)
 {
     for (size_t n = list_len == 0 ? 0 : 1 + list_len / 500; n > 0; n--) {
         list[drawn_below(list_len)] = 0xFF;
+        holed[drawn_below(list_len)] = 0xFF;
         still[drawn_below(still_len)] = 0xFF;
         old[drawn_below(old_len)] = 0xFF;
         radio[radio_len / 2 + drawn_below(radio_len / 2)] = 0xFF;
@@ -265,12 +270,31 @@ static void list_20_to_12(void)
     }
 }
 
+static void strike(void)
+{
+    for (uint32_t i = 0; i < 40; i++)
+        AT(strike)(holed, less(list_len, i / 32), i);
+}
+
+static void add(void)
+{
+    for (uint32_t i = 0; i < 40; i++)
+        AT(add)(holed, less(list_len, i / 32), i, 3600000 * i, -(int32_t)(i * 10000000), (int32_t)(i * 640), -(int32_t)i);
+}
+
+static void gather(void)
+{
+    for (size_t i = 0; i < 2; i++)
+        AT(gather)(holed, less(list_len, 1 - i));
+}
+
 #define LISTED(name, by) {#name, (any_function *)brundelak_##name, by}
 static const struct { const char *name; any_function *f; void (*by)(void); } listed[] = {
     LISTED(batch, batch), LISTED(batch_published, batch), LISTED(tally_raise, tally_raise), LISTED(star, star), LISTED(put_star, put_star),
     LISTED(find, find), LISTED(radio_open, radio_open), LISTED(radio_star, radio_star), LISTED(radio_accept, radio_accept),
     LISTED(radio_put_head, radio_put_head), LISTED(radio_put_star, radio_put_star), LISTED(radio_to_list, radio_to_list),
-    LISTED(list_to_radio, list_to_radio), LISTED(list_12_to_20, list_12_to_20), LISTED(list_20_to_12, list_20_to_12)};
+    LISTED(list_to_radio, list_to_radio), LISTED(list_12_to_20, list_12_to_20), LISTED(list_20_to_12, list_20_to_12),
+    LISTED(strike, strike), LISTED(add, add), LISTED(gather, gather)};
 
 enum { LISTED_COUNT = sizeof listed / sizeof *listed };
 

@@ -25,8 +25,9 @@
  *        start (the end itself is accepted); a record to be written elsewhere than at one of a list's 3000 record starts,
  *        or without room; a count to be raised already at 60000; a star count of a radio list above 3000; a slice too
  *        short for a radio list, a part of one or the list of one, or for a list of the other width
- *    9   a star record out of range; a status given to the tally that is neither 0 nor a number of this table (before 8)
- *   10   no star has the number sought
+ *    9   a star record out of range; a star to be added whose number is 0; a status given to the tally that is neither 0 nor
+ *        a number of this table (before 8)
+ *   10   no star has the number sought; the number to be struck is 0
  *   11   the first byte of a radio list is neither 2 nor 3
  *   12   a number of a radio list is not in its shortest length or above 32 bits
  *   13   a radio list is cut short, an empty one too, or has bytes over
@@ -34,6 +35,8 @@
  *   15   the star never rises: it stays below the standard altitude
  *   16   the star never sets: it stays above the standard altitude
  *   17   a star's rate is not zero, and a narrow list, to which it is to move down, has no rates
+ *   18   a star to be added has the number of a record of the list, in range or not
+ *   19   no place of the list is empty, so that no star can be added
  * 1 to 5 are tested first, lowest number first, over all arguments; the others as the work meets them.
  * Limits themselves are accepted.
  *
@@ -49,7 +52,8 @@
  * right ascension and of declination; a list has at most 3000 stars in place of 5000, in every form; the radio form that is
  * written begins with byte 3. Five functions have another shape: brundelak_star, brundelak_find and brundelak_radio_star
  * hand out asc_rate and dec_rate after dec, brundelak_put_star and brundelak_radio_put_star take both after dec. New are
- * brundelak_list_12_to_20 and brundelak_list_20_to_12, by which lists of before move up and back, refusal 17, and a star's
+ * brundelak_list_12_to_20 and brundelak_list_20_to_12, by which lists of before move up and back, brundelak_strike,
+ * brundelak_add and brundelak_gather, by which a list is edited where it stands, the refusals 17, 18 and 19, and a star's
  * status 3. Lengths, places and indices are uint64_t, which on x86-64 is the same call. The number of a version is
  * major * 65536 + minor * 256 + patch; of 0.1.0 it was 100.
  *
@@ -101,7 +105,7 @@ uint32_t brundelak_version(void);
 /* The tally: how many counts it has, the count at which one is full, and the highest status that is known. */
 #define BRUNDELAK_COUNTS 20
 #define BRUNDELAK_FULLEST 60000
-#define BRUNDELAK_HIGHEST_STATUS 17
+#define BRUNDELAK_HIGHEST_STATUS 19
 
 /* What brundelak_float_environment finds wrong. */
 #define BRUNDELAK_ENVIRONMENT_ROUNDING 1
@@ -128,7 +132,9 @@ enum brundelak_status {
     BRUNDELAK_REFUSAL_NO_DIRECTION = 14,
     BRUNDELAK_REFUSAL_NEVER_RISES = 15,
     BRUNDELAK_REFUSAL_NEVER_SETS = 16,
-    BRUNDELAK_REFUSAL_MOVING_STAR = 17
+    BRUNDELAK_REFUSAL_MOVING_STAR = 17,
+    BRUNDELAK_REFUSAL_NUMBER_PRESENT = 18,
+    BRUNDELAK_REFUSAL_NO_EMPTY_PLACE = 19
 };
 
 /* What a status means, as a sentence for people: also of BRUNDELAK_END, and of a number that has no name here. */
@@ -171,6 +177,10 @@ static inline const char *brundelak_sentence(uint8_t status)
         return "the star never sets: it stays above the standard altitude";
     case BRUNDELAK_REFUSAL_MOVING_STAR:
         return "a star's rate is not zero, and a record of 12 bytes has no rates";
+    case BRUNDELAK_REFUSAL_NUMBER_PRESENT:
+        return "a star of the list has the number already";
+    case BRUNDELAK_REFUSAL_NO_EMPTY_PLACE:
+        return "no place of the list is empty";
     case BRUNDELAK_END:
         return "no star is left";
     default:
@@ -619,7 +629,8 @@ uint8_t brundelak_star(const uint8_t *bytes, uint64_t len, uint64_t place, uint3
  * Given:     out, len             a slice of any length
  *            place                where in it the record begins: a multiple of 20, below 60000
  *            number, asc, dec, asc_rate, dec_rate
- *                                 the star's fields; both rates are 0 of a star that stands still
+ *                                 the star's fields; both rates are 0 of a star that stands still; number 0 writes an empty
+ *                                 place, for brundelak_add
  * Returned:  out                  the record from place on; all else stays
  *            next                 the place after it
  * Refusals:  9 (out of range), then 8 (no record of a list begins there, or no room); the slice stays unchanged */
@@ -659,11 +670,42 @@ uint8_t brundelak_batch_published(const uint8_t *bytes, uint64_t len, double day
                                   uint32_t *tally);
 
 /* One status counted in a tally.
- * Given:     status   0, or a refusal number up to 17
+ * Given:     status   0, or a refusal number up to 19
  *            tally    BRUNDELAK_COUNTS counts
  * Returned:  tally    the count of that status raised by one
  * Refusals:  9 for a status that is not known, then 8 for a count that is full, 60000; the counts stay unchanged */
 uint8_t brundelak_tally_raise(uint8_t status, uint32_t *tally);
+
+/* ---- a list edited where it stands -------------------------------------------------------------------------------
+ * To these three a place whose number is 0 is empty, whatever stands behind the 0; brundelak_star, brundelak_find and the
+ * batch take it as any record. None of them changes a list's length: places for stars to come are laid as zero bytes, and
+ * zero bytes alone are a list of empty places. A refused call leaves every byte. */
+
+/* The first star with a number struck off a list, in range or not.
+ * Given:     bytes, len   the list
+ *            number       the number of the star
+ * Returned:  bytes        all 20 bytes of its record zero; every other record stays
+ * Refusals:  8, then 10 (the number is 0, or no record has it)
+ * Note:      a list from elsewhere may have a number twice. Struck once it is there still, and brundelak_add refuses it by
+ *            18: strike it until the answer is 10. */
+uint8_t brundelak_strike(uint8_t *bytes, uint64_t len, uint32_t number);
+
+/* A star added to a list, in its first empty place.
+ * Given:     bytes, len           the list
+ *            number, asc, dec, asc_rate, dec_rate
+ *                                 the star's fields; both rates are 0 of a star that stands still
+ * Returned:  bytes                all 20 bytes of that place are the star's record; every other record stays
+ * Refusals:  8, then 9 (the number is 0, or the record out of range), then 18 (a record has the number, in range or not),
+ *            then 19 (no place is empty) */
+uint8_t brundelak_add(uint8_t *bytes, uint64_t len, uint32_t number, uint32_t asc, int32_t dec, int32_t asc_rate,
+                      int32_t dec_rate);
+
+/* The stars of a list brought forward, so that its empty places stand behind them.
+ * Given:     bytes, len   the list
+ * Returned:  bytes        every record whose number is not 0, in range or not, byte for byte and in its order, then zero
+ *                         bytes to the end
+ * Refusals:  8 */
+uint8_t brundelak_gather(uint8_t *bytes, uint64_t len);
 
 /* ---- lists of before ---------------------------------------------------------------------------------------------
  * A narrow list is one of version 0.1: number, right ascension and declination as above, 12 bytes a record. A list

@@ -1,4 +1,4 @@
-/* Ten functions, each put in the place of the archive's by the linker, with one slip of the boundary: fuzz must report each. */
+/* Thirteen functions, each put in the place of the archive's by the linker, with one slip of the boundary: fuzz must report each. */
 #include "brundelak.h"
 
 /* A NaN tidied, any other number kept: made quiet, made the one without sign and payload, or its sign taken away. */
@@ -25,12 +25,18 @@ uint8_t __real_brundelak_radio_to_list(const uint8_t *bytes, uint64_t len, uint8
 uint8_t __real_brundelak_list_to_radio(const uint8_t *bytes, uint64_t len, uint8_t *out, uint64_t out_len, uint64_t *written);
 uint8_t __real_brundelak_list_12_to_20(const uint8_t *bytes, uint64_t len, uint8_t *out, uint64_t out_len, uint64_t *written);
 uint8_t __real_brundelak_list_20_to_12(const uint8_t *bytes, uint64_t len, uint8_t *out, uint64_t out_len, uint64_t *written);
+uint8_t __real_brundelak_strike(uint8_t *bytes, uint64_t len, uint32_t number);
+uint8_t __real_brundelak_add(uint8_t *bytes, uint64_t len, uint32_t number, uint32_t asc, int32_t dec, int32_t asc_rate, int32_t dec_rate);
+uint8_t __real_brundelak_gather(uint8_t *bytes, uint64_t len);
 uint8_t __wrap_brundelak_radio_star(const uint8_t *bytes, uint64_t len, uint64_t place, uint32_t *number, uint32_t *asc, int32_t *dec,
                                     int32_t *asc_rate, int32_t *dec_rate, uint64_t *next);
 uint8_t __wrap_brundelak_radio_to_list(const uint8_t *bytes, uint64_t len, uint8_t *out, uint64_t out_len, uint64_t *written);
 uint8_t __wrap_brundelak_list_to_radio(const uint8_t *bytes, uint64_t len, uint8_t *out, uint64_t out_len, uint64_t *written);
 uint8_t __wrap_brundelak_list_12_to_20(const uint8_t *bytes, uint64_t len, uint8_t *out, uint64_t out_len, uint64_t *written);
 uint8_t __wrap_brundelak_list_20_to_12(const uint8_t *bytes, uint64_t len, uint8_t *out, uint64_t out_len, uint64_t *written);
+uint8_t __wrap_brundelak_strike(uint8_t *bytes, uint64_t len, uint32_t number);
+uint8_t __wrap_brundelak_add(uint8_t *bytes, uint64_t len, uint32_t number, uint32_t asc, int32_t dec, int32_t asc_rate, int32_t dec_rate);
+uint8_t __wrap_brundelak_gather(uint8_t *bytes, uint64_t len);
 uint8_t __wrap_brundelak_tally_raise(uint8_t status, uint32_t *tally);
 uint8_t __wrap_brundelak_put_star(uint8_t *out, uint64_t len, uint64_t place, uint32_t number, uint32_t asc, int32_t dec,
                                   int32_t asc_rate, int32_t dec_rate, uint64_t *next);
@@ -208,6 +214,49 @@ uint8_t __wrap_brundelak_put_star(uint8_t *out, uint64_t len, uint64_t place, ui
 #elif SLIP == 20 /* the place of the record in place of the one after it */
     if (status == 0)
         *next = place;
+#endif
+    return status;
+}
+
+uint8_t __wrap_brundelak_strike(uint8_t *bytes, uint64_t len, uint32_t number)
+{
+    uint8_t last = len > 0 ? bytes[len - 1] : 0;
+    (void)last;
+    uint8_t status = __real_brundelak_strike(bytes, len, number);
+#if SLIP == 31 /* the last byte of the list left as it was */
+    if (status == 0)
+        bytes[len - 1] = last;
+#elif SLIP == 32 /* a refusal that zeroes */
+    if (status == 10 && len > 0)
+        bytes[len - 1] = 0;
+#endif
+    return status;
+}
+
+uint8_t __wrap_brundelak_add(uint8_t *bytes, uint64_t len, uint32_t number, uint32_t asc, int32_t dec, int32_t asc_rate, int32_t dec_rate)
+{
+    uint8_t status = __real_brundelak_add(bytes, len, number, asc, dec, asc_rate, dec_rate);
+#if SLIP == 33 /* a byte read past a full list */
+    if (status == 19 && ((const volatile uint8_t *)bytes)[len] == 1)
+        return 0;
+#elif SLIP == 34 /* a number that stands there written over */
+    if (status == 18)
+        memcpy(bytes, &number, sizeof number);
+#endif
+    return status;
+}
+
+uint8_t __wrap_brundelak_gather(uint8_t *bytes, uint64_t len)
+{
+    uint8_t last = len > 0 ? bytes[len - 1] : 0;
+    (void)last;
+    uint8_t status = __real_brundelak_gather(bytes, len);
+#if SLIP == 35 /* an old byte left behind the stars */
+    if (status == 0 && len > 0)
+        bytes[len - 1] = last;
+#elif SLIP == 36 /* zeros past the list */
+    if (status == 0)
+        bytes[len] = 0;
 #endif
     return status;
 }

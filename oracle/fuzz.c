@@ -18,13 +18,26 @@
 
 /* ---- random numbers ---- */
 
-/* Any bits, limits and doubles beside them, or small enough to be answered. */
+/* Bits of a NaN, which no function answers: some that are known for their edges, or any sign and payload, quiet or signalling. */
+static uint64_t any_nan(void)
+{
+    static const uint64_t at[] = {0x7FF0000000000001, 0xFFF0000000000001, 0x7FF4A5A5A5A50003, 0x7FF7FFFFFFFFFFFF,
+                                  0x7FF8000000000000, 0xFFF8000000000000, 0x7FFFFFFFFFFFFFFF, 0xFFFFFFFFFFFFFFFF};
+    if (drawn_below(4) == 0)
+        return at[drawn_below(sizeof at / sizeof *at)];
+    return drawn_bits() | 0x7FF0000000000000 | (uint64_t)1 << drawn_below(52);
+}
+
+/* Any bits, limits and doubles beside them, or small enough to be answered; one of 32 a NaN or an infinity, which some functions refuse
+ * alone. */
 static double any_double(void)
 {
     static const double at[] = {0.0, 64.0, 1.57, 1.5707963267948966, 400000.0, 1.0, 0.0001, 1000000.0, -1000.0, 100000.0,
                                 1721045.0, 3182045.0, 2451545.0, 360.0, 6.283185307179586, 89.8, 1e-310, INFINITY, NAN};
     double x;
     uint64_t b;
+    if (drawn_below(32) == 0)
+        return drawn_below(2) == 0 ? as_double(any_nan()) : drawn_below(2) == 0 ? INFINITY : -INFINITY;
     switch (drawn_below(8)) {
     case 0:
         return as_double(drawn_bits());
@@ -44,16 +57,6 @@ static double any_double(void)
 static double any_day(void)
 {
     return drawn_below(8) == 0 ? any_double() : 1721045.0 + (double)(drawn_bits() >> 11) / 9007199254740992.0 * 1461000.0;
-}
-
-/* Bits of a NaN, which no function answers: some that are known for their edges, or any sign and payload, quiet or signalling. */
-static uint64_t any_nan(void)
-{
-    static const uint64_t at[] = {0x7FF0000000000001, 0xFFF0000000000001, 0x7FF4A5A5A5A50003, 0x7FF7FFFFFFFFFFFF,
-                                  0x7FF8000000000000, 0xFFF8000000000000, 0x7FFFFFFFFFFFFFFF, 0xFFFFFFFFFFFFFFFF};
-    if (drawn_below(4) == 0)
-        return at[drawn_below(sizeof at / sizeof *at)];
-    return drawn_bits() | 0x7FF0000000000000 | (uint64_t)1 << drawn_below(52);
 }
 
 /* ---- guarded memory ---- */
@@ -172,8 +175,8 @@ static void fault(int signal)
 
 /* ---- calls ---- */
 
-/* star, find, both batches, tally_raise, put_star, those of radio lists and the moves stand behind the functions of numbers. */
-enum { KINDS = FUNCTION_COUNT + 15 };
+/* star, find, both batches, tally_raise, put_star, those of radio lists, the moves and the edits stand behind the functions of numbers. */
+enum { KINDS = FUNCTION_COUNT + 18 };
 static uint64_t answered[KINDS], refused[KINDS], unsound;
 static size_t which;
 
@@ -353,11 +356,17 @@ static void star(void)
     judge(status, sound);
 }
 
+/* A number that a drawn list often has. */
+static uint32_t number_of_few(void)
+{
+    return drawn_below(8) == 0 ? (uint32_t)drawn_bits() : (uint32_t)drawn_below(20);
+}
+
 static void find(void)
 {
     name = "find";
     size_t len = list();
-    uint32_t number = drawn_below(8) == 0 ? (uint32_t)drawn_bits() : (uint32_t)drawn_below(20);
+    uint32_t number = number_of_few();
     uint8_t status = brundelak_find(bytes.at, len, number, lend(&words[0], sizeof(uint64_t)), lend(&words[1], 4), lend(&words[2], 4),
                                     lend(&words[3], 4), lend(&words[4], 4));
     int sound = (status == 8) == bad_list(len) && (status == 0 || (status >= 8 && status <= 10)) && kept(&bytes) && handed(status, 0, WORDS);
@@ -742,6 +751,75 @@ static void list_20_to_12(void)
     move(brundelak_list_20_to_12, brundelak_list_12_to_20, len, bad_list(len) ? 8 : !good ? 9 : moving > 0 ? 17 : 0, len / WIDTH * OLD);
 }
 
+/* ---- edits of the list where it stands ---- */
+
+/* A list, now and then of zero bytes alone. */
+static size_t list_to_edit(void)
+{
+    size_t len = list();
+    if (drawn_below(8) == 0)
+        memset(bytes.at, 0, len);
+    given(&bytes);
+    return len;
+}
+
+/* The place of the first record with the number; the end where none has it. */
+static size_t place_of(size_t len, uint32_t number)
+{
+    size_t place = 0;
+    while (place + WIDTH <= len && memcmp(bytes.at + place, &number, sizeof number) != 0)
+        place += WIDTH;
+    return place + WIDTH <= len ? place : len;
+}
+
+/* Refused, every byte of the list is as it was; answered, all but the record at a place, which has these words. */
+static int put_there(uint8_t status, size_t place, const uint32_t *of)
+{
+    return status != 0 ? kept(&bytes) : kept_but(&bytes, place, WIDTH) && memcmp(bytes.at + place, of, WIDTH) == 0;
+}
+
+static void strike(void)
+{
+    static const uint32_t nought[WORDS];
+    name = "strike";
+    size_t len = list_to_edit();
+    uint32_t number = number_of_few();
+    size_t place = place_of(len, number);
+    uint8_t status = brundelak_strike(bytes.at, len, number);
+    judge(status, status == (bad_list(len) ? 8 : number == 0 || place == len ? 10 : 0) && put_there(status, place, nought));
+}
+
+static void add(void)
+{
+    name = "add";
+    uint32_t of[WORDS];
+    any_star(of);
+    of[0] = number_of_few();
+    size_t len = list_to_edit(), same = place_of(len, of[0]), empty = place_of(len, 0);
+    uint8_t status = brundelak_add(bytes.at, len, of[0], of[1], (int32_t)of[2], (int32_t)of[3], (int32_t)of[4]);
+    uint8_t expected = bad_list(len) ? 8 : of[0] == 0 || !in_range(of) ? 9 : same != len ? 18 : empty == len ? 19 : 0;
+    judge(status, status == expected && put_there(status, empty, of));
+}
+
+static void gather(void)
+{
+    static uint8_t want[ROOM];
+    name = "gather";
+    size_t len = list_to_edit(), end = 0;
+    memset(want, 0, len);
+    for (size_t i = 0; i < len / WIDTH; i++) {
+        uint32_t of[WORDS];
+        star_of(WIDTH, i, of);
+        if (of[0] != 0) {
+            memcpy(want + end, of, WIDTH);
+            end += WIDTH;
+        }
+    }
+    uint8_t status = brundelak_gather(bytes.at, len);
+    int done = status != 0 ? kept(&bytes) : kept_beyond(&bytes, len) && memcmp(bytes.at, want, len) == 0;
+    judge(status, status == (bad_list(len) ? 8 : 0) && done);
+}
+
 /* ---- the guard is tried first ---- */
 
 enum { SEEN = 3 };
@@ -808,7 +886,7 @@ int main(int argc, char **argv)
     signal(SIGFPE, fault);
     static void (*const others[KINDS - FUNCTION_COUNT])(void) = {
         star, find, batch, batch_published, tally_raise, put_star, radio_open, radio_star, radio_accept, radio_put_head, radio_put_star,
-        radio_to_list, list_to_radio, list_12_to_20, list_20_to_12};
+        radio_to_list, list_to_radio, list_12_to_20, list_20_to_12, strike, add, gather};
     for (at_call = 0; at_call < calls; at_call++) {
         which = drawn_below(KINDS);
         memset(args, 0, sizeof args);

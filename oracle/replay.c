@@ -227,6 +227,29 @@ static unsigned written(const char *name)
     return got == status && after == end && memcmp(want, slice, sizeof slice) == 0 ? status : 999;
 }
 
+/* A call that edits the list where it stands: its name tells which. The list is then as the line tells it. */
+static unsigned edited(const char *name)
+{
+    uint8_t want[sizeof list];
+    uint32_t given[5] = {0};
+    unsigned got;
+    memset(list + list_len, 0xA5, sizeof list - list_len);
+    memcpy(want, list, sizeof list);
+    for (size_t i = 0; i < (name[0] == 'g' ? 0 : name[0] == 's' ? 1 : 5); i++)
+        given[i] = (uint32_t)whole();
+    if (strcmp(name, "strike") == 0)
+        got = brundelak_strike(list, list_len, given[0]);
+    else if (strcmp(name, "add") == 0)
+        got = brundelak_add(list, list_len, given[0], given[1], (int32_t)given[2], (int32_t)given[3], (int32_t)given[4]);
+    else
+        got = brundelak_gather(list, list_len);
+    unsigned status = (unsigned)whole();
+    int told = status != 0 || read_bytes(strtok(NULL, " \n"), want, list_len) == list_len;
+    int agrees = told && got == status && memcmp(want, list, sizeof list) == 0;
+    memcpy(list, want, sizeof list);
+    return agrees ? status : 999;
+}
+
 /* ---- a sample of the days of 12-byte records ---- */
 
 enum { OLD = 12 };
@@ -327,6 +350,8 @@ int main(int argc, char **argv)
             status = radio_accept();
         } else if (move(word) != NULL || strcmp(word, "put_star") == 0 || strncmp(word, "radio_put_", 10) == 0) {
             status = written(word);
+        } else if (strcmp(word, "strike") == 0 || strcmp(word, "add") == 0 || strcmp(word, "gather") == 0) {
+            status = edited(word);
         } else {
             size_t given_count = numbers(word, given, 9);
             word = strtok(NULL, " \n");

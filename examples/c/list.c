@@ -1,4 +1,5 @@
-/* A list written star by star, read back, and reduced from one day to another: each star's place, or why it has none. */
+/* A list written star by star, read back, reduced from one day to another, each star's place or why it has none, and edited where it
+   stands. */
 #include <stdio.h>
 #include "brundelak.h"
 
@@ -43,6 +44,29 @@ static uint8_t print_list(const uint8_t *list, uint64_t len)
     return status;
 }
 
+/* Adds a star to a list, and says why where that is refused. */
+static void add(uint8_t *list, uint64_t len, struct star s)
+{
+    uint8_t status = brundelak_add(list, len, s.number, s.asc, s.dec, s.asc_rate, s.dec_rate);
+    if (status != BRUNDELAK_ANSWERED)
+        printf("star %u is not added: %s\n", (unsigned)s.number, brundelak_sentence(status));
+}
+
+/* Strikes the star past the pole and adds Arcturus in its place; then strikes the star at the pole and cuts the place that is empty
+   once the others are brought forward. Answers how many bytes are left. */
+static uint64_t edit_list(uint8_t *list, uint64_t len)
+{
+    static const struct star arcturus = {5340, 770095050, 69056700, -1158, -1999};
+    add(list, len, arcturus); /* no place is empty yet */
+    if (brundelak_strike(list, len, 3) != BRUNDELAK_ANSWERED)
+        return 0;
+    add(list, len, arcturus);
+    add(list, len, arcturus); /* and now it is there */
+    if (brundelak_strike(list, len, 2) != BRUNDELAK_ANSWERED || brundelak_gather(list, len) != BRUNDELAK_ANSWERED)
+        return 0;
+    return len - BRUNDELAK_RECORD_BYTES;
+}
+
 int main(void)
 {
     if (brundelak_version() != BRUNDELAK_VERSION_NUMBER) {
@@ -69,5 +93,5 @@ int main(void)
             printf("refused by %u: %s\n", (unsigned)status[i], brundelak_sentence(status[i]));
     printf("answered %u, too steep %u, past the pole %u\n", (unsigned)tally[BRUNDELAK_ANSWERED],
            (unsigned)tally[BRUNDELAK_REFUSAL_STEEP], (unsigned)tally[BRUNDELAK_REFUSAL_ANGLE]);
-    return 0;
+    return print_list(list, edit_list(list, len)) == BRUNDELAK_END ? 0 : 1;
 }

@@ -92,7 +92,7 @@ const MOST_BYTES: usize = RECORD * MOST_STARS;
 /// Counts of a tally, a count that is full, and the highest status that is known.
 const COUNTS: usize = 20;
 const FULLEST: u32 = 60000;
-const HIGHEST_STATUS: u8 = 17;
+const HIGHEST_STATUS: u8 = 19;
 
 #[derive(Clone, Copy, PartialEq, Debug)]
 pub struct Record {
@@ -146,6 +146,11 @@ pub fn bad_list(bytes: &[u8]) -> bool {
     bytes.len() % RECORD != 0 || bytes.len() > MOST_BYTES
 }
 
+/// The whole records of a list.
+pub fn records(list: &[u8]) -> Vec<Record> {
+    (0..list.len() / RECORD).map(|i| Record::at(list, RECORD * i)).collect()
+}
+
 /// The star at a place and the place after it: (0, ..), (8, none) or (255, none).
 fn star(bytes: &[u8], place: usize) -> (u8, Option<(Record, usize)>) {
     if bad_list(bytes) || place > bytes.len() || place % RECORD != 0 {
@@ -172,7 +177,7 @@ fn find(bytes: &[u8], number: u32) -> (u8, Option<(usize, Record)>) {
     if bad_list(bytes) {
         return (8, None);
     }
-    let found = (0..bytes.len() / RECORD).map(|i| (i, Record::at(bytes, RECORD * i))).find(|&(_, r)| r.number == number);
+    let found = records(bytes).into_iter().enumerate().find(|&(_, r)| r.number == number);
     match found {
         None => (10, None),
         Some((_, r)) if !r.in_range() => (9, None),

@@ -9,6 +9,7 @@ extern crate astro_routed as routed;
 
 mod aimed;
 mod atmos;
+mod edits;
 mod functions;
 mod inputs;
 mod lists;
@@ -167,7 +168,7 @@ fn compare(n: u64) -> bool {
 
 /// Calls on lists, and of those that differ.
 fn compare_lists(n: u64) -> (u64, u64) {
-    let all = [lists::compare(n / 4), radio::compare(n), widths::compare(n)];
+    let all = [lists::compare(n / 4), radio::compare(n), widths::compare(n), edits::compare(n)];
     all.iter().fold((0, 0), |t, c| (t.0 + c.0, t.1 + c.1))
 }
 
@@ -305,6 +306,7 @@ const REFUSED: usize = 6;
 const LISTS: u64 = 48;
 const RADIO_LISTS: u64 = 64;
 const WIDTH_LISTS: u64 = 48;
+const EDITED_LISTS: u64 = 48;
 
 fn sample(n: u64) {
     println!("# What the supplied Rust answers over the port's elementary functions and helpers, and these by their rules written a second");
@@ -341,6 +343,7 @@ fn sample(n: u64) {
     lists::sample(LISTS);
     radio::sample(RADIO_LISTS);
     widths::sample(WIDTH_LISTS);
+    edits::sample(EDITED_LISTS);
 }
 
 fn main() {

@@ -1,6 +1,6 @@
 //! The moves between widths: request (x)'s, written a second time, and the port's compared with them. A list of before has 12 bytes a star.
 use inputs::Random;
-use lists::{a_bad_rate, a_rate, bad_list, Record, MOST_STARS, RECORD};
+use lists::{a_bad_rate, a_rate, bad_list, records, Record, MOST_STARS, RECORD};
 use put::{compare_back, compare_put, hex, put_told, room, Answer};
 use Count;
 
@@ -13,10 +13,6 @@ extern "C" {
 
 /// Bytes of a record of before.
 const OLD: usize = 12;
-
-fn records(list: &[u8]) -> Vec<Record> {
-    (0..list.len() / RECORD).map(|i| Record::at(list, RECORD * i)).collect()
-}
 
 fn refused_record(list: &[u8]) -> Answer<()> {
     if records(list).iter().any(|one| !one.in_range()) {
@@ -48,7 +44,7 @@ fn down(bytes: &[u8]) -> Answer<Vec<u8>> {
 // ---- inputs
 
 /// A star that stands still, in range but for one of so many.
-fn still(r: &mut Random, out_of: usize) -> Record {
+pub fn still(r: &mut Random, out_of: usize) -> Record {
     const ASC: [u32; 3] = [1296000000, 0x80000000, 0xFFFFFFFF];
     const DEC: [i32; 4] = [324000001, -324000001, 2147483647, -2147483648];
     let mut one = Record {
@@ -69,7 +65,7 @@ fn still(r: &mut Random, out_of: usize) -> Record {
 }
 
 /// Some bytes over, or fewer.
-fn of_any_length(r: &mut Random, bytes: &mut Vec<u8>) {
+pub fn of_any_length(r: &mut Random, bytes: &mut Vec<u8>) {
     match r.below(12) {
         0 => bytes.extend((0..1 + r.below(RECORD - 1)).map(|_| 0)),
         1 => {

@@ -135,6 +135,17 @@ mod stored {
             asc_rate: *mut i32,
             dec_rate: *mut i32,
         ) -> u8;
+        pub fn brundelak_strike(bytes: *mut u8, len: usize, number: u32) -> u8;
+        pub fn brundelak_add(
+            bytes: *mut u8,
+            len: usize,
+            number: u32,
+            asc: u32,
+            dec: i32,
+            asc_rate: i32,
+            dec_rate: i32,
+        ) -> u8;
+        pub fn brundelak_gather(bytes: *mut u8, len: usize) -> u8;
         pub fn brundelak_list_12_to_20(
             bytes: *const u8,
             len: usize,
@@ -230,6 +241,29 @@ pub fn find(bytes: &[u8], number: u32) -> Result<(usize, Star), Refusal> {
     };
     Refusal::from_status(status)?;
     Ok((index, star))
+}
+
+pub fn strike(bytes: &mut [u8], number: u32) -> Result<(), Refusal> {
+    Refusal::from_status(unsafe { stored::brundelak_strike(bytes.as_mut_ptr(), bytes.len(), number) })
+}
+
+pub fn add(bytes: &mut [u8], star: Star) -> Result<(), Refusal> {
+    let status = unsafe {
+        stored::brundelak_add(
+            bytes.as_mut_ptr(),
+            bytes.len(),
+            star.number,
+            star.asc,
+            star.dec,
+            star.asc_rate,
+            star.dec_rate,
+        )
+    };
+    Refusal::from_status(status)
+}
+
+pub fn gather(bytes: &mut [u8]) -> Result<(), Refusal> {
+    Refusal::from_status(unsafe { stored::brundelak_gather(bytes.as_mut_ptr(), bytes.len()) })
 }
 
 /// The tally.

@@ -13,6 +13,28 @@
 //! # Ok(())
 //! # }
 //! ```
+//!
+//! A list is edited where it stands by [`strike`], [`add`] and [`gather`]. To these a place whose number is 0 is empty, whatever stands
+//! behind the 0; [`stars`], [`find`] and the batch take it as any record. None of the three changes a list's length: places for stars to
+//! come are laid as zero bytes.
+//!
+//! ```
+//! # fn main() -> Result<(), brundelak::Refusal> {
+//! use brundelak::list::{self, Star};
+//! use brundelak::Refusal;
+//! let mut bytes = [0; 2 * list::RECORD_BYTES]; // two empty places
+//! list::add(&mut bytes, Star::still(7, 0, 0))?;
+//! list::add(&mut bytes, Star::still(9, 3600000, -3600000))?;
+//! assert_eq!(list::add(&mut bytes, Star::still(9, 0, 0)), Err(Refusal::NumberPresent));
+//! assert_eq!(list::add(&mut bytes, Star::still(8, 0, 0)), Err(Refusal::NoEmptyPlace));
+//! list::strike(&mut bytes, 7)?;
+//! list::gather(&mut bytes)?; // star 9 stands first now, and an empty place behind it
+//! assert_eq!(list::find(&bytes, 9)?, (0, Star::still(9, 3600000, -3600000)));
+//! list::add(&mut bytes, Star::still(7, 0, 0))?;
+//! assert_eq!(list::find(&bytes, 7)?.0, 1);
+//! # Ok(())
+//! # }
+//! ```
 use crate::{ffi, Refusal};
 use std::iter::FusedIterator;
 
@@ -92,8 +114,9 @@ pub fn star(bytes: &[u8], place: usize) -> Result<Option<(Star, usize)>, Refusal
 }
 
 /// Writes a star's record from a place of a slice on, and answers the place after it: stars written one after the other from place 0 on
-/// are a list, which ends at the last place answered. Refusals, which leave the slice unchanged: 9, then 8 for a place at which no record
-/// of a list begins (not a multiple of [`RECORD_BYTES`], or [`MOST_BYTES`] and more) and for no room.
+/// are a list, which ends at the last place answered. Number 0 writes an empty place, for [`add`]. Refusals, which leave the slice
+/// unchanged: 9, then 8 for a place at which no record of a list begins (not a multiple of [`RECORD_BYTES`], or [`MOST_BYTES`] and more)
+/// and for no room.
 pub fn put_star(out: &mut [u8], place: usize, star: Star) -> Result<usize, Refusal> {
     ffi::put_star(out, place, star)
 }
@@ -101,6 +124,28 @@ pub fn put_star(out: &mut [u8], place: usize, star: Star) -> Result<usize, Refus
 /// The first star with a number, and its index. Refusals: 8, 10, 9.
 pub fn find(bytes: &[u8], number: u32) -> Result<(usize, Star), Refusal> {
     ffi::find(bytes, number)
+}
+
+/// Strikes the first star with a number off a list, in range or not: all bytes of its record become zero, and every other record stays.
+/// Refusals, which leave every byte: 8, then 10 for number 0 and where no record has the number.
+///
+/// A list from elsewhere may have a number twice. Struck once it is there still, and [`add`] refuses it by 18: strike it until that is
+/// refused by 10.
+pub fn strike(bytes: &mut [u8], number: u32) -> Result<(), Refusal> {
+    ffi::strike(bytes, number)
+}
+
+/// Adds a star to a list: its record takes all bytes of the first place whose number is 0, whatever stood behind the 0, and every other
+/// record stays. Refusals, which leave every byte: 8, then 9 for number 0 and a star out of range, 18 where a record has the number, in
+/// range or not, 19 where no place is empty.
+pub fn add(bytes: &mut [u8], star: Star) -> Result<(), Refusal> {
+    ffi::add(bytes, star)
+}
+
+/// Brings every record of a list whose number is not 0 forward, in range or not, byte for byte and in its order; zero bytes follow to
+/// the end. Refusals, which leave every byte: 8.
+pub fn gather(bytes: &mut [u8]) -> Result<(), Refusal> {
+    ffi::gather(bytes)
 }
 
 /// Writes a narrow list as a list from a slice's start on: the same stars, with rates zero. Answers how many bytes it has, of which

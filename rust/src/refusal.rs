@@ -24,9 +24,9 @@ pub enum Refusal {
     Arcsine,
     /// 8: the list, a place in it or a lent slice has a bad length, or a radio list too many stars.
     List,
-    /// 9: a star record is out of range.
+    /// 9: a star record is out of range, or the number of a star to be added is 0.
     Record,
-    /// 10: no star has the number sought.
+    /// 10: no star has the number sought, or the number to be struck is 0.
     NoStar,
     /// 11: the first byte of a radio list is neither 2 nor 3.
     FirstByte,
@@ -42,13 +42,17 @@ pub enum Refusal {
     NeverSets,
     /// 17: a star's rate is not zero, and a narrow list, to which it is to move down, has no rates.
     MovingStar,
+    /// 18: a star to be added has the number of a record of the list, in range or not.
+    NumberPresent,
+    /// 19: no place of the list is empty, so that no star can be added.
+    NoEmptyPlace,
     /// A number that this version has no name for.
     Other(u8),
 }
 
 impl Refusal {
     /// The highest number that has a name.
-    pub const HIGHEST: u8 = 17;
+    pub const HIGHEST: u8 = 19;
 
     /// The refusal that a number stands for, as a status of a batch has it; none for 0, which is no refusal.
     ///
@@ -77,6 +81,8 @@ impl Refusal {
             15 => Refusal::NeverRises,
             16 => Refusal::NeverSets,
             17 => Refusal::MovingStar,
+            18 => Refusal::NumberPresent,
+            19 => Refusal::NoEmptyPlace,
             n => Refusal::Other(n),
         })
     }
@@ -106,6 +112,8 @@ impl Refusal {
             Refusal::NeverRises => 15,
             Refusal::NeverSets => 16,
             Refusal::MovingStar => 17,
+            Refusal::NumberPresent => 18,
+            Refusal::NoEmptyPlace => 19,
             Refusal::Other(n) => n,
         }
     }
@@ -130,6 +138,8 @@ impl Refusal {
             Refusal::NeverRises => "the star never rises: it stays below the standard altitude",
             Refusal::NeverSets => "the star never sets: it stays above the standard altitude",
             Refusal::MovingStar => "a star's rate is not zero, and a record of 12 bytes has no rates",
+            Refusal::NumberPresent => "a star of the list has the number already",
+            Refusal::NoEmptyPlace => "no place of the list is empty",
             Refusal::Other(_) => "the call was refused",
         }
     }

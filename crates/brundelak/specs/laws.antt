@@ -1,5 +1,6 @@
 -- What is proved of the boundary. Theorems only.
 pub mod Stored
+pub mod Edits
 pub mod Put
 pub mod Radio
 pub mod Unique

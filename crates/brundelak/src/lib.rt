@@ -10,5 +10,6 @@ pub mod refraction; // refraction at the sight
 pub mod stored; // the stored list and the batch
 pub mod published; // the published edition of what has two
 pub mod radio; // lists over the radio link
+pub mod edits; // the stored list edited where it stands
 pub mod widths; // lists of the record of before
 pub mod version; // which version the archive is of

@@ -4,7 +4,7 @@ ghost use mathlib.Core.Path.{_≡_};
 ghost use Rattle.list_tally.specs.rules.Tally.{countOf, refusalAt, countAfter, empty, raiseRule};
 
 // The highest known status: 0, or a number of the table of refusals.
-pub const HIGHEST_STATUS: u8 = 17;
+pub const HIGHEST_STATUS: u8 = 19;
 
 // A count, at most.
 pub const FULLEST: u32 = 60000;

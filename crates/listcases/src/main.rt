@@ -189,12 +189,12 @@ fn raise_case(tally: Tally, status: u8) -> Tally {
 fn tallies() {
     let a = raise_case(Tally::new(), 0);
     let b = raise_case(a, 10);
-    let c = raise_case(b, 18);
+    let c = raise_case(b, 20);
     raise_case(c, 255);
     let mut counts = [0; 20];
     counts[10] = 60000;
     let d = raise_case(Tally { counts }, 10);
-    let e = raise_case(d, 17);
+    let e = raise_case(d, 19);
     raise_case(e, 0);
 }
 

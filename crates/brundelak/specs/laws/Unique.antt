@@ -17,6 +17,7 @@ use Rattle.batch.specs.laws.Batch.{batch-fixes-all}
 use Rattle.brundelak.specs.rules.Stored.{HandedFound, HandedStar, HandedBatch, HandedRaise}
 use Rattle.brundelak.specs.rules.Put.{HandedNumber, HandedPut}
 use Rattle.brundelak.specs.rules.Radio.{HandedOpened, HandedReceived}
+use Rattle.brundelak.specs.rules.Edits.{HandedEdit}
 
 pub one-handed-found : {a : Answer Entry} {n m index asc i i′ r r′ : ℕ} {dec ascRate decRate d d′ u u′ v v′ : ℤ}
     → HandedFound a n index asc dec ascRate decRate i r d u v → HandedFound a m index asc dec ascRate decRate i′ r′ d′ u′ v′
@@ -48,6 +49,10 @@ one-handed-number t u = (t .answers ∙ sym (u .answers), t .leaves ∙ sym (u .
 pub one-handed-put : {text : Answer (List ℕ)} {slice : List ℕ} {at n m next : ℕ} {s s′ : List ℕ} {k k′ : ℕ}
     → HandedPut text slice at n next s k → HandedPut text slice at m next s′ k′ → (s ≡ s′) × ((n ≡ m) × (k ≡ k′))
 one-handed-put t u = (t .leaves-slice ∙ sym (u .leaves-slice), one-handed-number (t .offset-after) (u .offset-after))
+
+pub one-handed-edit : {edit : Answer (List ℕ)} {n m : ℕ} {old s s′ : List ℕ} → HandedEdit edit n old s → HandedEdit edit m old s′
+    → (n ≡ m) × (s ≡ s′)
+one-handed-edit t u = (t .answers ∙ sym (u .answers), t .leaves ∙ sym (u .leaves))
 
 -- ---- the radio list
 

@@ -30,12 +30,15 @@ use Rattle.list_moves.specs.rules.Moves.{toList}
 use Rattle.list_moves.specs.notions.Computed as moves
 use Rattle.list_widths.specs.rules.Widths.{toNarrow}
 use Rattle.list_widths.specs.notions.Computed as widths
+use Rattle.list_edit.specs.rules.Edit.{strikeRule, addRule, gatherRule}
+use Rattle.list_edit.specs.notions.Computed as edits
 use Rattle.edition.specs.declared.Edition.{Edition}
 use Rattle.batch.specs.declared.Batched.{Batched}
 use Rattle.list.specs.rules.Stars.{isList, countOf, stars}
 use Rattle.batch.specs.rules.Batch.{batchRefusal, answersOf}
 use Rattle.brundelak.specs.rules.Stored.{fields, HandedFound, HandedBatch, HandedRaise}
 use Rattle.brundelak.specs.rules.Put.{HandedNumber, HandedPut}
+use Rattle.brundelak.specs.rules.Edits.{HandedEdit}
 use Rattle.brundelak.specs.rules.Radio.{HandedOpened, HandedReceived}
 use Rattle.brundelak.specs.rules.Version.{version}
 
@@ -119,6 +122,23 @@ slice-of-a-refused-move-written-excluded wrong = apart (λ (l : List ℕ). getD 
 pub moving-star-moved-down-excluded : ¬ HandedPut (toNarrow (starBytes (fields 0 0 (pos 0) (pos 0) (pos 1)))) (upto 12 (λ (i : ℕ). 9)) 0 0 0 (upto 12 (λ (i : ℕ). 0)) 12
 unfolding widths.computed roomFor
 moving-star-moved-down-excluded wrong = apart ofNumber refl (wrong .offset-after .answers)
+
+-- ---- a list that is edited
+
+-- a list of one star with the number 1, which is struck, and its bytes stay
+pub struck-star-left-excluded : ¬ HandedEdit (strikeRule (1 ∷ upto 19 (λ (i : ℕ). 0)) 1) 0 (1 ∷ upto 19 (λ (i : ℕ). 0)) (1 ∷ upto 19 (λ (i : ℕ). 0))
+unfolding edits.computed
+struck-star-left-excluded wrong = apart (λ (l : List ℕ). getD l 0 0) refl (wrong .leaves)
+
+-- the same star added to that list, and the number is taken for 19
+pub present-taken-for-full-excluded : ¬ HandedEdit (addRule (1 ∷ upto 19 (λ (i : ℕ). 0)) (fields 1 0 (pos 0) (pos 0) (pos 0))) 19 (1 ∷ upto 19 (λ (i : ℕ). 0)) (1 ∷ upto 19 (λ (i : ℕ). 0))
+unfolding edits.computed
+present-taken-for-full-excluded wrong = apart ofNumber refl (wrong .answers)
+
+-- one byte, which is no list, gathered, and the byte is cleared
+pub byte-of-a-refused-gather-cleared-excluded : ¬ HandedEdit (gatherRule (9 ∷ [])) 8 (9 ∷ []) (0 ∷ [])
+unfolding edits.computed
+byte-of-a-refused-gather-cleared-excluded wrong = apart (λ (l : List ℕ). getD l 0 0) refl (wrong .leaves)
 
 -- ---- the version
 

@@ -7,7 +7,7 @@ use Rattle.lent.specs.rules.Rows.{upto}
 use Rattle.list_tally.specs.declared.Tally.{Tally}
 use Rattle.list_tally.specs.declared.Raised.{Raised}
 use Rattle.list_tally.specs.rules.Status.{highestStatus}
-use Rattle.list_tally.specs.rules.Tally.{fullest, countsInAll, raiseRefusal, raised}
+use Rattle.list_tally.specs.rules.Tally.{fullest, countsInAll, countOf, raiseRefusal, raised}
 
 -- the same count for each status
 abbrev pub each : ℕ → Tally
@@ -22,10 +22,10 @@ abbrev refusing : (Tally → ℕ → ℕ) → Tally → ℕ → Raised
 refusing refusal t status =
     record { tally = cond (eqb (refusal t status) 0) (raised t status) t; refusal = refusal t status }
 
--- 8 for a full count, then 9
+-- 8 where the count that is stored to is full, then 9
 abbrev pub eightBeforeNine : Tally → ℕ → Raised
 eightBeforeNine =
-    refusing (λ (t : Tally) (status : ℕ). cond (ltb (getD (t .counts) status 0) fullest) (cond (leb status highestStatus) 0 9) 8)
+    refusing (λ (t : Tally) (status : ℕ). cond (ltb (getD (t .counts) (countOf status) 0) fullest) (cond (leb status highestStatus) 0 9) 8)
 
 -- one known status fewer
 abbrev pub highestUnknown : Tally → ℕ → Raised

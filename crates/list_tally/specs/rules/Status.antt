@@ -3,4 +3,4 @@ use Prim.Native.Nat.{ℕ}
 
 -- the highest known: 0, or a number of the table of refusals
 abbrev pub highestStatus : ℕ
-highestStatus = 17
+highestStatus = 19
