@@ -1,7 +1,7 @@
 /* night WHAT LIST STARS NIGHTS: the first stars of a list from J2000 to each of some nights, by the batch, by the chain star by star, or
- * by another library where it is compiled in. What takes no rates is given a star where its rates have brought it, which is worked out
- * here. Whatever the counts, the same list is read and as many places are added up, so that the
- * difference of two counts is the work's own.
+ * by another library where it is compiled in. No place of the list may be empty, as a batch does no work for one. What takes no rates is
+ * given a star where its rates have brought it, which is worked out here. Whatever the counts, the same list is read and as many places are
+ * added up, so that the difference of two counts is the work's own.
  * night WHAT LIST time: the nanoseconds of a star, the night's own taken off: the median of seven rounds.
  * night WHAT LIST apart: the widest distance of its places from the chain's, in seconds of arc, over all stars of the first night. */
 #include <math.h>

@@ -143,12 +143,12 @@ static int32_t any_rate(void)
     return (int32_t)drawn_below(40001) - 20000;
 }
 
-/* A list of so many stars and its radio form; the list of before, without rates, and that one moved up; the list with every third place
+/* A list of so many stars, no place empty, and its radio form; the list of before, without rates, and that one moved up; the list with every third place
  * empty. */
 static void fill(size_t stars)
 {
     for (size_t i = 0; i < stars; i++) {
-        if (brundelak_put_star(list, sizeof list, WIDTH * i, (uint32_t)(drawn_bits() >> 32 >> drawn_below(32)), (uint32_t)drawn_below(1296000000),
+        if (brundelak_put_star(list, sizeof list, WIDTH * i, 1 | (uint32_t)(drawn_bits() >> 32 >> drawn_below(32)), (uint32_t)drawn_below(1296000000),
                                (int32_t)drawn_below(648000001) - 324000000, any_rate(), any_rate(), &after) != 0)
             exit(1);
         memcpy(old + OLD * i, list + WIDTH * i, OLD);
@@ -185,6 +185,7 @@ static size_t less(size_t len, size_t by)
 static void batch(void)
 {
     AT(batch)(list, list_len, 2415020.5, 2462088.69, statuses, STARS, ascs, STARS, decs, STARS, tally);
+    AT(batch)(holed, list_len, 2415020.5, 2462088.69, statuses, STARS, ascs, STARS, decs, STARS, tally);
     AT(batch)(list, list_len, 2415020.5, 0.0, statuses, STARS, ascs, STARS, decs, STARS, tally);
     AT(batch)(list, list_len + 1, 2415020.5, 2462088.69, statuses, STARS, ascs, STARS, decs, STARS, tally);
 }
@@ -197,8 +198,10 @@ static void tally_raise(void)
 
 static void star(void)
 {
-    for (size_t i = 0; i <= list_len; i += 4)
+    for (size_t i = 0; i <= list_len; i += 4) {
         AT(star)(list, list_len, i, &word[0], &word[1], &signed_word[0], &signed_word[1], &signed_word[2], &after);
+        AT(star)(holed, list_len, i, &word[0], &word[1], &signed_word[0], &signed_word[1], &signed_word[2], &after);
+    }
 }
 
 static void put_star(void)
@@ -209,8 +212,8 @@ static void put_star(void)
 
 static void find(void)
 {
-    for (uint32_t i = 0; i < 40; i++)
-        AT(find)(list, list_len, i, &after, &word[1], &signed_word[0], &signed_word[1], &signed_word[2]);
+    for (uint32_t i = 0; i < 80; i++)
+        AT(find)(i % 2 ? list : holed, list_len, i / 2, &after, &word[1], &signed_word[0], &signed_word[1], &signed_word[2]);
 }
 
 static void radio_open(void)

@@ -21,13 +21,13 @@
  *        cosine of the topocentric longitude
  *    7   the argument of an arcsine exceeds 1 in size
  *    8   list bytes not a multiple of 20, or more than 60000; of a narrow list that is to move up no multiple of 12, or
- *        more than 36000; a lent slice shorter than the star count; a place past the end of the list or not at a record's
- *        start (the end itself is accepted); a record to be written elsewhere than at one of a list's 3000 record starts,
- *        or without room; a count to be raised already at 60000; a star count of a radio list above 3000; a slice too
- *        short for a radio list, a part of one or the list of one, or for a list of the other width
+ *        more than 36000; a slice lent to a batch shorter than the list has records; a place past the end of the list or not
+ *        at a record's start (the end itself is accepted); a record to be written elsewhere than at one of a list's 3000
+ *        record starts, or without room; a count to be raised already at 60000; a star count of a radio list above 3000; a
+ *        slice too short for a radio list, a part of one or the list of one, or for a list of the other width
  *    9   a star record out of range; a star to be added whose number is 0; a status given to the tally that is neither 0 nor
  *        a number of this table (before 8)
- *   10   no star has the number sought; the number to be struck is 0
+ *   10   no star has the number sought or to be struck, as none has number 0; of a record in a batch: an empty place
  *   11   the first byte of a radio list is neither 2 nor 3
  *   12   a number of a radio list is not in its shortest length or above 32 bits
  *   13   a radio list is cut short, an empty one too, or has bytes over
@@ -53,9 +53,10 @@
  * written begins with byte 3. Five functions have another shape: brundelak_star, brundelak_find and brundelak_radio_star
  * hand out asc_rate and dec_rate after dec, brundelak_put_star and brundelak_radio_put_star take both after dec. New are
  * brundelak_list_12_to_20 and brundelak_list_20_to_12, by which lists of before move up and back, brundelak_strike,
- * brundelak_add and brundelak_gather, by which a list is edited where it stands, the refusals 17, 18 and 19, and a star's
- * status 3. Lengths, places and indices are uint64_t, which on x86-64 is the same call. The number of a version is
- * major * 65536 + minor * 256 + patch; of 0.1.0 it was 100.
+ * brundelak_add and brundelak_gather, by which a list is edited where it stands, the refusals 17, 18 and 19, and in a batch
+ * the statuses 3 and 10. A record whose number is 0 is no star any more but an empty place: brundelak_star passes over it,
+ * brundelak_find never answers it. Lengths, places and indices are uint64_t, which on x86-64 is the same call. The number of
+ * a version is major * 65536 + minor * 256 + patch; of 0.1.0 it was 100.
  *
  * For C99 or later, and C++. The archive, libbrundelak.a, and the shared library, libbrundelak.so, are x86-64 code and need
  * nothing of libm; pkg-config brundelak says how to compile and link.
@@ -89,7 +90,7 @@ uint32_t brundelak_version(void);
 /* The status of brundelak_star where no star is left. */
 #define BRUNDELAK_END 255
 
-/* The stored list: the bytes of a record, the stars of a list at most, and its bytes at most. */
+/* The stored list: the bytes of a record; at most, a list's stars, which are its records where no place is empty; its bytes. */
 #define BRUNDELAK_RECORD_BYTES 20
 #define BRUNDELAK_MOST_STARS 3000
 #define BRUNDELAK_MOST_BYTES (BRUNDELAK_RECORD_BYTES * BRUNDELAK_MOST_STARS)
@@ -162,7 +163,7 @@ static inline const char *brundelak_sentence(uint8_t status)
     case BRUNDELAK_REFUSAL_RECORD:
         return "a star record is out of range";
     case BRUNDELAK_REFUSAL_NO_STAR:
-        return "no star has the number sought";
+        return "no star has the number, or the place is empty";
     case BRUNDELAK_REFUSAL_FIRST_BYTE:
         return "the first byte of a radio list is neither 2 nor 3";
     case BRUNDELAK_REFUSAL_SPELLING:
@@ -612,15 +613,24 @@ uint8_t brundelak_chain_published(double old_asc, double old_dec, double day1, d
  * A list is at most 3000 records of 20 bytes, little-endian: number (uint32), right ascension in milliarcseconds
  * (uint32, below 1296000000), declination in milliarcseconds (int32, size at most 324000000), and the yearly change of each,
  * in milliarcseconds a year (int32, size at most 20000). The rate of right ascension is of the coordinate itself: what
- * catalogues print is that times cos declination, and must be divided by it. */
+ * catalogues print is that times cos declination, and must be divided by it.
+ *
+ * A record whose number is 0 is an empty place, whatever stands behind the 0, and no star. brundelak_star passes over it and
+ * brundelak_find never answers it; a batch gives it status 10, brundelak_strike leaves one, brundelak_add fills one.
+ *
+ * Records are counted, empty places among them, by a list's length, by the index of brundelak_find, and by a batch: its
+ * slices have an element for each record, and its tally a count, an empty place under 10. Stars alone are counted by who walks
+ * a list by brundelak_star. To give each star its own element of the slices: the star that it shows is record next / 20 - 1,
+ * which is not how many were shown before it once a place is empty. */
 
-/* The star at a place of a list, in range or not, and the place after it: walk a list from place 0.
+/* The first star from a place of a list on, in range or not, and the place after it: walk a list from place 0. Empty places
+ * are passed over.
  * Given:     bytes, len           the list
- *            place                a multiple of 20, at most len
+ *            place                a multiple of 20, at most len: where a record begins, an empty place too, or the end
  * Returned:  number, asc, dec, asc_rate, dec_rate
- *                                 the record's fields
- *            next                 the place after it
- * Status:    0, or BRUNDELAK_END where none is left (nothing is written)
+ *                                 the star's fields; number is never 0
+ *            next                 the place after it: its record is the 20 bytes before next
+ * Status:    0, or BRUNDELAK_END where no star is left, at the end and where only empty places follow (nothing is written)
  * Refusals:  8 */
 uint8_t brundelak_star(const uint8_t *bytes, uint64_t len, uint64_t place, uint32_t *number, uint32_t *asc, int32_t *dec,
                        int32_t *asc_rate, int32_t *dec_rate, uint64_t *next);
@@ -630,35 +640,38 @@ uint8_t brundelak_star(const uint8_t *bytes, uint64_t len, uint64_t place, uint3
  *            place                where in it the record begins: a multiple of 20, below 60000
  *            number, asc, dec, asc_rate, dec_rate
  *                                 the star's fields; both rates are 0 of a star that stands still; number 0 writes an empty
- *                                 place, for brundelak_add
+ *                                 place, which brundelak_star does not show
  * Returned:  out                  the record from place on; all else stays
  *            next                 the place after it
  * Refusals:  9 (out of range), then 8 (no record of a list begins there, or no room); the slice stays unchanged */
 uint8_t brundelak_put_star(uint8_t *out, uint64_t len, uint64_t place, uint32_t number, uint32_t asc, int32_t dec,
                            int32_t asc_rate, int32_t dec_rate, uint64_t *next);
 
-/* The first star with a number.
+/* The first star with a number. An empty place is never found.
  * Given:     bytes, len   the list
  *            number       the number sought
- * Returned:  index        its index, from 0
+ * Returned:  index        the index of its record, from 0: empty places before it count
  *            asc, dec, asc_rate, dec_rate
  *                         the record's other fields
- * Refusals:  8, then 10 (no star has the number), then 9 (its record is out of range) */
+ * Refusals:  8, then 10 (the number is 0, or no star has it), then 9 (its record is out of range) */
 uint8_t brundelak_find(const uint8_t *bytes, uint64_t len, uint32_t number, uint64_t *index, uint32_t *asc, int32_t *dec,
                        int32_t *asc_rate, int32_t *dec_rate);
 
 /* Every star of a list by the chain, from one day to another. Before it each coordinate is shifted: its rate times the
  * years between the days, (day2 - day1) / 365.25, is added to it. A star with both rates zero has the chain's answer at its
- * place, bit for bit.
+ * place, bit for bit. Records are counted, not stars: an empty place has its element of each slice, and is refused by 10.
  * Given:     bytes, len            the list
  *            day1, day2            Julian days
- *            status, status_len    a byte for each star, at least as many as there are stars
+ *            status, status_len    a byte for each record, at least len / 20
  *            asc, asc_len          likewise, and
  *            dec, dec_len          likewise
- * Returned:  status[i]             0, or star i's refusal, the first met: 9 for a record out of range, 3 for a declination
- *                                  shifted past a quarter turn, then the chain's 14, 7, 4
- *            asc[i], dec[i]        star i's place on day2; 0.0 and 0.0 where it is refused; places past the stars stay
- *            tally                 BRUNDELAK_COUNTS counts: how many stars have status 0, 1, .. 19
+ * Returned:  status[i]             of record i, from 0, and one of 0, 3, 4, 7, 9, 10, 14: 0, or the first refusal met: 10 for
+ *                                  an empty place, whether its rest is in range or not, 9 for a record out of range, 3 for a
+ *                                  declination shifted past a quarter turn, then the chain's 14, 7, 4
+ *            asc[i], dec[i]        the place on day2 of record i's star; 0.0 and 0.0 where it is refused; elements past the
+ *                                  records stay
+ *            tally                 BRUNDELAK_COUNTS counts: how many records have status 0, 1, .. 19; the empty places are
+ *                                  tally[BRUNDELAK_REFUSAL_NO_STAR]
  * Refusals:  1, 2, then 8; all that is lent stays unchanged */
 uint8_t brundelak_batch(const uint8_t *bytes, uint64_t len, double day1, double day2, uint8_t *status, uint64_t status_len,
                         double *asc, uint64_t asc_len, double *dec, uint64_t dec_len, uint32_t *tally);
@@ -677,20 +690,19 @@ uint8_t brundelak_batch_published(const uint8_t *bytes, uint64_t len, double day
 uint8_t brundelak_tally_raise(uint8_t status, uint32_t *tally);
 
 /* ---- a list edited where it stands -------------------------------------------------------------------------------
- * To these three a place whose number is 0 is empty, whatever stands behind the 0; brundelak_star, brundelak_find and the
- * batch take it as any record. None of them changes a list's length: places for stars to come are laid as zero bytes, and
- * zero bytes alone are a list of empty places. A refused call leaves every byte. */
+ * None of the three changes a list's length: places for stars to come are laid as zero bytes, and zero bytes alone are a list
+ * of empty places. A list may be handed on with empty places in it. A refused call leaves every byte. */
 
 /* The first star with a number struck off a list, in range or not.
  * Given:     bytes, len   the list
  *            number       the number of the star
- * Returned:  bytes        all 20 bytes of its record zero; every other record stays
- * Refusals:  8, then 10 (the number is 0, or no record has it)
+ * Returned:  bytes        all 20 bytes of its record zero, an empty place; every other record stays
+ * Refusals:  8, then 10 (the number is 0, or no star has it)
  * Note:      a list from elsewhere may have a number twice. Struck once it is there still, and brundelak_add refuses it by
  *            18: strike it until the answer is 10. */
 uint8_t brundelak_strike(uint8_t *bytes, uint64_t len, uint32_t number);
 
-/* A star added to a list, in its first empty place.
+/* A star added to a list, in its first empty place, whatever stood behind the 0 there.
  * Given:     bytes, len           the list
  *            number, asc, dec, asc_rate, dec_rate
  *                                 the star's fields; both rates are 0 of a star that stands still
@@ -703,14 +715,16 @@ uint8_t brundelak_add(uint8_t *bytes, uint64_t len, uint32_t number, uint32_t as
 /* The stars of a list brought forward, so that its empty places stand behind them.
  * Given:     bytes, len   the list
  * Returned:  bytes        every record whose number is not 0, in range or not, byte for byte and in its order, then zero
- *                         bytes to the end
+ *                         bytes to the end: the stars are the same, and brundelak_star and brundelak_find say the same of
+ *                         them, but for next and index
  * Refusals:  8 */
 uint8_t brundelak_gather(uint8_t *bytes, uint64_t len);
 
 /* ---- lists of before ---------------------------------------------------------------------------------------------
  * A narrow list is one of version 0.1: number, right ascension and declination as above, 12 bytes a record. A list
- * bears no mark of its width, so that who keeps lists of both must know which is which. A slice that is written and the
- * bytes that are read must not overlap. */
+ * bears no mark of its width, so that who keeps lists of both must know which is which. Each move carries an empty place like
+ * any record, so that it is refused by 9 where what stands behind its 0 is out of range, by 17 where a rate is not zero. A
+ * slice that is written and the bytes that are read must not overlap. */
 
 /* A narrow list, all its records in range, moved up: both rates are zero. Back by brundelak_list_20_to_12 it has the same
  * bytes.
@@ -737,8 +751,9 @@ uint8_t brundelak_list_20_to_12(const uint8_t *bytes, uint64_t len, uint8_t *out
  * become 0, 1, 2, 3) and both rates folded, units and ranges as in the stored list. Every number stands in groups of seven
  * bits, low group first, high bit set on all groups but the last, in the shortest length and in 32 bits: 300 is AC 02.
  * Byte 2 begins a list of version 0.1, three numbers a star: it is read, with rates zero, and never written.
- * Of the refusals the first met is given: 12 at the byte that shows it, 9 after the star's last number. A slice that is
- * written and the bytes that are read must not overlap. */
+ * Of the refusals the first met is given: 12 at the byte that shows it, 9 after the star's last number. Only the stored list
+ * has empty places: here number 0 is read, written, counted and moved as any other. A slice that is written and the bytes that
+ * are read must not overlap. */
 
 /* The head of a radio list; what follows it is not looked at.
  * Given:     bytes, len   the radio list
@@ -752,7 +767,7 @@ uint8_t brundelak_radio_open(const uint8_t *bytes, uint64_t len, uint32_t *count
  * Given:     bytes, len           the radio list
  *            place                any place; at or past the end it is refused by 13
  * Returned:  number, asc, dec, asc_rate, dec_rate
- *                                 the star's fields, in range
+ *                                 the star's fields, in range; number may be 0
  *            next                 the place after it
  * Refusals:  13 (empty), 11, then 12 or 13 number by number, then 9 */
 uint8_t brundelak_radio_star(const uint8_t *bytes, uint64_t len, uint64_t place, uint32_t *number, uint32_t *asc,
@@ -784,7 +799,7 @@ uint8_t brundelak_radio_put_head(uint8_t *out, uint64_t len, uint64_t place, uin
 uint8_t brundelak_radio_put_star(uint8_t *out, uint64_t len, uint64_t place, uint32_t number, uint32_t asc, int32_t dec,
                                  int32_t asc_rate, int32_t dec_rate, uint64_t *next);
 
-/* A radio list as a stored list.
+/* A radio list as a stored list. A star of number 0 is an empty place there.
  * Given:     bytes, len     the radio list
  *            out, out_len   a slice of at least 20 bytes a star (60000 do for every list)
  * Returned:  out            the stored list, from the slice's start on; the rest stays
@@ -792,7 +807,8 @@ uint8_t brundelak_radio_put_star(uint8_t *out, uint64_t len, uint64_t place, uin
  * Refusals:  as brundelak_radio_accept, then 8 (the slice is too short); the slice stays unchanged */
 uint8_t brundelak_radio_to_list(const uint8_t *bytes, uint64_t len, uint8_t *out, uint64_t out_len, uint64_t *written);
 
-/* A stored list, all its records in range, as a radio list. Back by brundelak_radio_to_list it has the same bytes.
+/* A stored list, all its records in range, as a radio list, in which an empty place is a star of number 0. Back by
+ * brundelak_radio_to_list it has the same bytes.
  * Given:     bytes, len     the stored list
  *            out, out_len   a slice (63003 bytes do for every list)
  * Returned:  out            the radio list, from the slice's start on; the rest stays

@@ -1,4 +1,4 @@
-/* Thirteen functions, each put in the place of the archive's by the linker, with one slip of the boundary: fuzz must report each. */
+/* Fourteen functions, each put in the place of the archive's by the linker, with one slip of the boundary: fuzz must report each. */
 #include "brundelak.h"
 
 /* A NaN tidied, any other number kept: made quiet, made the one without sign and payload, or its sign taken away. */
@@ -12,6 +12,8 @@ static inline void tidy(double *x, uint64_t set, uint64_t clear)
 }
 
 uint8_t __real_brundelak_root(double x, double *out);
+uint8_t __real_brundelak_star(const uint8_t *bytes, uint64_t len, uint64_t place, uint32_t *number, uint32_t *asc, int32_t *dec,
+                              int32_t *asc_rate, int32_t *dec_rate, uint64_t *next);
 uint8_t __real_brundelak_find(const uint8_t *bytes, uint64_t len, uint32_t number, uint64_t *index, uint32_t *asc, int32_t *dec,
                               int32_t *asc_rate, int32_t *dec_rate);
 uint8_t __real_brundelak_batch(const uint8_t *bytes, uint64_t len, double day1, double day2, uint8_t *status, uint64_t status_len,
@@ -41,6 +43,8 @@ uint8_t __wrap_brundelak_tally_raise(uint8_t status, uint32_t *tally);
 uint8_t __wrap_brundelak_put_star(uint8_t *out, uint64_t len, uint64_t place, uint32_t number, uint32_t asc, int32_t dec,
                                   int32_t asc_rate, int32_t dec_rate, uint64_t *next);
 uint8_t __wrap_brundelak_root(double x, double *out);
+uint8_t __wrap_brundelak_star(const uint8_t *bytes, uint64_t len, uint64_t place, uint32_t *number, uint32_t *asc, int32_t *dec,
+                              int32_t *asc_rate, int32_t *dec_rate, uint64_t *next);
 uint8_t __wrap_brundelak_find(const uint8_t *bytes, uint64_t len, uint32_t number, uint64_t *index, uint32_t *asc, int32_t *dec,
                               int32_t *asc_rate, int32_t *dec_rate);
 uint8_t __wrap_brundelak_batch(const uint8_t *bytes, uint64_t len, double day1, double day2, uint8_t *status, uint64_t status_len,
@@ -68,6 +72,33 @@ uint8_t __wrap_brundelak_root(double x, double *out)
     return status;
 }
 
+/* Whether a list's record at a place is an empty one. */
+static inline int is_empty(const uint8_t *bytes, uint64_t len, uint64_t place)
+{
+    return place < len && place % BRUNDELAK_RECORD_BYTES == 0 && memcmp(bytes + place, "\0\0\0", 4) == 0;
+}
+
+uint8_t __wrap_brundelak_star(const uint8_t *bytes, uint64_t len, uint64_t place, uint32_t *number, uint32_t *asc, int32_t *dec,
+                              int32_t *asc_rate, int32_t *dec_rate, uint64_t *next)
+{
+    uint8_t status = __real_brundelak_star(bytes, len, place, number, asc, dec, asc_rate, dec_rate, next);
+#if SLIP == 37 /* an empty place shown */
+    if (status != 8 && is_empty(bytes, len, place)) {
+        *number = 0;
+        memcpy(asc, bytes + place + 4, 4);
+        memcpy(dec, bytes + place + 8, 4);
+        memcpy(asc_rate, bytes + place + 12, 4);
+        memcpy(dec_rate, bytes + place + 16, 4);
+        *next = place + BRUNDELAK_RECORD_BYTES;
+        return 0;
+    }
+#elif SLIP == 38 /* the place after the first empty one in place of the star's own */
+    if (status == 0)
+        *next = place + BRUNDELAK_RECORD_BYTES;
+#endif
+    return status;
+}
+
 uint8_t __wrap_brundelak_find(const uint8_t *bytes, uint64_t len, uint32_t number, uint64_t *index, uint32_t *asc, int32_t *dec,
                               int32_t *asc_rate, int32_t *dec_rate)
 {
@@ -87,6 +118,16 @@ uint8_t __wrap_brundelak_find(const uint8_t *bytes, uint64_t len, uint32_t numbe
         *asc_rate = *dec_rate;
         *dec_rate = rate;
     }
+#elif SLIP == 39 /* an empty place found */
+    for (uint64_t place = 0; status == 10 && number == 0 && place < len; place += BRUNDELAK_RECORD_BYTES)
+        if (is_empty(bytes, len, place)) {
+            *index = place / BRUNDELAK_RECORD_BYTES;
+            memcpy(asc, bytes + place + 4, 4);
+            memcpy(dec, bytes + place + 8, 4);
+            memcpy(asc_rate, bytes + place + 12, 4);
+            memcpy(dec_rate, bytes + place + 16, 4);
+            return 0;
+        }
 #endif
     return status;
 }
@@ -111,6 +152,13 @@ uint8_t __wrap_brundelak_batch(const uint8_t *bytes, uint64_t len, double day1, 
     if (answer != 0)
         for (size_t i = 0; i < dec_len; i++)
             tidy(&dec[i], 0, (uint64_t)1 << 63);
+#elif SLIP == 40 /* an empty place named out of range */
+    for (size_t i = 0; answer == 0 && i < len / BRUNDELAK_RECORD_BYTES; i++)
+        if (status[i] == 10) {
+            status[i] = 9;
+            tally[9]++;
+            tally[10]--;
+        }
 #endif
     return answer;
 }

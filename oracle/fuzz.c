@@ -204,8 +204,10 @@ static void numbers(const struct function *f)
         for (size_t k = drawn_below(3); k > 0; k--)
             args[drawn_below(f->given)] = any_double();
     } else {
+        /* Days stand last: what takes two is seldom answered where both must be met among any numbers. */
+        size_t days = drawn_below(8) == 0 ? 2 : 0;
         for (size_t i = 0; i < f->given; i++)
-            args[i] = any_double();
+            args[i] = i + days >= f->given ? any_day() : any_double();
     }
     for (size_t i = 0; i < f->answered; i++)
         to[i] = lend_floats(&places[i], 1);
@@ -246,11 +248,12 @@ static uint32_t any_rate(void)
     return by < 4 ? 0 : by == 4 ? at[drawn_below(6)] : (uint32_t)drawn_below(40001) - 20000;
 }
 
-/* A list of some length, its records of so many bytes, in range or of any bytes; its length. */
+/* A list of some length, its records of so many bytes, in range or of any bytes; its length. Of some lists many places are empty, or all;
+ * numbers are from few, so that those of others are too. */
 static size_t list_of(size_t width)
 {
     static const uint32_t asc_at[] = {0, 1295999999, 1296000000, 0xFFFFFFFF}, dec_at[] = {324000000, 324000001, 0x80000000, 0};
-    size_t len = width * any_count();
+    size_t len = width * any_count(), empty = drawn_below(4) == 0 ? 1 + drawn_below(8) : 0;
     if (drawn_below(6) == 0)
         len += drawn_below(width);
     uint8_t *to = lend(&bytes, len);
@@ -265,6 +268,8 @@ static size_t list_of(size_t width)
         if (damage == 2)
             for (size_t k = 0; k < WORDS; k++)
                 record[k] = (uint32_t)drawn_bits();
+        if (drawn_below(8) < empty)
+            record[0] = 0;
         for (size_t k = 0; k < width && i + k < len; k++)
             to[i + k] = (uint8_t)(record[k / 4] >> 8 * (k % 4));
     }
@@ -302,6 +307,21 @@ static void mend(size_t len, size_t width, int still)
 static int bad_list(size_t len)
 {
     return len % WIDTH != 0 || len > BRUNDELAK_MOST_BYTES;
+}
+
+/* The place of the first record with the number; the end where none has it. */
+static size_t place_of(size_t len, uint32_t number)
+{
+    size_t place = 0;
+    while (place + WIDTH <= len && memcmp(bytes.at + place, &number, sizeof number) != 0)
+        place += WIDTH;
+    return place + WIDTH <= len ? place : len;
+}
+
+/* Whether the record at a place is an empty one. */
+static int is_empty(uint64_t place)
+{
+    return memcmp(bytes.at + place, "\0\0\0", 4) == 0;
 }
 
 /* The words that are lent, from one up to another: written after an answer, kept after a refusal. */
@@ -346,20 +366,25 @@ static void star(void)
     if (drawn_below(2) == 0)
         place -= place % WIDTH;
     uint8_t status = star_by(brundelak_star, len, place);
-    uint8_t expected = bad_list(len) || place > len || place % WIDTH != 0 ? 8 : place == len ? BRUNDELAK_END : 0;
-    int sound = status == expected && kept(&bytes) && handed(status, 0, NEXT + 1);
+    int refused = bad_list(len) || place > len || place % WIDTH != 0;
+    /* where the first star from the place on stands, empty places passed over */
+    uint64_t at = place;
+    while (!refused && at < len && is_empty(at))
+        at += WIDTH;
+    int sound = status == (refused ? 8 : at == len ? BRUNDELAK_END : 0) && kept(&bytes) && handed(status, 0, NEXT + 1);
     if (status == 0) {
-        sound &= next_place() == place + WIDTH;
+        sound &= next_place() == at + WIDTH;
         for (size_t i = 0; i < WORDS; i++)
-            sound &= memcmp(words[i].at, bytes.at + place + 4 * i, 4) == 0;
+            sound &= memcmp(words[i].at, bytes.at + at + 4 * i, 4) == 0;
     }
     judge(status, sound);
 }
 
-/* A number that a drawn list often has. */
+/* A number that a drawn list often has, 0 among them. */
 static uint32_t number_of_few(void)
 {
-    return drawn_below(8) == 0 ? (uint32_t)drawn_bits() : (uint32_t)drawn_below(20);
+    size_t by = drawn_below(8);
+    return by == 0 ? (uint32_t)drawn_bits() : by == 1 ? 0 : (uint32_t)drawn_below(20);
 }
 
 static void find(void)
@@ -369,11 +394,17 @@ static void find(void)
     uint32_t number = number_of_few();
     uint8_t status = brundelak_find(bytes.at, len, number, lend(&words[0], sizeof(uint64_t)), lend(&words[1], 4), lend(&words[2], 4),
                                     lend(&words[3], 4), lend(&words[4], 4));
-    int sound = (status == 8) == bad_list(len) && (status == 0 || (status >= 8 && status <= 10)) && kept(&bytes) && handed(status, 0, WORDS);
+    uint8_t expected = bad_list(len) ? 8 : number == 0 || place_of(len, number) == len ? 10 : 0;
+    if (expected == 0) {
+        uint32_t of[WORDS];
+        star_of(WIDTH, place_of(len, number) / WIDTH, of);
+        expected = in_range(of) ? 0 : 9;
+    }
+    int sound = status == expected && kept(&bytes) && handed(status, 0, WORDS);
     if (status == 0) {
         uint64_t index;
         memcpy(&index, words[0].at, sizeof index);
-        sound &= index < len / WIDTH;
+        sound &= WIDTH * index == place_of(len, number);
         for (size_t i = 1; i < WORDS; i++)
             sound &= memcmp(bytes.at + WIDTH * index + 4 * i, words[i].at, 4) == 0;
     }
@@ -392,10 +423,10 @@ static size_t length(size_t stars)
 
 typedef uint8_t batch_call(const uint8_t *, uint64_t, double, double, uint8_t *, uint64_t, double *, uint64_t, double *, uint64_t, uint32_t *);
 
-/* Whether a star can have the status. */
+/* Whether a record can have the status. */
 static int of_a_star(uint8_t status)
 {
-    return status == 0 || status == 3 || status == 4 || status == 7 || status == 9 || status == 14;
+    return status == 0 || status == 3 || status == 4 || status == 7 || status == 9 || status == 10 || status == 14;
 }
 
 static void batch_by(batch_call *call)
@@ -405,7 +436,7 @@ static void batch_by(batch_call *call)
     args[1] = any_day();
     uint8_t *status_of = lend(&statuses, lens[0]);
     double *asc = lend_floats(&ascs, lens[1]), *dec = lend_floats(&decs, lens[2]);
-    uint32_t *counts = lend(&tally, TALLY), sum = 0;
+    uint32_t *counts = lend(&tally, TALLY), sum = 0, empty = 0;
     uint8_t status = call(bytes.at, len, args[0], args[1], status_of, lens[0], asc, lens[1], dec, lens[2], counts);
     int bad = bad_list(len) || lens[0] < stars || lens[1] < stars || lens[2] < stars;
     int sound = kept(&bytes) && (status <= 2 || status == 8) && (status == 1 || status == 2 || (status == 8) == bad);
@@ -418,11 +449,12 @@ static void batch_by(batch_call *call)
         sound &= status_of[i] == 0 ? isfinite(asc[i]) && isfinite(dec[i]) : as_bits(asc[i]) == 0 && as_bits(dec[i]) == 0;
         uint32_t of[WORDS];
         star_of(WIDTH, i, of);
-        sound &= of_a_star(status_of[i]) && (status_of[i] == 9) == !in_range(of);
+        sound &= of_a_star(status_of[i]) && (status_of[i] == 10) == (of[0] == 0) && (status_of[i] == 9) == (of[0] != 0 && !in_range(of));
+        empty += of[0] == 0;
     }
     for (size_t i = 0; i < BRUNDELAK_COUNTS; i++)
         sum += counts[i];
-    judge(status, sound && sum == stars);
+    judge(status, sound && sum == stars && counts[10] == empty);
 }
 
 static void batch(void)
@@ -638,12 +670,14 @@ static void radio_put_star(void)
     judge(status, status == (!in_range(of) ? 9 : !fits(size, place, len) ? 8 : 0) && wrote(status, place, size));
 }
 
-/* Read again, it is the star. */
+/* Read again, it is the star; number 0 is an empty place, which is not shown. */
 static void put_star(void)
 {
     name = "put_star";
     uint32_t of[WORDS], again[WORDS] = {0};
     any_star(of);
+    if (drawn_below(8) == 0)
+        of[0] = 0;
     size_t end = WIDTH * (drawn_below(8) == 0 ? BRUNDELAK_MOST_STARS - 1 + drawn_below(3) : drawn_below(6));
     size_t len = end + drawn_below(2 * WIDTH);
     uint64_t place = drawn_below(4) == 0 ? any_place(len) : end, next = 0;
@@ -652,10 +686,10 @@ static void put_star(void)
     int sound = status == (!in_range(of) ? 9 : !begins || !fits(WIDTH, place, len) ? 8 : 0) && wrote(status, place, WIDTH);
     if (status == 0) {
         int32_t z[3] = {0};
-        sound &= brundelak_star(slice.at, place + WIDTH, place, &again[0], &again[1], &z[0], &z[1], &z[2], &next) == 0 && next == place + WIDTH;
+        uint8_t shown = brundelak_star(slice.at, place + WIDTH, place, &again[0], &again[1], &z[0], &z[1], &z[2], &next);
         for (size_t i = 0; i < 3; i++)
             again[2 + i] = (uint32_t)z[i];
-        sound &= memcmp(of, again, sizeof of) == 0;
+        sound &= of[0] == 0 ? shown == BRUNDELAK_END : shown == 0 && next == place + WIDTH && memcmp(of, again, sizeof of) == 0;
     }
     judge(status, sound);
 }
@@ -761,15 +795,6 @@ static size_t list_to_edit(void)
         memset(bytes.at, 0, len);
     given(&bytes);
     return len;
-}
-
-/* The place of the first record with the number; the end where none has it. */
-static size_t place_of(size_t len, uint32_t number)
-{
-    size_t place = 0;
-    while (place + WIDTH <= len && memcmp(bytes.at + place, &number, sizeof number) != 0)
-        place += WIDTH;
-    return place + WIDTH <= len ? place : len;
 }
 
 /* Refused, every byte of the list is as it was; answered, all but the record at a place, which has these words. */

@@ -1,6 +1,7 @@
 /* Replays oracle/sample on standard input: calls, each with what the supplied Rust or a rule written a second time answers, in bits.
  * Prints how many differ; fails where one does, or where the sample is damaged.
- * replay up: of a sample of the days of 12-byte records each list is moved up, and each batch must answer what it answered before. */
+ * replay up: of a sample of the days of 12-byte records each list is moved up, and each batch must answer what it answered before. A star
+ * of number 0, which is an empty place since, must have status 10; under another number it too answers what it answered before. */
 #include <inttypes.h>
 #include <stdio.h>
 #include <stdlib.h>
@@ -120,7 +121,15 @@ static unsigned sought(void)
 
 typedef uint8_t batch_call(const uint8_t *, uint64_t, double, double, uint8_t *, uint64_t, double *, uint64_t, double *, uint64_t, uint32_t *);
 
-static unsigned batch(batch_call *call)
+/* Whether the list's i-th place is empty. */
+static int is_empty(size_t i)
+{
+    return memcmp(list + WIDTH * i, "\0\0\0", 4) == 0;
+}
+
+/* none_empty: the line is of days when no place was empty and a star of number 0 was answered as any other. Of such a star 10 is wanted now,
+ * whatever the line tells. */
+static unsigned batch(batch_call *call, int none_empty)
 {
     size_t stars = list_len / WIDTH;
     uint8_t statuses[ROOM], want_statuses[ROOM];
@@ -140,9 +149,13 @@ static unsigned batch(batch_call *call)
         memset(want_tally, 0, sizeof want_tally);
         for (size_t i = 0; i < stars; i++) {
             want_statuses[i] = (uint8_t)whole();
-            want_tally[want_statuses[i] % BRUNDELAK_COUNTS]++;
             want_asc[i] = want_statuses[i] == 0 ? number(strtok(NULL, " \n")) : 0.0;
             want_dec[i] = want_statuses[i] == 0 ? number(strtok(NULL, " \n")) : 0.0;
+            if (none_empty && is_empty(i)) {
+                want_statuses[i] = BRUNDELAK_REFUSAL_NO_STAR;
+                want_asc[i] = want_dec[i] = 0.0;
+            }
+            want_tally[want_statuses[i] % BRUNDELAK_COUNTS]++;
         }
     }
     /* The tally is what the statuses raise one by one. */
@@ -281,13 +294,47 @@ static unsigned refused_before(void)
     return status == 1 || status == 2 || status == 8 ? status : 999;
 }
 
+/* Each empty place of the list given a number, or emptied again; how many. */
+static size_t number_empty(uint8_t *of_empty, uint8_t by)
+{
+    size_t count = 0;
+    for (size_t i = 0; i < list_len / WIDTH; i++) {
+        if (by != 0)
+            of_empty[i] = (uint8_t)is_empty(i);
+        if (of_empty[i]) {
+            list[WIDTH * i] = by;
+            count++;
+        }
+    }
+    return count;
+}
+
+/* A batch of days when no place was empty: as the list is, and where stars have number 0 once more with that number another. The stars of
+ * number 0 where the batch answers are counted. */
+static unsigned batch_before(batch_call *call, const char *line, size_t *numbered)
+{
+    char again[4096];
+    uint8_t of_empty[ROOM];
+    unsigned status = batch(call, 1);
+    size_t empty = number_empty(of_empty, 1);
+    if (empty > 0) {
+        strcpy(again, line);
+        strtok(again, " \n");
+        status = batch(call, 1) == status ? status : 999;
+        number_empty(of_empty, 0);
+        *numbered += status == 0 ? empty : 0;
+    }
+    return status;
+}
+
 static int migrated(void)
 {
-    char line[4096];
-    size_t way = NO_LIST, batches[WAYS] = {0};
+    char line[4096], words[4096];
+    size_t way = NO_LIST, batches[WAYS] = {0}, numbered = 0;
     unsigned differing = 0;
     while (fgets(line, sizeof line, stdin) != NULL) {
-        char *word = strtok(line, " \n");
+        strcpy(words, line);
+        char *word = strtok(words, " \n");
         int published = word != NULL && strcmp(word, "batch_published") == 0;
         if (word == NULL)
             continue;
@@ -295,13 +342,15 @@ static int migrated(void)
             way = move_up(strtok(NULL, " \n"));
         } else if (published || strcmp(word, "batch") == 0) {
             batches[way]++;
-            differing += 999 == (way == NO_LIST ? refused_before() : batch(published ? brundelak_batch_published : brundelak_batch));
+            batch_call *call = published ? brundelak_batch_published : brundelak_batch;
+            differing += 999 == (way == NO_LIST ? refused_before() : batch_before(call, line, &numbered));
         }
     }
     printf("migration: %zu batches of 12-byte lists that the call moves up and %zu of lists with a record out of range, zero rates put behind"
-           " each record, answer what they answered; %zu of bytes that were no list are refused; differing %u\n",
-           batches[MOVED], batches[BY_BYTES], batches[NO_LIST], differing);
-    return batches[MOVED] > 0 && differing == 0 ? 0 : 1;
+           " each record, answer what they answered, but for %zu stars of number 0, which are empty places since and have 10, and under"
+           " another number what they had; %zu of bytes that were no list are refused; differing %u\n",
+           batches[MOVED], batches[BY_BYTES], numbered, batches[NO_LIST], differing);
+    return batches[MOVED] > 0 && numbered > 0 && differing == 0 ? 0 : 1;
 }
 
 /* ---- */
@@ -339,9 +388,9 @@ int main(int argc, char **argv)
         } else if (strcmp(word, "find") == 0) {
             status = sought();
         } else if (strcmp(word, "batch") == 0) {
-            status = batch(brundelak_batch);
+            status = batch(brundelak_batch, 0);
         } else if (strcmp(word, "batch_published") == 0) {
-            status = batch(brundelak_batch_published);
+            status = batch(brundelak_batch_published, 0);
         } else if (strcmp(word, "radio_open") == 0) {
             status = radio_open();
         } else if (strcmp(word, "radio_star") == 0) {

@@ -79,6 +79,8 @@ def star(words):
     """A star's number, its record, and its name."""
     if not re.fullmatch('[0-9]{1,10}', words[0]) or int(words[0]) >= 2 ** 32:
         raise ValueError('%r is no number of a star' % words[0])
+    if int(words[0]) == 0:
+        raise ValueError('%r is the number of an empty place, and no star\'s' % words[0])
     hours, rest = parts(words[1:])
     degrees, rest = parts(rest)
     asc = angle('hours', hours, 15)

@@ -1,5 +1,5 @@
-/* A list written star by star, read back, reduced from one day to another, each star's place or why it has none, and edited where it
-   stands. */
+/* A list written star by star, read back, reduced from one day to another, each star's place or why it has none, edited where it stands,
+   and read and reduced again with an empty place in it. */
 #include <stdio.h>
 #include "brundelak.h"
 
@@ -31,17 +31,49 @@ static uint64_t write_list(uint8_t *out, uint64_t len)
     return end;
 }
 
+/* The next star of a list, and the place after it. */
+static uint8_t next_star(const uint8_t *list, uint64_t len, uint64_t *place, struct star *s)
+{
+    return brundelak_star(list, len, *place, &s->number, &s->asc, &s->dec, &s->asc_rate, &s->dec_rate, place);
+}
+
 /* Walks a list to its end. */
 static uint8_t print_list(const uint8_t *list, uint64_t len)
 {
     struct star s;
     uint64_t place = 0;
     uint8_t status;
-    while ((status = brundelak_star(list, len, place, &s.number, &s.asc, &s.dec, &s.asc_rate, &s.dec_rate, &place)) ==
-           BRUNDELAK_ANSWERED)
+    while ((status = next_star(list, len, &place, &s)) == BRUNDELAK_ANSWERED)
         printf("star %u at %u, %d moves by %d, %d a year\n", (unsigned)s.number, (unsigned)s.asc, (int)s.dec, (int)s.asc_rate,
                (int)s.dec_rate);
     return status;
+}
+
+/* Reduces a list to 2006 January 1.0, and walks it with what the batch answered. The batch goes by records, empty places among them: that
+   of the star that is shown is the one that ends at the next place. */
+static uint8_t print_places(const uint8_t *list, uint64_t len)
+{
+    struct star s;
+    uint64_t place = 0;
+    uint8_t status[STARS], answer;
+    double asc[STARS], dec[STARS];
+    uint32_t tally[BRUNDELAK_COUNTS];
+    answer = brundelak_batch(list, len, 2451545.0, 2453736.5, status, STARS, asc, STARS, dec, STARS, tally);
+    if (answer != BRUNDELAK_ANSWERED) {
+        printf("refused by %u: %s\n", (unsigned)answer, brundelak_sentence(answer));
+        return answer;
+    }
+    while ((answer = next_star(list, len, &place, &s)) == BRUNDELAK_ANSWERED) {
+        uint64_t i = place / BRUNDELAK_RECORD_BYTES - 1;
+        if (status[i] == BRUNDELAK_ANSWERED)
+            printf("star %u is reduced to %.9f, %.9f radians\n", (unsigned)s.number, asc[i], dec[i]);
+        else
+            printf("star %u is refused by %u: %s\n", (unsigned)s.number, (unsigned)status[i], brundelak_sentence(status[i]));
+    }
+    printf("answered %u, too steep %u, past the pole %u, empty %u\n", (unsigned)tally[BRUNDELAK_ANSWERED],
+           (unsigned)tally[BRUNDELAK_REFUSAL_STEEP], (unsigned)tally[BRUNDELAK_REFUSAL_ANGLE],
+           (unsigned)tally[BRUNDELAK_REFUSAL_NO_STAR]);
+    return answer;
 }
 
 /* Adds a star to a list, and says why where that is refused. */
@@ -52,19 +84,17 @@ static void add(uint8_t *list, uint64_t len, struct star s)
         printf("star %u is not added: %s\n", (unsigned)s.number, brundelak_sentence(status));
 }
 
-/* Strikes the star past the pole and adds Arcturus in its place; then strikes the star at the pole and cuts the place that is empty
-   once the others are brought forward. Answers how many bytes are left. */
-static uint64_t edit_list(uint8_t *list, uint64_t len)
+/* Strikes the star past the pole and adds Arcturus in its place, then strikes the star at the pole, whose place is left empty. */
+static uint8_t edit_list(uint8_t *list, uint64_t len)
 {
     static const struct star arcturus = {5340, 770095050, 69056700, -1158, -1999};
     add(list, len, arcturus); /* no place is empty yet */
-    if (brundelak_strike(list, len, 3) != BRUNDELAK_ANSWERED)
-        return 0;
+    uint8_t status = brundelak_strike(list, len, 3);
+    if (status != BRUNDELAK_ANSWERED)
+        return status;
     add(list, len, arcturus);
     add(list, len, arcturus); /* and now it is there */
-    if (brundelak_strike(list, len, 2) != BRUNDELAK_ANSWERED || brundelak_gather(list, len) != BRUNDELAK_ANSWERED)
-        return 0;
-    return len - BRUNDELAK_RECORD_BYTES;
+    return brundelak_strike(list, len, 2);
 }
 
 int main(void)
@@ -73,25 +103,16 @@ int main(void)
         fprintf(stderr, "the archive is not of version %s, which the header is of\n", BRUNDELAK_VERSION);
         return 1;
     }
-    uint8_t list[BRUNDELAK_RECORD_BYTES * STARS], status[STARS], answer;
-    double asc[STARS], dec[STARS];
-    uint32_t tally[BRUNDELAK_COUNTS];
+    uint8_t list[BRUNDELAK_RECORD_BYTES * STARS];
     uint64_t len = write_list(list, sizeof list);
 
-    if (print_list(list, len) != BRUNDELAK_END)
+    if (print_list(list, len) != BRUNDELAK_END || print_places(list, len) != BRUNDELAK_END)
         return 1;
-    /* To 2006 January 1.0. */
-    answer = brundelak_batch(list, len, 2451545.0, 2453736.5, status, STARS, asc, STARS, dec, STARS, tally);
-    if (answer != BRUNDELAK_ANSWERED) {
-        printf("refused by %u: %s\n", (unsigned)answer, brundelak_sentence(answer));
+    /* With its empty place the list is one still. */
+    if (edit_list(list, len) != BRUNDELAK_ANSWERED || print_list(list, len) != BRUNDELAK_END || print_places(list, len) != BRUNDELAK_END)
         return 1;
-    }
-    for (uint64_t i = 0; i < len / BRUNDELAK_RECORD_BYTES; i++)
-        if (status[i] == BRUNDELAK_ANSWERED)
-            printf("reduced to %.9f, %.9f radians\n", asc[i], dec[i]);
-        else
-            printf("refused by %u: %s\n", (unsigned)status[i], brundelak_sentence(status[i]));
-    printf("answered %u, too steep %u, past the pole %u\n", (unsigned)tally[BRUNDELAK_ANSWERED],
-           (unsigned)tally[BRUNDELAK_REFUSAL_STEEP], (unsigned)tally[BRUNDELAK_REFUSAL_ANGLE]);
-    return print_list(list, edit_list(list, len)) == BRUNDELAK_END ? 0 : 1;
+    /* The stars brought forward, and the place that is empty behind them cut off. */
+    if (brundelak_gather(list, len) != BRUNDELAK_ANSWERED)
+        return 1;
+    return print_places(list, len - BRUNDELAK_RECORD_BYTES) == BRUNDELAK_END ? 0 : 1;
 }

@@ -1,5 +1,6 @@
-//! The stored list: document 01's section 7 with request (x)'s records of 20 bytes written a second time, and the port's star, find, batch
-//! and tally compared with it. A star's reduction is the chain of the routed Rust, at the place that its rates have brought it to.
+//! The stored list: document 01's section 7 with request (x)'s records of 20 bytes and request (xi)'s empty places written a second time,
+//! and the port's star, find, batch and tally compared with it. A star's reduction is the chain of the routed Rust, at the place that its
+//! rates have brought it to.
 use aimed;
 use functions::Outcome;
 use inputs::{self, Random};
@@ -151,15 +152,14 @@ pub fn records(list: &[u8]) -> Vec<Record> {
     (0..list.len() / RECORD).map(|i| Record::at(list, RECORD * i)).collect()
 }
 
-/// The star at a place and the place after it: (0, ..), (8, none) or (255, none).
+/// The first star from a place on, empty places passed over, and the place after it: (0, ..), (8, none), or (255, none) where none is left.
 fn star(bytes: &[u8], place: usize) -> (u8, Option<(Record, usize)>) {
     if bad_list(bytes) || place > bytes.len() || place % RECORD != 0 {
-        (8, None)
-    } else if place == bytes.len() {
-        (255, None)
-    } else {
-        (0, Some((Record::at(bytes, place), place + RECORD)))
+        return (8, None);
     }
+    let mut places = (place / RECORD..bytes.len() / RECORD).map(|i| (Record::at(bytes, RECORD * i), RECORD * (i + 1)));
+    let shown = places.find(|&(one, _)| one.number != 0);
+    (if shown.is_some() { 0 } else { 255 }, shown)
 }
 
 /// What is written for a star: 9, then 8 for a place at which no record of a list begins.
@@ -177,6 +177,9 @@ fn find(bytes: &[u8], number: u32) -> (u8, Option<(usize, Record)>) {
     if bad_list(bytes) {
         return (8, None);
     }
+    if number == 0 {
+        return (10, None);
+    }
     let found = records(bytes).into_iter().enumerate().find(|&(_, r)| r.number == number);
     match found {
         None => (10, None),
@@ -189,9 +192,12 @@ fn years_between(day1: f64, day2: f64) -> f64 {
     (day2 - day1) / 365.25
 }
 
-/// A star's status and two angles.
+/// A record's status and two angles.
 fn reduced(edition: &Edition, r: Record, day1: f64, day2: f64) -> (u8, f64, f64) {
     let (asc, dec) = r.place(years_between(day1, day2));
+    if r.number == 0 {
+        return (10, 0.0, 0.0);
+    }
     if !r.in_range() {
         return (9, 0.0, 0.0);
     }
@@ -297,6 +303,29 @@ fn list(r: &mut Random, day1: f64, day2: f64) -> Vec<u8> {
     bytes
 }
 
+/// Some places made empty, whatever stands behind their number: in front, behind, all between, every other one, all, or any. A number that
+/// stays is now and then one whose first bytes are 0.
+pub fn empty_some(r: &mut Random, width: usize, bytes: &mut [u8]) {
+    let places = bytes.len() / width;
+    let (way, some) = (r.below(6), r.below(places + 1));
+    for i in 0..places {
+        let empty = match way {
+            0 => i < some,
+            1 => i >= some,
+            2 => i > 0 && i + 1 < places,
+            3 => i % 2 == some % 2,
+            4 => true,
+            _ => r.below(3) == 0,
+        };
+        if empty || r.below(8) == 0 {
+            let number = if empty { 0 } else { [0x100, 0x10000, 0x1000000, 0x80000000u32][r.below(4)] };
+            for k in 0..4 {
+                bytes[width * i + k] = (number >> (8 * k)) as u8;
+            }
+        }
+    }
+}
+
 /// Places near the greatest, a multiple of the record's bytes among them.
 const FAR: [usize; 5] = [!0, !0 - 3, !0 - (RECORD - 1), !0 / RECORD * RECORD, 1 << 63];
 
@@ -326,6 +355,17 @@ fn a_number(r: &mut Random, bytes: &[u8]) -> u32 {
     match r.below(4) {
         0 => r.bits() as u32,
         _ => r.below(2 * bytes.len() / RECORD + 1) as u32,
+    }
+}
+
+/// A number to be sought where places are empty: 0, one whose first bytes are 0, or that of a record.
+fn a_number_of_few(r: &mut Random, bytes: &[u8]) -> u32 {
+    let all = records(bytes);
+    match r.below(4) {
+        0 => 0,
+        1 => [0x100, 0x10000, 0x1000000, 0x80000000][r.below(4)],
+        _ if !all.is_empty() => all[r.below(all.len())].number,
+        _ => a_number(r, bytes),
     }
 }
 
@@ -361,8 +401,7 @@ fn compare_put_star(r: &mut Random, count: &mut Count) {
     });
 }
 
-fn compare_find(r: &mut Random, bytes: &[u8], count: &mut Count) {
-    let number = a_number(r, bytes);
+fn compare_find(bytes: &[u8], number: u32, count: &mut Count) {
     let (expected, found) = find(bytes, number);
     let kept = (0x1234567, Record { number: number, ..UNTOUCHED });
     let (mut index, mut one) = kept;
@@ -461,21 +500,29 @@ fn compare_raise(r: &mut Random, count: &mut Count) {
     count.tell(answer, answer == expected && got == want, || format!("tally_raise: status {}, {:?} for {:?}", status, got, want));
 }
 
-/// n lists, stars of each shown and sought, as many written, and each in a batch. Answers the number of calls and of those that differ.
+/// n lists, stars of each shown and sought, as many written, and some in a batch; each list also with empty places. Answers the number of
+/// calls and of those that differ.
 pub fn compare(n: u64) -> (u64, u64) {
     let mut r = Random(::SEED);
     let (mut stars, mut finds, mut batches, mut statuses) = (Count::new(), Count::new(), Count::new(), Count::new());
     let (mut published, mut published_statuses) = (Count::new(), Count::new());
     let (mut raises, mut puts) = (Count::new(), Count::new());
-    let mut writer = Random(::SEED);
+    let (mut writer, mut emptier) = (Random(::SEED), Random(::SEED));
     let mut both = (2451545.0, 2462088.69);
     for i in 0..n {
         both = days(&mut r, both);
         let bytes = list(&mut r, both.0, both.1);
+        let mut holed = bytes.clone();
+        empty_some(&mut emptier, RECORD, &mut holed);
         for _ in 0..4 {
             let place = a_place(&mut r, &bytes);
             compare_star(&bytes, place, &mut stars);
-            compare_find(&mut r, &bytes, &mut finds);
+            let number = a_number(&mut r, &bytes);
+            compare_find(&bytes, number, &mut finds);
+            let place = a_place(&mut emptier, &holed);
+            compare_star(&holed, place, &mut stars);
+            let number = a_number_of_few(&mut emptier, &holed);
+            compare_find(&holed, number, &mut finds);
             compare_raise(&mut r, &mut raises);
             compare_put_star(&mut writer, &mut puts);
         }
@@ -483,12 +530,15 @@ pub fn compare(n: u64) -> (u64, u64) {
         if i % 4 == 0 {
             let stars = bytes.len() / RECORD;
             let lens = [places(&mut r, stars), places(&mut r, stars), places(&mut r, stars)];
-            compare_batch(&CRATE, &bytes, lens, both, &mut batches, &mut statuses);
-            compare_batch(&PUBLISHED, &bytes, lens, both, &mut published, &mut published_statuses);
+            for list in [&bytes, &holed].iter() {
+                compare_batch(&CRATE, list, lens, both, &mut batches, &mut statuses);
+                compare_batch(&PUBLISHED, list, lens, both, &mut published, &mut published_statuses);
+            }
         }
     }
     // A star that comes to the pole, where there is no direction; beside it a good one, one that comes too near to the pole, one that its
-    // motion carries past it, and one whose rate is out of range, as any neighbours in lists of one to four.
+    // motion carries past it, one whose rate is out of range, and empty places, the rest of one in range and of one not, as any neighbours
+    // in lists of one to four.
     let pole = Record { number: 7, asc: 90561088, dec: -247842964, asc_rate: 0, dec_rate: 0 };
     let kinds = [
         pole,
@@ -496,6 +546,8 @@ pub fn compare(n: u64) -> (u64, u64) {
         Record { number: 9, dec: pole.dec + 3600, ..pole },
         Record { number: 10, asc: 3600000, dec: 300000000, asc_rate: 1, dec_rate: -20000 },
         Record { number: 11, dec_rate: -2147483648, ..pole },
+        Record { number: 0, ..pole },
+        Record { number: 0, asc: 1296000000, ..pole },
     ];
     for stars in 1..5 {
         for order in 0..kinds.len().pow(stars) {
@@ -506,7 +558,7 @@ pub fn compare(n: u64) -> (u64, u64) {
     // Stars that a year brings to a pole itself, as nearly as doubles add up.
     let year = (2451545.0, 2451910.25);
     let at_poles: Vec<u8> = (0..400)
-        .map(|k| Record { number: k as u32, asc: 3600000 * k as u32, dec: 324000000 - 50 * k, asc_rate: -k, dec_rate: 50 * k })
+        .map(|k| Record { number: 1 + k as u32, asc: 3600000 * k as u32, dec: 324000000 - 50 * k, asc_rate: -k, dec_rate: 50 * k })
         .flat_map(|one| [one, Record { dec: -one.dec, dec_rate: -one.dec_rate, ..one }].iter().flat_map(|r| r.bytes()).collect::<Vec<u8>>())
         .collect();
     compare_batch(&CRATE, &at_poles, [800; 3], year, &mut batches, &mut statuses);
@@ -520,7 +572,28 @@ pub fn compare(n: u64) -> (u64, u64) {
         for &place in [0, len / RECORD * RECORD, len].iter() {
             compare_star(&full[..len], place, &mut stars);
         }
-        compare_find(&mut r, &full[..len], &mut finds);
+        let number = a_number(&mut r, &full[..len]);
+        compare_find(&full[..len], number, &mut finds);
+    }
+    // All places empty, of zeros or with anything behind the 0, but none, the first or the last.
+    let (zeros, emptied) = (vec![0; full.len()], full.chunks(RECORD).flat_map(|record| [&[0; 4], &record[4..]].concat()).collect::<Vec<u8>>());
+    for len in (0..6 * RECORD + 2).chain([MOST_BYTES - 1, MOST_BYTES, MOST_BYTES + 1, MOST_BYTES + RECORD].iter().cloned()) {
+        for empty in [&zeros[..len], &emptied[..len]].iter() {
+            for &kept in [None, Some(0), (len / RECORD).checked_sub(1)].iter() {
+                let mut bytes = empty.to_vec();
+                if let Some(byte) = kept.and_then(|i| bytes.get_mut(RECORD * i)) {
+                    *byte = 7;
+                }
+                for &place in [0, len / RECORD / 2 * RECORD, len / RECORD * RECORD].iter() {
+                    compare_star(&bytes, place, &mut stars);
+                }
+                for &number in [0, 7].iter() {
+                    compare_find(&bytes, number, &mut finds);
+                }
+                compare_batch(&CRATE, &bytes, [len / RECORD; 3], (2415020.5, 2462088.69), &mut batches, &mut statuses);
+                compare_batch(&PUBLISHED, &bytes, [len / RECORD; 3], (2415020.5, 2462088.69), &mut published, &mut published_statuses);
+            }
+        }
     }
     println!("{}", stars.line("star (255: none left)"));
     println!("{}", finds.line("find"));
@@ -534,9 +607,9 @@ pub fn compare(n: u64) -> (u64, u64) {
     let all = met(&stars, &[0, 8, 255])
         && met(&finds, &[0, 8, 9, 10])
         && met(&batches, &[0, 1, 2, 8])
-        && met(&statuses, &[0, 3, 4, 7, 9, 14])
+        && met(&statuses, &[0, 3, 4, 7, 9, 10, 14])
         && met(&published, &[0, 1, 2, 8])
-        && met(&published_statuses, &[0, 3, 4, 9])
+        && met(&published_statuses, &[0, 3, 4, 9, 10])
         && met(&raises, &[0, 8, 9])
         && met(&puts, &[0, 8, 9]);
     if !all {
@@ -548,7 +621,31 @@ pub fn compare(n: u64) -> (u64, u64) {
     (calls, differing + !all as u64)
 }
 
-/// The sample's lists: of each some stars shown, some sought, and all in a batch; then as many stars written.
+/// A list of the sample: some stars shown, some sought, by numbers that are drawn so, and all in a batch.
+fn sample_list(r: &mut Random, bytes: &[u8], both: (f64, f64), a_number: fn(&mut Random, &[u8]) -> u32) {
+    println!("list {}", hex(bytes));
+    for _ in 0..4 {
+        let place = a_place(r, bytes);
+        let (status, shown) = star(bytes, place);
+        let answer = shown.map_or(String::new(), |(one, next)| format!(" {} {}", one.told(), next));
+        println!("star {} = {}{}", place, status, answer);
+        let number = a_number(r, bytes);
+        let (status, found) = find(bytes, number);
+        let answer = found.map_or(String::new(), |(index, one)| format!(" {} {}", index, one.told_but_number()));
+        println!("find {} = {}{}", number, status, answer);
+    }
+    let status = batch_status(bytes, [bytes.len() / RECORD; 3], both);
+    for edition in [CRATE, PUBLISHED].iter() {
+        let mut answer = String::new();
+        for i in 0..if status == 0 { bytes.len() / RECORD } else { 0 } {
+            let (status, asc, dec) = reduced(edition, Record::at(bytes, RECORD * i), both.0, both.1);
+            answer += &format!(" {}{}", status, if status == 0 { ::hex(&[asc, dec]) } else { String::new() });
+        }
+        println!("{}{} = {}{}", edition.name, ::hex(&[both.0, both.1]), status, answer);
+    }
+}
+
+/// The sample's lists, then a third as many with empty places, then as many stars written as there were lists at first.
 pub fn sample(n: u64) {
     println!("# A list in hexadecimal, then calls on it: star PLACE = status, number, right ascension, declination, both rates, next place;");
     println!("# find NUMBER = status, index, right ascension, declination, both rates; batch DAY DAY = status, each star's status, angles if it");
@@ -558,26 +655,14 @@ pub fn sample(n: u64) {
     for _ in 0..n {
         both = days(&mut r, both);
         let bytes = list(&mut r, both.0, both.1);
-        println!("list {}", hex(&bytes));
-        for _ in 0..4 {
-            let place = a_place(&mut r, &bytes);
-            let (status, shown) = star(&bytes, place);
-            let answer = shown.map_or(String::new(), |(one, next)| format!(" {} {}", one.told(), next));
-            println!("star {} = {}{}", place, status, answer);
-            let number = a_number(&mut r, &bytes);
-            let (status, found) = find(&bytes, number);
-            let answer = found.map_or(String::new(), |(index, one)| format!(" {} {}", index, one.told_but_number()));
-            println!("find {} = {}{}", number, status, answer);
-        }
-        let status = batch_status(&bytes, [bytes.len() / RECORD; 3], both);
-        for edition in [CRATE, PUBLISHED].iter() {
-            let mut answer = String::new();
-            for i in 0..if status == 0 { bytes.len() / RECORD } else { 0 } {
-                let (status, asc, dec) = reduced(edition, Record::at(&bytes, RECORD * i), both.0, both.1);
-                answer += &format!(" {}{}", status, if status == 0 { ::hex(&[asc, dec]) } else { String::new() });
-            }
-            println!("{}{} = {}{}", edition.name, ::hex(&[both.0, both.1]), status, answer);
-        }
+        sample_list(&mut r, &bytes, both, a_number);
+    }
+    println!("# The same with empty places.");
+    for _ in 0..n / 3 {
+        both = days(&mut r, both);
+        let mut bytes = list(&mut r, both.0, both.1);
+        empty_some(&mut r, RECORD, &mut bytes);
+        sample_list(&mut r, &bytes, both, a_number_of_few);
     }
     println!("# put_star LENGTH PLACE NUMBER ASC DEC RATE RATE = status, what is written into a slice of so many bytes.");
     let mut r = Random(::SEED);

@@ -1,6 +1,6 @@
 //! The moves between widths: request (x)'s, written a second time, and the port's compared with them. A list of before has 12 bytes a star.
 use inputs::Random;
-use lists::{a_bad_rate, a_rate, bad_list, records, Record, MOST_STARS, RECORD};
+use lists::{a_bad_rate, a_rate, bad_list, empty_some, records, Record, MOST_STARS, RECORD};
 use put::{compare_back, compare_put, hex, put_told, room, Answer};
 use Count;
 
@@ -125,13 +125,17 @@ fn compare_down(bytes: &[u8], len: usize, count: &mut Count) {
     });
 }
 
-/// n lists moved up, n down, and each of these the other way too; then every length about the first multiples, and the longest.
+/// n lists moved up, n down, and each of these the other way too, all of them also with empty places; then every length about the first
+/// multiples, and the longest.
 pub fn compare(n: u64) -> (u64, u64) {
-    let mut r = Random(::SEED);
+    let (mut r, mut emptier) = (Random(::SEED), Random(::SEED));
     let (mut ups, mut downs) = (Count::new(), Count::new());
     for _ in 0..n {
         let (of_before, now) = (list_of_before(&mut r), list(&mut r));
-        for bytes in [&of_before, &now].iter() {
+        let (mut holed_before, mut holed) = (of_before.clone(), now.clone());
+        empty_some(&mut emptier, OLD, &mut holed_before);
+        empty_some(&mut emptier, RECORD, &mut holed);
+        for bytes in [&of_before, &now, &holed_before, &holed].iter() {
             let len = room(&mut r, 0, &up(bytes));
             compare_up(bytes, len, &mut ups);
             let len = room(&mut r, 0, &down(bytes));
@@ -167,12 +171,15 @@ pub fn compare(n: u64) -> (u64, u64) {
 
 // ---- the sample
 
-/// The sample's lists of both widths, each moved both ways.
+/// The sample's lists of both widths, each moved both ways; behind them a quarter as many with empty places.
 pub fn sample(n: u64) {
     println!("# A list, then list_12_to_20 LENGTH and list_20_to_12 LENGTH = status, what is written into a slice of so many bytes.");
     let mut r = Random(::SEED);
-    for k in 0..n {
-        let bytes = if k % 2 == 0 { list_of_before(&mut r) } else { list(&mut r) };
+    for k in 0..n + n / 4 {
+        let mut bytes = if k % 2 == 0 { list_of_before(&mut r) } else { list(&mut r) };
+        if k >= n {
+            empty_some(&mut r, [OLD, RECORD][k as usize % 2], &mut bytes);
+        }
         println!("list {}", hex(&bytes));
         let len = room(&mut r, 0, &up(&bytes));
         println!("list_12_to_20 {} = {}", len, put_told(up(&bytes), len, 0));

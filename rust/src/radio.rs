@@ -2,7 +2,8 @@
 //! folded, every number in groups of seven bits, low group first, in the shortest length. A list of version 0.1 begins with byte 2 and has
 //! three numbers a star: it is read, with rates zero, and never written.
 //!
-//! Of the refusals the first met is given. A refused call leaves the lent slice unchanged, an answered one all that it does not write.
+//! Of the refusals the first met is given. A refused call leaves the lent slice unchanged, an answered one all that it does not write. Only
+//! the stored list has empty places: here number 0 is read, written, counted and moved as any other.
 use crate::list::{Star, MOST_STARS};
 use crate::{ffi, Refusal};
 

@@ -26,7 +26,7 @@ pub enum Refusal {
     List,
     /// 9: a star record is out of range, or the number of a star to be added is 0.
     Record,
-    /// 10: no star has the number sought, or the number to be struck is 0.
+    /// 10: no star has the number sought or to be struck, as none has number 0; of a record in a batch: an empty place.
     NoStar,
     /// 11: the first byte of a radio list is neither 2 nor 3.
     FirstByte,
@@ -130,7 +130,7 @@ impl Refusal {
             Refusal::Arcsine => "the argument of an arcsine exceeds 1 in size",
             Refusal::List => "the list, a place in it or a lent slice has a bad length, or a radio list too many stars",
             Refusal::Record => "a star record is out of range",
-            Refusal::NoStar => "no star has the number sought",
+            Refusal::NoStar => "no star has the number, or the place is empty",
             Refusal::FirstByte => "the first byte of a radio list is neither 2 nor 3",
             Refusal::Spelling => "a number of a radio list is not in its shortest length or above 32 bits",
             Refusal::End => "a radio list is cut short, an empty one too, or has bytes over",

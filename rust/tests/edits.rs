@@ -62,6 +62,29 @@ fn gathered_stars_keep_their_bytes_and_their_order() {
     }
 }
 
+/// The numbers of the stars that the reader shows.
+fn numbers(bytes: &[u8]) -> Vec<u32> {
+    list::stars(bytes).unwrap().map(|star| star.number).collect()
+}
+
+#[test]
+fn reader_and_find_say_the_same_before_and_after_a_gather() {
+    let (mut bytes, mut gathered) = (elsewhere().concat(), elsewhere().concat());
+    assert_eq!(list::gather(&mut gathered), Ok(()));
+    for _ in 0..2 {
+        assert!(list::stars(&bytes).unwrap().eq(list::stars(&gathered).unwrap()));
+        for number in [0, 1, 7, 9, 300] {
+            let found = |bytes| list::find(bytes, number).map(|(_, star)| star);
+            assert_eq!(found(&bytes), found(&gathered), "star {}", number);
+        }
+        // The index apart, which counts the places that were empty before it.
+        assert_eq!((list::find(&bytes, 300), list::find(&gathered, 300)), (Ok((5, star(300, 3))), Ok((numbers(&gathered).len() - 1, star(300, 3)))));
+        assert_eq!(list::strike(&mut bytes, 7), Ok(()));
+        assert_eq!((list::strike(&mut gathered, 7), list::gather(&mut gathered)), (Ok(()), Ok(())));
+    }
+    assert_eq!((numbers(&bytes), numbers(&gathered)), (vec![9, 300], vec![9, 300]));
+}
+
 #[test]
 fn a_number_that_stood_twice_is_there_until_it_is_struck_twice() {
     let mut bytes = elsewhere().concat();
@@ -128,6 +151,7 @@ fn the_longest_list_takes_as_many_stars_as_it_has_places() {
         assert_eq!(list::strike(&mut bytes, number), Ok(()));
     }
     assert_eq!(list::gather(&mut bytes), Ok(()));
+    assert_eq!(numbers(&bytes), (1..MOST_STARS as u32).step_by(2).collect::<Vec<u32>>());
     let (kept, rest) = bytes.split_at(MOST_BYTES / 2);
     assert!(list::stars(kept).unwrap().eq((1..MOST_STARS as u32).step_by(2).map(|number| star(number, number))));
     assert!(rest.iter().all(|&b| b == 0));
@@ -247,7 +271,7 @@ fn the_kept_stars_are_the_answered_adds_less_the_answered_strikes() {
                 _ => {}
             }
             met(&mut counts, answer);
-            let mut kept: Vec<Star> = list::stars(&bytes).unwrap().filter(|star| star.number != 0).collect();
+            let mut kept: Vec<Star> = list::stars(&bytes).unwrap().collect();
             kept.sort_by_key(|star| star.number);
             book.sort_by_key(|star| star.number);
             assert_eq!(kept, book, "after {:?}", one);

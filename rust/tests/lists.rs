@@ -1,7 +1,8 @@
-//! The stored list through the crate: read by an iterator, written star by star, reduced to results, and moved between widths.
+//! The stored list through the crate: read by an iterator, written star by star, reduced to results, and moved between widths; with empty
+//! places in it.
 use brundelak::coords::EqPoint;
 use brundelak::list::{self, Star, MOST_BYTES, MOST_NARROW_BYTES, MOST_STARS, NARROW_RECORD_BYTES, RECORD_BYTES};
-use brundelak::{angle, batch, chain, Edition, Refusal};
+use brundelak::{angle, batch, chain, radio, Edition, Refusal};
 
 /// Star 9's right ascension is a whole turn, so that its record is out of range; the third star moves.
 const STARS: [Star; 3] = [
@@ -19,12 +20,12 @@ const LIST: [u8; 3 * RECORD_BYTES] = [
 fn every_star_is_shown_in_order() {
     let mut stars = list::stars(&LIST).unwrap();
     for (i, &star) in STARS.iter().enumerate() {
-        assert_eq!(stars.len(), 3 - i);
+        assert_eq!(stars.size_hint(), (0, Some(3 - i)));
         assert_eq!(stars.next(), Some(star));
     }
-    assert_eq!((stars.len(), stars.next(), stars.next()), (0, None, None));
+    assert_eq!((stars.size_hint(), stars.next(), stars.next()), ((0, Some(0)), None, None));
     assert_eq!(list::stars(&[]).unwrap().count(), 0);
-    assert_eq!(list::stars(&[0; MOST_BYTES]).unwrap().count(), MOST_STARS);
+    assert_eq!(list::stars(&[1; MOST_BYTES]).unwrap().count(), MOST_STARS);
 }
 
 #[test]
@@ -97,8 +98,8 @@ fn each_star_is_its_place_or_its_refusal() {
             let (asc, dec) = shifted(star, day1, day2);
             chain::chain_by(edition, asc, dec, day1, day2)
         };
-        assert_eq!(reduced, [by_chain(STARS[0]), Err(Refusal::Record), by_chain(STARS[2])]);
-        assert!(reduced[0].is_ok() && reduced[2].is_ok());
+        assert_eq!(reduced, [(STARS[0], by_chain(STARS[0])), (STARS[1], Err(Refusal::Record)), (STARS[2], by_chain(STARS[2]))]);
+        assert!(reduced[0].1.is_ok() && reduced[2].1.is_ok());
     }
     assert_eq!(batch::reduced(&LIST, day1, day2), batch::reduced_by(Edition::Crate, &LIST, day1, day2));
     assert_ne!(batch::reduced(&LIST, day1, day2), batch::reduced_by(Edition::Published, &LIST, day1, day2));
@@ -110,7 +111,10 @@ fn a_refused_batch_has_no_results() {
     assert_eq!(batch::reduced(&LIST[1..], f64::NAN, 0.0), Err(Refusal::NotFinite));
     assert_eq!(batch::reduced(&LIST[1..], 2451545.0, 0.0), Err(Refusal::Day));
     assert_eq!(batch::reduced(&LIST[1..], 2451545.0, 2451545.0), Err(Refusal::List));
-    assert_eq!(batch::reduced(&[0; MOST_BYTES + RECORD_BYTES], 2451545.0, 2451545.0), Err(Refusal::List));
+    for fill in [0, 1] {
+        assert_eq!(batch::reduced(&[fill; MOST_BYTES + RECORD_BYTES], 2451545.0, 2451545.0), Err(Refusal::List));
+        assert_eq!(batch::reduced(&[fill; MOST_BYTES + RECORD_BYTES], f64::NAN, 2451545.0), Err(Refusal::NotFinite));
+    }
 }
 
 /// Bits of NaNs, signalling and quiet, of either sign.
@@ -143,9 +147,125 @@ fn what_a_batch_does_not_write_stays_bit_for_bit() {
 fn what_a_batch_left_is_read_without_memory() {
     let (mut status, mut asc, mut dec) = ([0; 3], [0.0; 3], [0.0; 3]);
     batch::batch(&LIST, 2451545.0, 2462088.69, &mut status, &mut asc, &mut dec).unwrap();
-    let reduced = batch::reduced(&LIST, 2451545.0, 2462088.69).unwrap();
+    let reduced: Vec<_> = batch::reduced(&LIST, 2451545.0, 2462088.69).unwrap().into_iter().map(|(_, place)| place).collect();
     assert!(batch::places(&status, &asc, &dec).eq(reduced.iter().copied()));
     assert!(batch::places(&status[..2], &asc, &dec).eq(reduced[..2].iter().copied()));
+}
+
+/// Empty places: of zeros, of what a writer may leave behind the 0, and of what is out of range in every field.
+const NOUGHT: Star = Star::still(0, 0, 0);
+const LEFT: Star = Star { number: 0, asc: 3600000, dec: -3600000, asc_rate: 300, dec_rate: -20000 };
+const FAR: Star = Star { number: 0, asc: u32::MAX, dec: i32::MIN, asc_rate: 20001, dec_rate: i32::MAX };
+/// They stand in front, between and behind, alone and side by side.
+const HOLED: [Star; 9] = [NOUGHT, FAR, STARS[0], LEFT, STARS[1], STARS[2], FAR, LEFT, NOUGHT];
+
+/// The bytes of some records, in range or not.
+fn bytes_of(records: &[Star]) -> Vec<u8> {
+    let words = |star: &Star| [star.number, star.asc, star.dec as u32, star.asc_rate as u32, star.dec_rate as u32];
+    records.iter().flat_map(|star| words(star).iter().flat_map(|word| word.to_le_bytes()).collect::<Vec<u8>>()).collect()
+}
+
+#[test]
+fn an_empty_place_is_passed_over() {
+    let bytes = bytes_of(&HOLED);
+    assert!(list::stars(&bytes).unwrap().eq(STARS));
+    // From every record's start, an empty one too: the next star and the place after it.
+    let (end, shown) = (bytes.len(), [2, 2, 2, 4, 4, 5]);
+    for (i, &at) in shown.iter().enumerate() {
+        assert_eq!(list::star(&bytes, RECORD_BYTES * i), Ok(Some((HOLED[at], RECORD_BYTES * (at + 1)))), "record {}", i);
+    }
+    for place in (RECORD_BYTES * shown.len()..=end).step_by(RECORD_BYTES) {
+        assert_eq!(list::star(&bytes, place), Ok(None), "place {}", place);
+    }
+    for place in [1, RECORD_BYTES - 1, end - 1, end + 1, end + RECORD_BYTES] {
+        assert_eq!(list::star(&bytes, place), Err(Refusal::List), "place {}", place);
+    }
+    // How many are left is at most as many as there are records left.
+    let mut stars = list::stars(&bytes).unwrap();
+    for left in [9, 6, 4, 3, 3] {
+        assert_eq!(stars.size_hint(), (0, Some(left)));
+        stars.next();
+    }
+    for empty in [bytes_of(&[NOUGHT]), bytes_of(&[FAR, LEFT]), vec![0; MOST_BYTES]] {
+        assert_eq!((list::stars(&empty).unwrap().next(), list::star(&empty, empty.len())), (None, Ok(None)));
+    }
+}
+
+#[test]
+fn an_empty_place_is_never_found_and_counts_in_an_index() {
+    let bytes = bytes_of(&HOLED);
+    assert_eq!(list::find(&bytes, 7), Ok((2, STARS[0])));
+    assert_eq!(list::find(&bytes, 9), Err(Refusal::Record));
+    for empty in [&bytes[..], &[], &[0; RECORD_BYTES], &bytes_of(&[LEFT]), &bytes_of(&[FAR]), &LIST] {
+        assert_eq!(list::find(empty, 0), Err(Refusal::NoStar));
+    }
+    assert_eq!(list::find(&bytes[1..], 0), Err(Refusal::List));
+}
+
+#[test]
+fn each_star_has_its_own_result_wherever_places_are_empty() {
+    let (day1, day2) = (2415020.5, 2462088.69);
+    for edition in [Edition::Crate, Edition::Published] {
+        let full = batch::reduced_by(edition, &LIST, day1, day2).unwrap();
+        assert_eq!(batch::reduced_by(edition, &bytes_of(&HOLED), day1, day2), Ok(full.clone()));
+        // Every way to lay the three stars into five places, the others empty.
+        for empty in [NOUGHT, LEFT, FAR] {
+            for laid in (0..32u32).filter(|laid| laid.count_ones() == 3) {
+                let mut stars = STARS.iter();
+                let records: Vec<Star> = (0..5).map(|i| if laid >> i & 1 == 1 { *stars.next().unwrap() } else { empty }).collect();
+                assert_eq!(batch::reduced_by(edition, &bytes_of(&records), day1, day2), Ok(full.clone()), "{:05b}", laid);
+            }
+        }
+        assert_eq!(batch::reduced_by(edition, &[0; MOST_BYTES], day1, day2), Ok(vec![]));
+    }
+}
+
+#[test]
+fn an_empty_place_has_status_10_and_is_counted_there() {
+    let (day1, day2) = (2415020.5, 2462088.69);
+    for edition in [Edition::Crate, Edition::Published] {
+        let (mut status, mut asc, mut dec) = ([77; 10], [f64::NAN; 10], [f64::NAN; 10]);
+        let tally = batch::batch_by(edition, &bytes_of(&HOLED), day1, day2, &mut status, &mut asc, &mut dec).unwrap();
+        assert_eq!(status, [10, 10, 0, 10, 9, 0, 10, 10, 10, 77]);
+        assert_eq!((tally[0], tally[9], tally[10], tally.iter().sum::<u32>()), (2, 1, 6, 9));
+        // By records: the stars of the full list at their indices, positive zeros elsewhere.
+        let by_record: Vec<_> = batch::places(&status[..9], &asc, &dec).collect();
+        let full = batch::reduced_by(edition, &LIST, day1, day2).unwrap();
+        let empty = Err(Refusal::NoStar);
+        assert_eq!(by_record, [empty, empty, full[0].1, empty, full[1].1, full[2].1, empty, empty, empty]);
+        for i in [0, 1, 3, 4, 6, 7, 8] {
+            assert_eq!((asc[i].to_bits(), dec[i].to_bits()), (0, 0), "record {}", i);
+        }
+        assert!(asc[9].is_nan() && dec[9].is_nan());
+        // A slice must have room for the empty places too.
+        assert_eq!(
+            batch::batch_by(edition, &bytes_of(&HOLED), day1, day2, &mut status[..3], &mut asc, &mut dec),
+            Err(Refusal::List)
+        );
+    }
+}
+
+#[test]
+fn an_empty_place_is_written_and_moved_like_any_record() {
+    let mut out = [0xA5; RECORD_BYTES];
+    for empty in [NOUGHT, LEFT] {
+        assert_eq!(list::put_star(&mut out, 0, empty), Ok(RECORD_BYTES));
+        assert_eq!((&out[..], list::star(&out, 0)), (&bytes_of(&[empty])[..], Ok(None)));
+    }
+    assert_eq!(list::put_star(&mut out, 0, FAR), Err(Refusal::Record));
+    // Down and up: carried where it is still and in range, else refused as any record.
+    let (still, mut narrow, mut wide) = (bytes_of(&[NOUGHT, STARS[0], NOUGHT]), [0xA5; 3 * NARROW_RECORD_BYTES], [0xA5; 3 * RECORD_BYTES]);
+    assert_eq!(list::list_20_to_12(&still, &mut narrow), Ok(narrow.len()));
+    assert_eq!((list::list_12_to_20(&narrow, &mut wide), &wide[..]), (Ok(wide.len()), &still[..]));
+    assert_eq!(list::list_20_to_12(&bytes_of(&[STARS[0], LEFT]), &mut narrow), Err(Refusal::MovingStar));
+    assert_eq!(list::list_20_to_12(&bytes_of(&[LEFT, FAR]), &mut narrow), Err(Refusal::Record));
+    assert_eq!(list::list_12_to_20(&bytes_of(&[FAR])[..NARROW_RECORD_BYTES], &mut wide), Err(Refusal::Record));
+    // In the radio form it is a star of number 0, and comes back as the same empty place.
+    let (holed, mut text, mut back) = (bytes_of(&[LEFT, STARS[2], NOUGHT]), [0; 3 * 21 + 3], [0xA5; 3 * RECORD_BYTES]);
+    let len = radio::list_to_radio(&holed, &mut text).unwrap();
+    let (count, first) = radio::open(&text[..len]).unwrap();
+    assert_eq!((count, radio::star(&text[..len], first).map(|(star, _)| star)), (3, Ok(LEFT)));
+    assert_eq!((radio::radio_to_list(&text[..len], &mut back), &back[..]), (Ok(back.len()), &holed[..]));
 }
 
 /// The list of some stars.
@@ -165,7 +285,7 @@ fn a_star_without_rates_is_where_the_chain_has_it() {
         for &(day1, day2) in &[(2451545.0, 2462088.69), (2462088.69, 2451545.0), (1721045.0, 3182045.0), (2415020.5, 2415020.5)] {
             for edition in [Edition::Crate, Edition::Published] {
                 let by_chain = chain::chain_by(edition, radians(asc.into()), radians(dec.into()), day1, day2);
-                let reduced = batch::reduced_by(edition, &list, day1, day2).unwrap()[0];
+                let reduced = batch::reduced_by(edition, &list, day1, day2).unwrap()[0].1;
                 let bits = |place: Result<EqPoint, Refusal>| place.map(|p| (p.asc.to_bits(), p.dec.to_bits()));
                 assert_eq!(bits(reduced), bits(by_chain), "{} {} from {} to {}", asc, dec, day1, day2);
             }
@@ -187,11 +307,11 @@ fn a_star_that_moves_is_where_the_chain_has_its_shifted_place() {
         for &(day1, day2) in &[(2451545.0, 2462088.69), (2462088.69, 2451545.0), (1721045.0, 3182045.0), (2415020.5, 2415020.5)] {
             let (asc, dec) = shifted(star, day1, day2);
             for edition in [Edition::Crate, Edition::Published] {
-                let reduced = batch::reduced_by(edition, &list_of(&[star]), day1, day2).unwrap()[0];
+                let reduced = batch::reduced_by(edition, &list_of(&[star]), day1, day2).unwrap()[0].1;
                 assert!(reduced.is_ok());
                 assert_eq!(reduced, chain::chain_by(edition, asc, dec, day1, day2), "{:?} from {} to {}", star, day1, day2);
                 let still = Star::still(star.number, star.asc, star.dec);
-                assert_eq!(day1 == day2, batch::reduced_by(edition, &list_of(&[still]), day1, day2).unwrap()[0] == reduced);
+                assert_eq!(day1 == day2, batch::reduced_by(edition, &list_of(&[still]), day1, day2).unwrap()[0].1 == reduced);
             }
         }
     }
@@ -204,7 +324,7 @@ fn a_star_that_moves_past_the_pole_is_refused_by_3() {
     let south = Star { dec: -324000000, dec_rate: -1, ..pole };
     let damaged = [1, 0, 0, 0, 0, 0, 0, 0, 0x00, 0xD9, 0x4F, 0x13, 0x21, 0x4E, 0, 0, 1, 0, 0, 0];
     let list = [list_of(&[pole, south, Star { dec_rate: 0, ..pole }, Star { dec_rate: -1000, ..pole }]), damaged.to_vec()].concat();
-    let refusals = |day1, day2| batch::reduced(&list, day1, day2).unwrap().iter().map(|place| place.err()).collect::<Vec<_>>();
+    let refusals = |day1, day2| batch::reduced(&list, day1, day2).unwrap().iter().map(|(_, place)| place.err()).collect::<Vec<_>>();
     // At the pole itself, and next to it, it is the chain that refuses; a record out of range comes first.
     let (past, steep, record) = (Some(Refusal::Angle), Some(Refusal::Steep), Some(Refusal::Record));
     assert_eq!(refusals(day1, day2), [past, past, steep, steep, record]);

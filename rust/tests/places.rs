@@ -197,6 +197,7 @@ fn a_list_is_walked_and_sought() {
     assert_eq!(list::find(&LIST, 7), Ok((0, list::Star::still(7, 0, 0))));
     assert_eq!(list::find(&LIST, 9), Err(Refusal::Record));
     assert_eq!(list::find(&LIST, 8), Err(Refusal::NoStar));
+    assert_eq!(list::find(&LIST, 0), Err(Refusal::NoStar));
     assert_eq!(list::find(&LIST[1..], 7), Err(Refusal::List));
     assert_eq!(list::star(&LIST, 5), Err(Refusal::List));
 }
@@ -210,6 +211,12 @@ fn a_batch_is_the_chain_at_each_star() {
     assert_eq!((tally[0], tally[9], tally.iter().sum::<u32>()), (2, 1, 3));
     let third = chain::chain(deg(1.0), deg(-1.0), day1, day2).unwrap();
     assert_eq!((asc[1], dec[1], asc[2], dec[2], asc[3], dec[3]), (0.0, 0.0, third.asc, third.dec, -1.0, -2.0));
+    // With the first star struck off, its place has 10, and the others what they had.
+    let mut struck = LIST;
+    list::strike(&mut struck, 7).unwrap();
+    let tally = batch::batch(&struck, day1, day2, &mut status, &mut asc, &mut dec).unwrap();
+    assert_eq!((status, tally[0], tally[9], tally[10]), ([10, 9, 0, 77], 1, 1, 1));
+    assert_eq!((asc[0], dec[0], asc[2], dec[2]), (0.0, 0.0, third.asc, third.dec));
     assert_eq!(number(batch::batch(&LIST, day1, f64::NAN, &mut status, &mut asc, &mut dec)), 1);
     assert_eq!(number(batch::batch(&LIST, day1, day2, &mut status[..2], &mut asc, &mut dec)), 8);
 }

@@ -10,7 +10,7 @@ ghost use Rattle.double.specs.rules.Pattern.{patternOf};
 ghost use Rattle.quantity.specs.rules.Answer.{answered, pair, unless};
 ghost use Rattle.quantity.specs.rules.Refusal.{latitudeRefusal};
 ghost use Rattle.list.specs.rules.Record.{inRange};
-ghost use Rattle.list.specs.rules.Stars.{mostStars};
+ghost use Rattle.list.specs.rules.Stars.{mostStars, isKept};
 ghost use Rattle.batch.specs.rules.Star.{earlier, twoStarsUnder};
 ghost use Rattle.batch.specs.rules.Batch.{batchRefusal};
 ghost use Rattle.batch.specs.rules.Batch.{Batch as Batch·Batch};
@@ -31,10 +31,13 @@ pub struct Batched {
 
 // ---- one star
 
-// A star's refusals before its reduction: 9 for a record out of range; then 3 for a declination that is past HALF in size.
+// A star's refusals before its reduction: 10 for an empty place; 9 for a record out of range; then 3 for a declination past HALF in size.
 fn star_refusal(star: Star, dec: Rad) -> u8
-    ensures { λ r. ⌜ r ≡ cond (inRange star) (latitudeRefusal dec) 9 ⌝ }
+    ensures { λ r. ⌜ r ≡ cond (isKept star) (cond (inRange star) (latitudeRefusal dec) 9) 10 ⌝ }
 {
+    if star.number == 0 {
+        return 10;
+    }
     if list::in_range(star) {
         if double::size(dec.0) <= HALF {
             return 0;
@@ -51,8 +54,8 @@ fn earlier(refusal: u8, later: u8) -> u8
     if refusal == 0 { later } else { refusal }
 }
 
-// Two stars' places under a night after so many years, side by side. Refusals of each: 9 for a record out of range; then 3 for a shifted
-// declination past HALF in size; then 14, 7 and 4.
+// Two stars' places under a night after so many years, side by side. Refusals of each: 10 for an empty place; 9 for a record out of range;
+// then 3 for a shifted declination past HALF in size; then 14, 7 and 4.
 fn two_stars_under(first: Star, second: Star, night: Night, years: f64) -> Places
     ensures { λ r. ⌜ r ≡ twoStarsUnder first second night years ⌝ }
 {
@@ -136,8 +139,8 @@ fn store_star(
 }
 
 // Every star of the list, shifted by the years between the days, from the first day to the second, two at a time, the last of an odd
-// count beside itself: its status, 0 or its refusal, and the bits of its two angles, 0.0 and 0.0 where it is refused. Places past the
-// stars stay. Refusals of the call, which changes nothing lent: 1; 2; then 8.
+// count beside itself: its status, 0 or its refusal, and the bits of its two angles, 0.0 and 0.0 where it is refused, as an empty place
+// is by 10. What is lent past the list's places stays. Refusals of the call, which changes nothing lent: 1; 2; then 8.
 pub fn batch(
     edition: Edition,
     bytes: &[u8],

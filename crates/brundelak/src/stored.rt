@@ -12,7 +12,7 @@ use list::Star;
 use list::Stored;
 use list_tally::Tally;
 
-// The first star with a number: its index and the record's other fields. Refusals: 8; 10; 9.
+// The first star with a number: its index and the record's other fields. Refusals: 8; 10 for number 0 too; 9.
 #[no_mangle]
 pub extern "C" fn brundelak_find(
     bytes: &[u8],
@@ -43,7 +43,8 @@ pub extern "C" fn brundelak_find(
     }
 }
 
-// The star at an offset of a list, in range or not, and the offset after it: the reader's next. 255 where none is left. Refusals: 8.
+// The first kept star from an offset of a list on, in range or not, and the offset after it: the reader's next. 255 where none is left.
+// Refusals: 8.
 #[no_mangle]
 pub extern "C" fn brundelak_star(
     bytes: &[u8],

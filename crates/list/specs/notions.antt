@@ -6,3 +6,4 @@ pub mod Computed
 pub mod Wrong
 pub mod Moves
 pub mod Still
+pub mod Walk

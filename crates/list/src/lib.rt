@@ -1,13 +1,14 @@
 // The stored list (section 7): record, reader, writer and find. Promised: every byte string is read, star i being its record whatever it
-// holds, and a star in range is written so that it reads back. Above the record all speaks of a list of stars.
+// holds, and a star in range is written so that it reads back; number 0 is an empty place, which reader and find pass over. Above the
+// record all speaks of a list of stars.
 ghost use mathlib.Core.Path.{_≡_};
 ghost use Prim.Native.Nat.{_+_, _≤_};
-ghost use lib.ListN.{length};
+ghost use lib.ListN.{length, drop};
 ghost use Rattle.lent.specs.rules.Writing.{Wrote};
 ghost use Rattle.lent.specs.rules.Put.{Put};
 ghost use Rattle.list.specs.rules.Record.{width, wordAt, starAt, inRange, wordBytes, starBytes};
 ghost use Rattle.list.specs.rules.Stars.{isList, countOf, stars, nought, nth};
-ghost use Rattle.list.specs.rules.Reader.{shownStored, readRule};
+ghost use Rattle.list.specs.rules.Reader.{shownStored, emptyBefore, readRule};
 ghost use Rattle.list.specs.rules.Writer.{isStart, recordText};
 ghost use Rattle.list.specs.rules.Find.{shownFound, indexOf, findRule};
 use lent::Written;
@@ -150,7 +151,23 @@ pub fn nth(bytes: &[u8], i: usize) -> Star
     nought()
 }
 
-// What stands at an offset of a list: a star, in range or not, or at the end none.
+// The index of the first star that is kept, from an index on; where none is left, one past the last star.
+fn kept_from(bytes: &[u8], from: usize) -> usize
+    ensures { λ r. ⌜ r ≡ from + emptyBefore (drop from (stars (now (bytes .entry)))) ⌝ }
+{
+    let n = count(bytes);
+    let mut i = from;
+    while i < n {
+        let star = nth(bytes, i);
+        if star.number != 0 {
+            return i;
+        }
+        i += 1;
+    }
+    i
+}
+
+// The first star that is kept from an offset of a list on, in range or not, and the offset after it; where empty places alone are left, none.
 // Refusals: 8 for bytes that are no list, and for an offset past the end or not at a record's start.
 pub fn star_at(bytes: &[u8], offset: usize) -> Stored
     ensures { λ r. ⌜ shownStored r ≡ readRule (now (bytes .entry)) offset ⌝ }
@@ -164,10 +181,11 @@ pub fn star_at(bytes: &[u8], offset: usize) -> Stored
     if offset % WIDTH != 0 {
         return Stored::Refused(8);
     }
-    if offset == bytes.len() {
+    let i = kept_from(bytes, offset / WIDTH);
+    if i >= count(bytes) {
         return Stored::End;
     }
-    Stored::Next(record_at(bytes, offset), offset + WIDTH)
+    Stored::Next(nth(bytes, i), (i + 1) * WIDTH)
 }
 
 // Whether a record of a list may begin there.
@@ -214,12 +232,15 @@ pub fn index_of(bytes: &[u8], number: u32) -> usize
 }
 
 // The first star with the number, and its index.
-// Refusals: 8 for bytes that are no list; 10 where no star has the number; 9 where that star is out of range.
+// Refusals: 8 for bytes that are no list; 10 for number 0, and where no star has the number; 9 where that star is out of range.
 pub fn find(bytes: &[u8], number: u32) -> Found
     ensures { λ r. ⌜ shownFound r ≡ findRule (now (bytes .entry)) number ⌝ }
 {
     if !is_list(bytes) {
         return Found::Refused(8);
+    }
+    if number == 0 {
+        return Found::Refused(10);
     }
     let i = index_of(bytes, number);
     if i >= count(bytes) {

@@ -11,4 +11,6 @@ pub mod Balance
 pub mod Fill
 pub mod Ledger
 pub mod Find
+pub mod Reader
+pub mod Room
 pub mod Wrong

@@ -91,7 +91,7 @@ fn bring_forward(bytes: &mut [u8]) -> usize
 }
 
 // Zeros from the offset on to the end.
-fn put_zeros(out: &mut [u8], at: usize) -> usize
+pub fn put_zeros(out: &mut [u8], at: usize) -> usize
     ensures { λ r. ⌜ Wrote (now (out .entry)) at (replicate (length (now (out .entry)) - at) 0) (now (out .exit)) r ⌝ }
 {
     let mut offset = lent::within(at, out.len());

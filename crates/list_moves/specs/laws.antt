@@ -5,4 +5,5 @@ pub mod MovedUp
 pub mod Room
 pub mod Calls
 pub mod Cases
+pub mod Empty
 pub mod Wrong

@@ -2,4 +2,5 @@
 pub mod Narrow
 pub mod Checked
 pub mod Widths
+pub mod Empty
 pub mod Wrong

@@ -1,5 +1,5 @@
 // Cases of the stored list, its sheet and the tally, a line each: lengths round a record and the longest list, offsets up to
-// the largest usize, records in and out of range, numbers that stand twice or nowhere, and a full count of a tally.
+// the largest usize, records in and out of range, numbers that stand twice or nowhere, empty places, and a full count of a tally.
 // What a line holds stands above the function that prints it.
 use list::Found;
 use list::Star;
@@ -30,7 +30,7 @@ fn end() {
     io::write_all(1, b"\n");
 }
 
-// A length, how many stars it has room for, and 1 where it is that of a list.
+// A length, how many places it has, and 1 where it is that of a list.
 fn length_case(buffer: &[u8], n: usize) {
     if n <= buffer.len() {
         let bytes = &buffer[..n];
@@ -41,7 +41,7 @@ fn length_case(buffer: &[u8], n: usize) {
     }
 }
 
-// An offset, the star there and the next offset; the offset alone at the end.
+// An offset, the first star that is kept from there on, and the offset after it; the offset alone where none is left.
 fn offset_case(bytes: &[u8], offset: usize) {
     io::print_decimal(1, offset as u64);
     match list_reader::stored_at(bytes, offset) {
@@ -115,10 +115,11 @@ fn offsets(bytes: &[u8]) {
     offset_case(bytes, 1);
     offset_case(bytes, 12);
     offset_case(bytes, 20);
-    offset_case(bytes, 180);
-    offset_case(bytes, 200);
-    offset_case(bytes, 201);
+    offset_case(bytes, 120);
     offset_case(bytes, 220);
+    offset_case(bytes, 240);
+    offset_case(bytes, 241);
+    offset_case(bytes, 260);
     offset_case(bytes, 18446744073709551600);
     offset_case(bytes, 18446744073709551615);
 }
@@ -156,18 +157,19 @@ fn put(
     list::write_star(bytes, at, star)
 }
 
-// Ten records: the ends of each range and the first counts past them; number 1 stands twice.
+// Twelve records: the ends of each range and the first counts past them, where number 1 stands twice, and three empty places. The first
+// and the seventh are left as zeros, the last has another star's fields.
 fn records(bytes: &mut [u8]) {
-    let a = put(bytes, 0, 1, 1296000000, 0, 0, 0);
+    let a = put(bytes, 20, 1, 1296000000, 0, 0, 0);
     let b = put(bytes, a, 2, 1295999999, 324000000, 20000, -20000);
     let c = put(bytes, b, 3, 0, -324000000, -20000, 20000);
     let d = put(bytes, c, 4, 0, 324000001, 0, 0);
-    let e = put(bytes, d, 5, 0, -324000001, 0, 0);
-    records_after(bytes, e);
+    put(bytes, d, 5, 0, -324000001, 0, 0);
+    records_after(bytes);
 }
 
-fn records_after(bytes: &mut [u8], at: usize) {
-    let a = put(bytes, at, 1, 0, 0, 0, 0);
+fn records_after(bytes: &mut [u8]) {
+    let a = put(bytes, 140, 1, 0, 0, 0, 0);
     let b = put(bytes, a, 6, 0, 0, 20001, 0);
     let c = put(bytes, b, 7, 0, 0, 0, -2147483648);
     let d = put(bytes, c, 4294967295, 4294967295, -2147483648, 0, 0);
@@ -235,9 +237,9 @@ fn cases(bytes: &[u8], buffer: &[u8], out: &mut [u8]) {
 }
 
 fn main() {
-    let mut bytes = [0u8; 200];
+    let mut bytes = [0u8; 240];
     records(&mut bytes);
-    let buffer = [0u8; 60020];
+    let buffer = [1u8; 60020];
     let mut out = [0u8; text_sheet::ROOM];
     cases(&bytes, &buffer, &mut out);
     tallies();

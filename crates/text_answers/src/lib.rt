@@ -5,7 +5,6 @@ ghost use mathlib.Core.Path.{_≡_};
 ghost use lib.ListN.{getD};
 ghost use Rattle.lent.specs.rules.Writing.{Wrote};
 ghost use Rattle.lent.specs.rules.Texts.{texts};
-ghost use Rattle.list.specs.rules.Stars.{countOf};
 ghost use Rattle.list_tally.specs.rules.Status.{highestStatus};
 ghost use Rattle.text_answers.specs.rules.Answers.{starText, editionText, headingIn, headText, countText, countAt, tallyText, footText};
 ghost use Rattle.text_answers.specs.rules.Answers.{refusalIn, refusedIn, angleAt, lentLine, answersText};
@@ -78,7 +77,7 @@ fn put_star(
     }
 }
 
-// Star i of the list, whose status and angles are lent.
+// Star i of the list, whose status and angles are lent; nothing for an empty place.
 fn put_nth<'a>(
     out: &mut [u8],
     at: usize,
@@ -93,18 +92,22 @@ fn put_nth<'a>(
         (now (out .exit)) r ⌝ }
 {
     let star = list::nth(bytes, i);
+    let number = star.number;
+    if number == 0 {
+        return lent::within(at, out.len());
+    }
     put_star(
         out,
         at,
         style,
-        star.number,
+        number,
         byte_at(status, i),
         angle_at(asc, i),
         angle_at(dec, i),
     )
 }
 
-// So many stars.
+// Those of the first n places.
 fn put_stars<'a>(
     out: &mut [u8],
     at: usize,

@@ -38,6 +38,9 @@ fn put_star_words(out: &mut [u8], at: usize, n: u8) -> usize
     if n == 9 {
         return lent::put(out, at, b": the record is damaged");
     }
+    if n == 10 {
+        return lent::put(out, at, b": an empty place");
+    }
     if n == 14 {
         return lent::put(out, at, b": exactly at the pole: choose another star");
     }

@@ -1,14 +1,12 @@
-// The sheet that `starlist` prints (section 7), and the same with every star's yearly changes. Promised: every byte of it for every list,
-// in the room that it names.
+// The sheet that `starlist` prints (section 7) of the stars that a list keeps, and the same with every star's yearly changes. Promised:
+// every byte of it for every list, in the room that it names.
 ghost use mathlib.Core.Path.{_≡_};
-ghost use mathlib.Core.Bool.{cond};
+ghost use mathlib.Core.List.{[], _∷_};
 ghost use Prim.Native.Nat.{_≤_};
 ghost use lib.ListN.{length};
 ghost use Rattle.lent.specs.rules.Writing.{Wrote};
-ghost use Rattle.lent.specs.rules.Texts.{texts};
-ghost use Rattle.list.specs.rules.Record.{inRange};
-ghost use Rattle.list.specs.rules.Stars.{stars};
-ghost use Rattle.text_sheet.specs.rules.Sheet.{placeText, ratesText, line, lineAt, goods, heading, footing, sheetOf};
+ghost use Rattle.list.specs.rules.Stars.{stars, kept};
+ghost use Rattle.text_sheet.specs.rules.Sheet.{placeText, ratesText, line, lines, goods, heading, footing, sheetOf};
 ghost use Rattle.text_sheet.specs.rules.Render.{shownSheet, bytesOf, renderRule, rendered};
 use list::Star;
 
@@ -57,38 +55,68 @@ fn put_line(out: &mut [u8], at: usize, rates: bool, star: Star) -> usize
     lent::put(out, a, b" bad\n")
 }
 
-// A line for each of so many stars.
-fn put_lines(out: &mut [u8], at: usize, rates: bool, bytes: &[u8], n: usize) -> usize
-    ensures { λ r. ⌜ Wrote (now (out .entry)) at (texts n (lineAt rates (now (bytes .entry)))) (now (out .exit)) r ⌝ }
+// The line of a star that is kept, and nothing for an empty place.
+fn put_kept(out: &mut [u8], at: usize, rates: bool, star: Star) -> usize
+    ensures { λ r. ⌜ Wrote (now (out .entry)) at (lines rates (kept (star ∷ []))) (now (out .exit)) r ⌝ }
 {
+    if star.number == 0 {
+        return lent::within(at, out.len());
+    }
+    put_line(out, at, rates, star)
+}
+
+// A line for each star that is kept.
+fn put_lines(out: &mut [u8], at: usize, rates: bool, bytes: &[u8]) -> usize
+    ensures { λ r. ⌜ Wrote (now (out .entry)) at (lines rates (kept (stars (now (bytes .entry))))) (now (out .exit)) r ⌝ }
+{
+    let n = list::count(bytes);
     let mut offset = lent::within(at, out.len());
     let mut i: usize = 0;
     while i < n {
-        offset = put_line(out, offset, rates, list::nth(bytes, i));
+        offset = put_kept(out, offset, rates, list::nth(bytes, i));
         i += 1;
     }
     offset
 }
 
-// 1 for a star in range, and else 0.
-fn good(star: Star) -> usize
-    ensures { λ r. ⌜ r ≡ cond (inRange star) 1 0 ⌝ }
+// 1 for a star that is kept, and else 0.
+fn one_kept(star: Star) -> usize
+    ensures { λ r. ⌜ r ≡ length (kept (star ∷ [])) ⌝ }
 {
+    if star.number == 0 { 0 } else { 1 }
+}
+
+// 1 for a star that is kept and in range, and else 0.
+fn one_good(star: Star) -> usize
+    ensures { λ r. ⌜ r ≡ goods (kept (star ∷ [])) ⌝ }
+{
+    if star.number == 0 {
+        return 0;
+    }
     if list::in_range(star) { 1 } else { 0 }
 }
 
-// How many stars are in range.
-fn goods(bytes: &[u8]) -> usize
-    ensures { λ r. ⌜ r ≡ goods (stars (now (bytes .entry))) ⌝ }
+// How many stars are kept, and how many of them are in range.
+struct Counted {
+    all: usize,
+    good: usize,
+}
+
+fn counts(bytes: &[u8]) -> Counted
+    ensures all { λ r. ⌜ r .all ≡ length (kept (stars (now (bytes .entry)))) ⌝ }
+    ensures good { λ r. ⌜ r .good ≡ goods (kept (stars (now (bytes .entry)))) ⌝ }
 {
     let n = list::count(bytes);
-    let mut sum: usize = 0;
+    let mut all: usize = 0;
+    let mut good: usize = 0;
     let mut i: usize = 0;
     while i < n {
-        sum += good(list::nth(bytes, i));
+        let star = list::nth(bytes, i);
+        all += one_kept(star);
+        good += one_good(star);
         i += 1;
     }
-    sum
+    Counted { all, good }
 }
 
 // How many stars there are.
@@ -118,11 +146,12 @@ fn put_sheet(out: &mut [u8], rates: bool, bytes: &[u8]) -> usize
     if !list::is_list(bytes) {
         return text_number::put_refused(out, 0, 8);
     }
-    let n = list::count(bytes);
-    let good = goods(bytes);
-    let a = put_heading(out, 0, n);
-    let b = put_lines(out, a, rates, bytes, n);
-    put_footing(out, b, good, n - good)
+    let counted = counts(bytes);
+    let all = counted.all;
+    let good = counted.good;
+    let a = put_heading(out, 0, all);
+    let b = put_lines(out, a, rates, bytes);
+    put_footing(out, b, good, all - good)
 }
 
 // The sheet of a list, with or without yearly changes, from the slice's start on; of bytes that are no list, the line that says so.

@@ -21,6 +21,7 @@ use Rattle.chain.specs.rules.Night.{nightFrom, nightOf, moved, movedUnder, poin
 use Rattle.list_tally.specs.rules.Status.{highestStatus}
 use Rattle.list.specs.declared.Star.{Star}
 use Rattle.list.specs.rules.Record.{inRange}
+use Rattle.list.specs.rules.Stars.{isKept}
 use Rattle.star_place.specs.rules.Place.{ascOf, decOf}
 use Rattle.batch.specs.rules.Star.{starRefusal, starUnder}
 
@@ -112,7 +113,7 @@ module _ (night : Night) (h : night .refusal ≤ highestStatus) where
   known-star : (star : Star) (years : Float) → statusOf (starUnder star night years) ≤ highestStatus
   unfolding starUnder starRefusal
   known-star star years =
-      known-unless _ _ (known-cond (inRange star) _ 9 (known-latitude (decOf star years)) (omega arith))
+      known-unless _ _ (known-cond (isKept star) _ 10 (known-cond (inRange star) _ 9 (known-latitude (decOf star years)) (omega arith)) (omega arith))
       (known-in (ascOf star years) (decOf star years))
 
 pub known-under : (edition : Edition) (star : Star) (day1 day2 years : Float)

@@ -27,7 +27,7 @@ use Rattle.chain.specs.laws.Two.{first-under, second-under}
 use Rattle.list_tally.specs.rules.Status.{highestStatus}
 use Rattle.list.specs.declared.Star.{Star}
 use Rattle.list.specs.rules.Record.{inRange}
-use Rattle.list.specs.rules.Stars.{stars}
+use Rattle.list.specs.rules.Stars.{stars, isKept}
 use Rattle.star_place.specs.rules.Place.{yearsBetween, recordAsc, recordDec, ascOf, decOf}
 use Rattle.star_place.specs.laws.Days.{years-within}
 use Rattle.star_place.specs.laws.InRange.{asc-taken, dec-refusal, record-dec-near}
@@ -72,24 +72,30 @@ beside-any-star star a b night years = first-star star a night years ∙ sym (se
 
 -- ---- its refusals
 
--- a record out of range is 9 whatever the rest
-pub out-of-range : (star : Star) (years : Float) → inRange star ≡ false → starRefusal star years ≡ 9
+-- an empty place is 10 whatever stands behind its number, and a kept record out of range is 9 whatever the rest
+pub empty-place : (star : Star) (years : Float) → isKept star ≡ false → starRefusal star years ≡ 10
 unfolding starRefusal
-out-of-range star years e = rw e
+empty-place star years k = rw k
 
-pub star-out-of-range : (edition : Edition) (star : Star) (day1 day2 : Float) → inRange star ≡ false → starRule edition star day1 day2 ≡ refused 9
+pub out-of-range : (star : Star) (years : Float) → isKept star ≡ true → inRange star ≡ false → starRefusal star years ≡ 9
+unfolding starRefusal
+out-of-range star years k e = rw (k, e)
+
+pub star-out-of-range : (edition : Edition) (star : Star) (day1 day2 : Float) → isKept star ≡ true → inRange star ≡ false
+    → starRule edition star day1 day2 ≡ refused 9
 unfolding starRule
-star-out-of-range edition star day1 day2 e = rw (out-of-range star (yearsBetween day1 day2) e)
+star-out-of-range edition star day1 day2 k e = rw (out-of-range star (yearsBetween day1 day2) k e)
 
 -- a star that is not refused is in range, and its declination at most HALF in size
 pub star-accepted : (star : Star) (years : Float) → starRefusal star years ≡ 0 → (inRange star ≡ true) × (latitudeRefusal (decOf star years) ≡ 0)
 unfolding starRefusal
-star-accepted star years e = by-range (inRange star) (λ f. f) e
+star-accepted star years e = by-range (isKept star) (inRange star) (λ f. f) e
   where
-    by-range : (b : Bool) → (b ≡ true → inRange star ≡ true) → cond b (latitudeRefusal (decOf star years)) 9 ≡ 0
+    by-range : (k b : Bool) → (b ≡ true → inRange star ≡ true) → cond k (cond b (latitudeRefusal (decOf star years)) 9) 10 ≡ 0
         → (inRange star ≡ true) × (latitudeRefusal (decOf star years) ≡ 0)
-    by-range true r e = (r refl, e)
-    by-range false r e = absurd (omega arith)
+    by-range true true r e = (r refl, e)
+    by-range true false r e = absurd (omega arith)
+    by-range false b r e = absurd (omega arith)
 
 pub years-near : (day1 day2 : Float) → daysRefusal day1 day2 ≡ 0 → Between (neg (over 4001 1)) (over 4001 1) (yearsBetween day1 day2)
 unfolding daysRefusal
@@ -101,18 +107,20 @@ module _ (star : Star) (day1 day2 : Float) (days : daysRefusal day1 day2 ≡ 0) 
   abbrev years : Float
   years = yearsBetween day1 day2
 
-  -- 9, 3, or none: of a record in range 3 exactly where the declination exceeds HALF in size
-  pub refusal-in-range : inRange star ≡ true → starRefusal star years ≡ cond (lt HALF (size (decOf star years .0))) 3 0
+  -- 10, 9, 3, or none: of a kept record in range 3 exactly where the declination exceeds HALF in size
+  pub refusal-in-range : isKept star ≡ true → inRange star ≡ true → starRefusal star years ≡ cond (lt HALF (size (decOf star years .0))) 3 0
   unfolding starRefusal
-  refusal-in-range r = rw r (dec-refusal star r years (years-near day1 day2 days))
+  refusal-in-range k r = rw (k, r) (dec-refusal star r years (years-near day1 day2 days))
 
-  -- so its answer is 9, 3 or the chain's
+  -- so its answer is 10, 9, 3 or the chain's
   pub star-in-cases : (edition : Edition)
       → starRule edition star day1 day2
-      ≡ cond (inRange star)
-      (cond (lt HALF (size (decOf star years .0))) (refused 3) (chainRule edition (ascOf star years) (decOf star years) day1 day2)) (refused 9)
+      ≡ cond (isKept star)
+      (cond (inRange star)
+      (cond (lt HALF (size (decOf star years .0))) (refused 3) (chainRule edition (ascOf star years) (decOf star years) day1 day2)) (refused 9))
+      (refused 10)
   unfolding starRule
-  star-in-cases edition = by-range (inRange star) (λ e. e) (λ e. e)
+  star-in-cases edition = by-range (isKept star) (inRange star) (λ e. e) (λ e. e) (λ e. e) (λ e. e)
     where
       chain : Answer Pair
       chain = chainRule edition (ascOf star years) (decOf star years) day1 day2
@@ -121,10 +129,14 @@ module _ (star : Star) (day1 day2 : Float) (days : daysRefusal day1 day2 ≡ 0) 
       by-size true = refl
       by-size false = refl
 
-      by-range : (b : Bool) → (b ≡ true → inRange star ≡ true) → (b ≡ false → inRange star ≡ false)
-          → unless (starRefusal star years) chain ≡ cond b (cond (lt HALF (size (decOf star years .0))) (refused 3) chain) (refused 9)
-      by-range true r o = ap (λ (n : ℕ). unless n chain) (refusal-in-range (r refl)) ∙ by-size (lt HALF (size (decOf star years .0)))
-      by-range false r o = ap (λ (n : ℕ). unless n chain) (out-of-range star years (o refl))
+      by-range : (k b : Bool) → (k ≡ true → isKept star ≡ true) → (k ≡ false → isKept star ≡ false)
+          → (b ≡ true → inRange star ≡ true) → (b ≡ false → inRange star ≡ false)
+          → unless (starRefusal star years) chain
+          ≡ cond k (cond b (cond (lt HALF (size (decOf star years .0))) (refused 3) chain) (refused 9)) (refused 10)
+      by-range true true k e r o =
+          ap (λ (n : ℕ). unless n chain) (refusal-in-range (k refl) (r refl)) ∙ by-size (lt HALF (size (decOf star years .0)))
+      by-range true false k e r o = ap (λ (n : ℕ). unless n chain) (out-of-range star years (k refl) (o refl))
+      by-range false b k e r o = ap (λ (n : ℕ). unless n chain) (empty-place star years (e refl))
 
   -- nothing is refused at first where the star is not
   pub place-taken : starRefusal star years ≡ 0 → placeRefusal (ascOf star years) (decOf star years) day1 day2 ≡ 0
@@ -148,14 +160,14 @@ module _ (star : Star) (day1 day2 : Float) (days : daysRefusal day1 day2 ≡ 0) 
   pub status-known : (edition : Edition) → statusOf (starRule edition star day1 day2) ≤ highestStatus
   status-known edition = rw (star-under-a-night edition) at (known-under edition star day1 day2 years)
 
-  -- a star in range that does not move has the chain's answer where its record has it
-  pub star-that-stays : inRange star ≡ true → star .«asc_rate» ≡ pos 0 → star .«dec_rate» ≡ pos 0 → (edition : Edition)
+  -- a kept star in range that does not move has the chain's answer where its record has it
+  pub star-that-stays : isKept star ≡ true → inRange star ≡ true → star .«asc_rate» ≡ pos 0 → star .«dec_rate» ≡ pos 0 → (edition : Edition)
       → starRule edition star day1 day2 ≡ chainRule edition (recordAsc star) (recordDec star) day1 day2
   unfolding starRule starRefusal latitudeRefusal
-  star-that-stays r a d edition =
+  star-that-stays k r a d edition =
       let asc = asc-stays star r years (years-near day1 day2 days .finite) a in
       let dec = dec-stays star r years (years-near day1 day2 days .finite) d in
-      let none : starRefusal star years ≡ 0 = rw r (ap latitudeRefusal dec ∙ past-none (recordDec star .0) HALF 3 finite-half (record-dec-near star r)) in
+      let none : starRefusal star years ≡ 0 = rw (k, r) (ap latitudeRefusal dec ∙ past-none (recordDec star .0) HALF 3 finite-half (record-dec-near star r)) in
       ap (λ (n : ℕ). unless n (chainRule edition (ascOf star years) (decOf star years) day1 day2)) none
       ∙ (λ j. chainRule edition (asc j) (dec j) day1 day2)
 

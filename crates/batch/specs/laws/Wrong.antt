@@ -32,7 +32,7 @@ use Rattle.list_tally.specs.rules.Tally.{tallyOf}
 use Rattle.batch.specs.rules.Star.{starRefusal, starRule, starUnder, twoStarsUnder, firstOf, secondOf}
 use Rattle.batch.specs.rules.Batch.{batchRefusal, answersOf, statusesOf, lentRule}
 use Rattle.batch.specs.laws.Star.{first-star, second-star, star-out-of-range}
-use Rattle.batch.specs.notions.Wrong.{shiftedAfterPrecession, shiftedTwice, threeBeforeNine, threeOfTheRecord}
+use Rattle.batch.specs.notions.Wrong.{shiftedAfterPrecession, shiftedTwice, threeBeforeNine, threeOfTheRecord, nineBeforeTen, emptyPlaceReduced}
 use Rattle.batch.specs.notions.Wrong.{lanesTraded, statusAlwaysGood, angleAlwaysZero, anglesTraded, refusedStarKeepsAngle}
 use Rattle.batch.specs.notions.Wrong.{firstStarCopiedOn, inventedTally, nothingWritten, shortSliceAccepted, daysAfterList}
 
@@ -40,23 +40,31 @@ use Rattle.batch.specs.notions.Wrong.{firstStarCopiedOn, inventedTally, 
 
 -- a second of arc north
 abbrev north : Star
-north = record { number = 0; asc = 0; dec = pos 1000; «asc_rate» = pos 0; «dec_rate» = pos 0 }
+north = record { number = 1; asc = 0; dec = pos 1000; «asc_rate» = pos 0; «dec_rate» = pos 0 }
 
 -- records of zeros
 abbrev zeros : ℕ → List ℕ
 zeros n = upto (width * n) (λ (i : ℕ). 0)
 
+-- the same at the origin
+abbrev origin : Star
+origin = record { number = 1; asc = 0; dec = pos 0; «asc_rate» = pos 0; «dec_rate» = pos 0 }
+
 -- a right ascension out of range
 abbrev beyond : Star
-beyond = record { number = 0; asc = turn; dec = pos 0; «asc_rate» = pos 0; «dec_rate» = pos 0 }
+beyond = record { number = 1; asc = turn; dec = pos 0; «asc_rate» = pos 0; «dec_rate» = pos 0 }
+
+-- the same at an empty place
+abbrev emptyBeyond : Star
+emptyBeyond = record { number = 0; asc = turn; dec = pos 0; «asc_rate» = pos 0; «dec_rate» = pos 0 }
 
 -- at 60 and 30 degrees, both growing by 20 seconds of arc a year
 abbrev moving : Star
-moving = record { number = 0; asc = 216000000; dec = pos 108000000; «asc_rate» = pos 20000; «dec_rate» = pos 20000 }
+moving = record { number = 1; asc = 216000000; dec = pos 108000000; «asc_rate» = pos 20000; «dec_rate» = pos 20000 }
 
 -- at the pole, and past it a year later
 abbrev pastThePole : Star
-pastThePole = record { number = 0; asc = 0; dec = pos quarter; «asc_rate» = pos 0; «dec_rate» = pos 1 }
+pastThePole = record { number = 1; asc = 0; dec = pos quarter; «asc_rate» = pos 0; «dec_rate» = pos 1 }
 
 -- 2451910.25
 abbrev yearLater : Float
@@ -64,7 +72,7 @@ yearLater = bits 0x4142b4e320000000
 
 -- the same star, its right ascension out of range
 abbrev pastThePoleBeyond : Star
-pastThePoleBeyond = record { number = 0; asc = turn; dec = pos quarter; «asc_rate» = pos 0; «dec_rate» = pos 1 }
+pastThePoleBeyond = record { number = 1; asc = turn; dec = pos quarter; «asc_rate» = pos 0; «dec_rate» = pos 1 }
 
 -- a night that turns the axes by a quarter turn, and moves nothing else
 abbrev quarterTurn : Night
@@ -78,15 +86,15 @@ quarterTurn =
       refusal = 0;
     }
 
-pub star-under-varies : Varies (starUnder north (still 0) zero) (starUnder nought (still 0) zero)
+pub star-under-varies : Varies (starUnder north (still 0) zero) (starUnder origin (still 0) zero)
 unfolding computed starUnder starRefusal inRange
 star-under-varies = record { here = refl; there = refl; apart = apart (ofAnswer ofSecond) refl }
 
 -- a star out of range beside one in range
-pub lanes-traded-excluded : lanesTraded (twoStarsUnder beyond nought (still 0) zero) ≢ firstPlace (twoStarsUnder beyond nought (still 0) zero)
+pub lanes-traded-excluded : lanesTraded (twoStarsUnder beyond origin (still 0) zero) ≢ firstPlace (twoStarsUnder beyond origin (still 0) zero)
 unfolding computed starUnder starRefusal inRange
 lanes-traded-excluded wrong =
-    apart (ofAnswer ofSecond) refl (sym (second-star beyond nought (still 0) zero) ∙ wrong ∙ first-star beyond nought (still 0) zero)
+    apart (ofAnswer ofSecond) refl (sym (second-star beyond origin (still 0) zero) ∙ wrong ∙ first-star beyond origin (still 0) zero)
 
 pub shifted-after-precession-excluded : shiftedAfterPrecession moving quarterTurn one ≢ starUnder moving quarterTurn one
 unfolding computed starUnder starRefusal inRange
@@ -104,13 +112,21 @@ pub three-of-the-record-excluded : threeOfTheRecord pastThePole one ≢ starRefu
 unfolding computed starRefusal inRange
 three-of-the-record-excluded = apart ofNumber refl
 
+pub nine-before-ten-excluded : nineBeforeTen emptyBeyond one ≢ starRefusal emptyBeyond one
+unfolding computed starRefusal inRange
+nine-before-ten-excluded = apart ofNumber refl
+
+pub empty-place-reduced-excluded : emptyPlaceReduced nought one ≢ starRefusal nought one
+unfolding computed starRefusal inRange
+empty-place-reduced-excluded = apart ofNumber refl
+
 -- the least rate that a word can hold
 abbrev least : Star
-least = record { number = 0; asc = 0; dec = pos 0; «asc_rate» = negsuc 2147483647; «dec_rate» = pos 0 }
+least = record { number = 1; asc = 0; dec = pos 0; «asc_rate» = negsuc 2147483647; «dec_rate» = pos 0 }
 
 pub least-rate-refused : (edition : Edition) (day1 day2 : Float) → starRule edition least day1 day2 ≡ refused 9
 unfolding inRange
-least-rate-refused edition day1 day2 = star-out-of-range edition least day1 day2 refl
+least-rate-refused edition day1 day2 = star-out-of-range edition least day1 day2 refl refl
 
 -- ---- what is stored
 

@@ -15,7 +15,7 @@ use Rattle.chain.specs.rules.Night.{pointUnder, placeUnder}
 use Rattle.list.specs.declared.Star.{Star}
 use Rattle.list.specs.rules.Record.{inRange}
 use Rattle.edition.specs.declared.Edition.{Edition}
-use Rattle.list.specs.rules.Stars.{isList, countOf, stars, nth}
+use Rattle.list.specs.rules.Stars.{isList, countOf, stars, isKept, nth}
 use Rattle.list_tally.specs.declared.Tally.{Tally}
 use Rattle.list_tally.specs.rules.Tally.{tallyOf}
 use Rattle.star_place.specs.rules.Place.{angleOf, recordAsc, recordDec, shifted, ascOf, decOf}
@@ -44,11 +44,19 @@ shiftedTwice star night years =
     (placeUnder (shifted (ascOf star years) (angleOf (star .«asc_rate»)) years) (shifted (decOf star years) (angleOf (star .«dec_rate»)) years) night)
 
 abbrev pub threeBeforeNine : Star → Float → ℕ
-threeBeforeNine star years = earlier (latitudeRefusal (decOf star years)) (cond (inRange star) 0 9)
+threeBeforeNine star years = cond (isKept star) (earlier (latitudeRefusal (decOf star years)) (cond (inRange star) 0 9)) 10
+
+-- 9 for an empty place whose rest is out of range
+abbrev pub nineBeforeTen : Star → Float → ℕ
+nineBeforeTen star years = cond (inRange star) (cond (isKept star) (latitudeRefusal (decOf star years)) 10) 9
+
+-- an empty place reduced as a star of number 0
+abbrev pub emptyPlaceReduced : Star → Float → ℕ
+emptyPlaceReduced star years = cond (inRange star) (latitudeRefusal (decOf star years)) 9
 
 -- of the declination unshifted
 abbrev pub threeOfTheRecord : Star → Float → ℕ
-threeOfTheRecord star years = cond (inRange star) (latitudeRefusal (recordDec star)) 9
+threeOfTheRecord star years = cond (isKept star) (cond (inRange star) (latitudeRefusal (recordDec star)) 9) 10
 
 -- ---- what is stored
 

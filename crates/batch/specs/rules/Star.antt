@@ -15,11 +15,12 @@ use Rattle.chain.specs.rules.Night.{placeUnder}
 use Rattle.chain.specs.rules.Two.{twoPlacesUnder}
 use Rattle.list.specs.declared.Star.{Star}
 use Rattle.list.specs.rules.Record.{inRange}
+use Rattle.list.specs.rules.Stars.{isKept}
 use Rattle.star_place.specs.rules.Place.{yearsBetween, ascOf, decOf}
 
--- 9 where the star's record is out of range; then 3 where its declination, after so many years, is past HALF in size
+-- 10 where its place is empty; 9 where its record is out of range; then 3 where its declination, after so many years, is past HALF in size
 unfoldable pub starRefusal : Star → Float → ℕ
-starRefusal star years = cond (inRange star) (latitudeRefusal (decOf star years)) 9
+starRefusal star years = cond (isKept star) (cond (inRange star) (latitudeRefusal (decOf star years)) 9) 10
 
 -- the chain's answer at the star's place, shifted by the years between the days
 unfoldable pub starRule : Edition → Star → Float → Float → Answer Pair

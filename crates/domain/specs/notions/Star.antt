@@ -11,7 +11,7 @@ use Rattle.star_place.specs.rules.Place.{decOf}
 
 -- the statuses of a star
 abbrev pub OfAStar : ℕ → Type 0
-OfAStar n = (n ≡ 0) ⊎ (n ≡ 3) ⊎ (n ≡ 4) ⊎ (n ≡ 7) ⊎ (n ≡ 9) ⊎ (n ≡ 14)
+OfAStar n = (n ≡ 0) ⊎ (n ≡ 3) ⊎ (n ≡ 4) ⊎ (n ≡ 7) ⊎ (n ≡ 9) ⊎ (n ≡ 10) ⊎ (n ≡ 14)
 
 -- after so many years its declination exceeds HALF in size
 abbrev pub isPastThePole : Star → Float → Bool

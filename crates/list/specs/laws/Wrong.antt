@@ -20,10 +20,10 @@ use Rattle.list.specs.rules.Writer.{recordText}
 use Rattle.list.specs.rules.Find.{findRule}
 use Rattle.list.specs.notions.Code.{ofItem, ofEntry}
 use Rattle.list.specs.notions.Computed.{computed}
-use Rattle.list.specs.notions.Wrong.{wholeTurnInRange, oneStarTooMany, partRecordsCounted, endRefused, bigEndianRead, nextWithinRecord}
+use Rattle.list.specs.notions.Wrong.{wholeTurnInRange, oneStarTooMany, partRecordsCounted, endRefused, bigEndianRead, nextWithinRecord, emptyShown, endAtTheFirstEmpty}
 use Rattle.list.specs.notions.Wrong.{firstStarRepeated, fasterInRange, decRateUntested, twelveForTwenty, ratesTraded, ratesWithoutSign, ratesWrittenTraded}
 use Rattle.list.specs.notions.Wrong.{bigEndianWritten, numberWrittenTwice, outOfRangePut}
-use Rattle.list.specs.notions.Wrong.{putWithinRecord, putPastTheLast, eightBeforeNine, lastNumberFound, nineBeforeTen}
+use Rattle.list.specs.notions.Wrong.{putWithinRecord, putPastTheLast, eightBeforeNine, lastNumberFound, emptyFound, nineBeforeTen}
 
 -- records of zeros, and the record of a star with the number 1
 abbrev zeros : ℕ → List ℕ
@@ -76,7 +76,7 @@ first-star-repeated-excluded = apart (λ (r : Star). r .number) refl
 
 -- ---- the reader
 
-pub read-varies : Varies (readRule (zeros 2) 0) (readRule (zeros 2) width)
+pub read-varies : Varies (readRule star1 0) (readRule star1 width)
 unfolding computed
 read-varies = record { here = refl; there = refl; apart = apart (ofAnswer ofItem) refl }
 
@@ -91,6 +91,14 @@ big-endian-read-excluded = apart (ofAnswer ofItem) refl
 pub next-within-record-excluded : nextWithinRecord star1 0 ≢ readRule star1 0
 unfolding computed
 next-within-record-excluded = apart (ofAnswer ofItem) refl
+
+pub empty-shown-excluded : emptyShown (zeros 1) 0 ≢ readRule (zeros 1) 0
+unfolding computed
+empty-shown-excluded = apart (ofAnswer ofItem) refl
+
+pub end-at-the-first-empty-excluded : endAtTheFirstEmpty (zeros 1 ++ star1) 0 ≢ readRule (zeros 1 ++ star1) 0
+unfolding computed
+end-at-the-first-empty-excluded = apart (ofAnswer ofItem) refl
 
 -- rates of −1 and 0, and what is read of them
 abbrev star2 : List ℕ
@@ -140,14 +148,18 @@ eight-before-nine-excluded = apart (ofAnswer ofBytes) refl
 
 -- ---- find
 
-pub find-varies : Varies (findRule (zeros 1 ++ star1) 0) (findRule (zeros 1 ++ star1) 1)
+pub find-varies : Varies (findRule star1 1) (findRule (zeros 1 ++ star1) 1)
 unfolding computed
 find-varies = record { here = refl; there = refl; apart = apart (ofAnswer ofEntry) refl }
 
-pub last-number-found-excluded : lastNumberFound (zeros 2) 0 ≢ findRule (zeros 2) 0
+pub last-number-found-excluded : lastNumberFound (star1 ++ star1) 1 ≢ findRule (star1 ++ star1) 1
 unfolding computed
 last-number-found-excluded = apart (ofAnswer ofEntry) refl
 
-pub nine-before-ten-excluded : nineBeforeTen [] 0 ≢ findRule [] 0
+pub empty-found-excluded : emptyFound (zeros 1) 0 ≢ findRule (zeros 1) 0
+unfolding computed
+empty-found-excluded = apart (ofAnswer ofEntry) refl
+
+pub nine-before-ten-excluded : nineBeforeTen [] 1 ≢ findRule [] 1
 unfolding computed
 nine-before-ten-excluded = apart (ofAnswer ofEntry) refl

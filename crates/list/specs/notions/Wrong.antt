@@ -9,8 +9,8 @@ use Rattle.quantity.specs.rules.Answer.{Answer, answered, refused}
 use Rattle.signed.specs.rules.Signed.{wordOf, signedOf}
 use Rattle.list.specs.declared.Star.{Star}
 use Rattle.list.specs.rules.Record.{width, wordAt, starAt, turn, quarter, fastest, inRange, wordsBytes, starBytes}
-use Rattle.list.specs.rules.Stars.{mostStars, isList, stars, nth}
-use Rattle.list.specs.rules.Reader.{Item, item, none, isOffset}
+use Rattle.list.specs.rules.Stars.{mostStars, isList, stars, isKept, nth}
+use Rattle.list.specs.rules.Reader.{Item, item, none, isOffset, itemAt}
 use Rattle.list.specs.rules.Writer.{isStart}
 use Rattle.list.specs.rules.Find.{Entry, indexOf, entry, entryAt}
 
@@ -48,22 +48,28 @@ firstStarRepeated s i = nth s 0
 
 -- ---- the reader
 
--- with another test of the offset, another star, and another width
-abbrev readingBy : (List ℕ → ℕ → Bool) → (List ℕ → ℕ → Star) → ℕ → List ℕ → ℕ → Answer Item
-readingBy accepts star size s at =
-    cond (isList s && accepts s at)
-    (answered (cond (ltb at (length s)) (item (star s at) (at + size)) none))
-    (refused 8)
+-- with another test of the offset, and another item from it on
+abbrev readingBy : (List ℕ → ℕ → Bool) → (List ℕ → ℕ → Item) → List ℕ → ℕ → Answer Item
+readingBy accepts shown s at = cond (isList s && accepts s at) (answered (shown s at)) (refused 8)
 
-abbrev reading : (List ℕ → ℕ → Bool) → (List ℕ → ℕ → Star) → List ℕ → ℕ → Answer Item
-reading accepts star = readingBy accepts star width
+-- the record at the offset, by another star and another width
+abbrev itemBy : (List ℕ → ℕ → Star) → ℕ → List ℕ → ℕ → Item
+itemBy star size s at = cond (ltb at (length s)) (item (star s at) (at + size)) none
 
 -- on to the next word
 abbrev pub nextWithinRecord : List ℕ → ℕ → Answer Item
-nextWithinRecord = readingBy isOffset starAt 4
+nextWithinRecord = readingBy isOffset (itemBy starAt 4)
 
 abbrev pub endRefused : List ℕ → ℕ → Answer Item
-endRefused = reading (λ (s : List ℕ) (at : ℕ). ltb at (length s) && eqb (at % width) 0) starAt
+endRefused = readingBy (λ (s : List ℕ) (at : ℕ). ltb at (length s) && eqb (at % width) 0) (itemBy starAt width)
+
+-- an empty place as a star of number 0
+abbrev pub emptyShown : List ℕ → ℕ → Answer Item
+emptyShown = readingBy isOffset (itemBy starAt width)
+
+-- none left at the first empty place
+abbrev pub endAtTheFirstEmpty : List ℕ → ℕ → Answer Item
+endAtTheFirstEmpty = readingBy isOffset (λ (s : List ℕ) (at : ℕ). cond (isKept (nth s (at / width))) (itemAt (stars s) (at / width)) none)
 
 -- the high byte first
 abbrev bigEndian : List ℕ → ℕ → ℕ
@@ -71,7 +77,8 @@ bigEndian s at = getD s (at + 3) 0 + 256 * getD s (at + 2) 0 + 65536 * getD s (a
 
 abbrev pub bigEndianRead : List ℕ → ℕ → Answer Item
 bigEndianRead =
-    reading isOffset
+    readingBy isOffset
+    (itemBy
     (λ (s : List ℕ) (at : ℕ).
     record {
       number = bigEndian s at;
@@ -80,6 +87,7 @@ bigEndianRead =
       «asc_rate» = signedOf (bigEndian s (at + 12));
       «dec_rate» = signedOf (bigEndian s (at + 16));
     })
+    width)
 
 -- with other rates
 abbrev rated : (List ℕ → ℕ → ℤ) → (List ℕ → ℕ → ℤ) → List ℕ → ℕ → Star
@@ -139,6 +147,10 @@ lastIndexOf number (r ∷ rs) =
 
 abbrev pub lastNumberFound : List ℕ → ℕ → Answer Entry
 lastNumberFound s number = cond (isList s) (entryAt (stars s) (lastIndexOf number (stars s))) (refused 8)
+
+-- an empty place as the star of number 0
+abbrev pub emptyFound : List ℕ → ℕ → Answer Entry
+emptyFound s number = cond (isList s) (entryAt (stars s) (indexOf number (stars s))) (refused 8)
 
 -- 9 where no star has the number
 abbrev pub nineBeforeTen : List ℕ → ℕ → Answer Entry

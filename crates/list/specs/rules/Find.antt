@@ -32,5 +32,9 @@ entry i r = cond (inRange r) (answered (record { index = i; star = r })) (refuse
 abbrev pub entryAt : List Star → ℕ → Answer Entry
 entryAt rs i = cond (ltb i (length rs)) (entry i (getD rs i nought)) (refused 10)
 
+-- an empty place is no star: 0 is no star's number
+abbrev pub findIn : List Star → ℕ → Answer Entry
+findIn rs number = cond (eqb number 0) (refused 10) (entryAt rs (indexOf number rs))
+
 abbrev pub findRule : List ℕ → ℕ → Answer Entry
-findRule s number = cond (isList s) (entryAt (stars s) (indexOf number (stars s))) (refused 8)
+findRule s number = cond (isList s) (findIn (stars s) number) (refused 8)

@@ -6,11 +6,11 @@ use Prim.Native.Nat.{ℕ, zero, suc, _-_, _<_}
 use native.Mathlib.Omega.{arith}
 use lib.Dec.{eqb, ltb}
 use lib.ListN.{length, getD, replicate}
-use borrow.Author.Tests.{ne-eqb, eqb-true, lt-ltb, le-ltb, ltb-true, ltb-false}
+use borrow.Author.Tests.{ne-eqb, eqb-true, eqb-false, lt-ltb, le-ltb, ltb-true, ltb-false}
 use Rattle.quantity.specs.rules.Answer.{Answer, answered, refused, with}
 use Rattle.list.specs.rules.Record.{inRange}
 use Rattle.list.specs.rules.Stars.{isList, stars, kept, nought, Bytes}
-use Rattle.list.specs.rules.Find.{indexOf, entry, entryAt, findRule}
+use Rattle.list.specs.rules.Find.{indexOf, entry, entryAt, findIn, findRule}
 use Rattle.list.specs.declared.Star.{Star}
 use Rattle.list_edit.specs.rules.Edit.{gathered, gatherRule, Edit}
 use Rattle.list_edit.specs.notions.Edit.{starOf}
@@ -74,17 +74,29 @@ module _ (k : ℕ) (above : 0 < k) where
   unfolding gathered
   found-gathered rs = first-found k (gathered rs) ∙ first-kept rs (length rs - length (kept rs)) ∙ sym (first-found k rs)
 
+module _ (k : ℕ) where
+  above : (k ≡ 0 → ⊥) → 0 < k
+  above h = go (ltb 0 k) refl
+    where
+      go : (t : Bool) → ltb 0 k ≡ t → 0 < k
+      go true e = ltb-true 0 k e
+      go false e = let low = ltb-false 0 k e in absurd (h (omega arith))
+
+  found-or-ten : (rs : List Star) → with starOf (findIn (gathered rs) k) ≡ with starOf (findIn rs k)
+  found-or-ten rs = go (eqb k 0) refl
+    where
+      go : (z : Bool) → eqb k 0 ≡ z
+          → with starOf (cond z (refused 10) (entryAt (gathered rs) (indexOf k (gathered rs))))
+          ≡ with starOf (cond z (refused 10) (entryAt rs (indexOf k rs)))
+      go true e = refl
+      go false e = found-gathered k (above (eqb-false k 0 e)) rs
+
   pub find-after-gather : (s : List ℕ) → Bytes s → (new : List ℕ) → Edit (gatherRule s) s new Done
       → with starOf (findRule new k) ≡ with starOf (findRule s k)
   find-after-gather s y new p =
-      (λ i.
-      with starOf
-      (cond (list-by-length new s (gather-as-long s y new p) i)
-      (entryAt (stars-gathered s y new p i) (indexOf k (stars-gathered s y new p i)))
-      (refused 8)))
+      (λ i. with starOf (cond (list-by-length new s (gather-as-long s y new p) i) (findIn (stars-gathered s y new p i) k) (refused 8)))
       ∙ go (isList s)
     where
-      go : (t : Bool) → with starOf (cond t (entryAt (gathered (stars s)) (indexOf k (gathered (stars s)))) (refused 8))
-          ≡ with starOf (cond t (entryAt (stars s) (indexOf k (stars s))) (refused 8))
-      go true = found-gathered (stars s)
+      go : (t : Bool) → with starOf (cond t (findIn (gathered (stars s)) k) (refused 8)) ≡ with starOf (cond t (findIn (stars s) k) (refused 8))
+      go true = found-or-ten (stars s)
       go false = refl

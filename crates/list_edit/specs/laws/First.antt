@@ -13,6 +13,16 @@ use Rattle.list.specs.declared.Star.{Star}
 use Rattle.list_edit.specs.notions.Edit.{Absent}
 
 module _ (k : ℕ) where
+  -- its index is no more than how many there are
+  pub index-within : (rs : List Star) → indexOf k rs ≤ length rs
+  unfolding indexOf
+  index-within [] = omega arith
+  index-within (r ∷ rs) = go (eqb (r .number) k) (index-within rs)
+    where
+      go : (t : Bool) → indexOf k rs ≤ length rs → cond t 0 (suc (indexOf k rs)) ≤ suc (length rs)
+      go true h = omega arith
+      go false h = omega arith
+
   -- it has the number
   pub found : (rs : List Star) → indexOf k rs < length rs → getD rs (indexOf k rs) nought .number ≡ k
   unfolding indexOf

@@ -5,7 +5,7 @@ use mathlib.Core.Path.{_≡_}
 use mathlib.Core.Bool.{Bool, cond, not, _&&_}
 use mathlib.Core.List.{List, _++_}
 use lib.Dec.{eqb, ltb}
-use lib.ListN.{length, set, replicate}
+use lib.ListN.{length, take, set, replicate}
 use Rattle.quantity.specs.rules.Answer.{Answer, answered, refused, with}
 use Rattle.list.specs.rules.Record.{inRange}
 use Rattle.list.specs.rules.Stars.{isList, stars, isKept, kept, nought, listBytes}
@@ -49,6 +49,10 @@ addRule s r = onList (addIn r) s
 
 abbrev pub gatherRule : List ℕ → Answer (List ℕ)
 gatherRule s = onList gatherIn s
+
+-- a list's n bytes, and zeros behind them as far as the bytes go: empty places
+abbrev pub withRoom : List ℕ → ℕ → List ℕ
+withRoom s n = take n s ++ replicate (length s - n) 0
 
 -- ---- what a call leaves, and what it answers
 

@@ -29,7 +29,7 @@ use Rattle.list_radio.specs.laws.Radio.{as-written, radio-spelt-is-read, writte
 
 -- ---- stars that either form can hold
 
-all-good : (rs : List Star) → AllFitting rs → allInRange rs ≡ true → AllGood (Good true) rs
+pub all-good : (rs : List Star) → AllFitting rs → allInRange rs ≡ true → AllGood (Good true) rs
 all-good [] f h = tt
 all-good (r ∷ rs) f h =
     let p = both-hold (inRange r) (allInRange rs) h in
@@ -40,7 +40,7 @@ module _ (moving : Bool) where
   ranges [] g = refl
   ranges (r ∷ rs) g = rw (g .0 .range) (ranges rs (g .1))
 
-  fits : (rs : List Star) → AllGood (Good moving) rs → AllFitting rs
+  pub fits : (rs : List Star) → AllGood (Good moving) rs → AllFitting rs
   fits [] g = tt
   fits (r ∷ rs) g = (g .0 .fitting, fits rs (g .1))
 

@@ -15,6 +15,7 @@ use Rattle.list_radio.specs.laws.Wrong.{twoStars}
 use Rattle.list_moves.specs.rules.Moves.{toList, toRadio}
 use Rattle.list_moves.specs.notions.Computed.{computed}
 use Rattle.list_moves.specs.notions.Wrong.{movesOutOfRange, nineBeforeEight, starsReversed, byteTwoWritten, ratesDropped}
+use Rattle.list_moves.specs.notions.Wrong.{emptyDroppedToRadio, emptyDroppedToList}
 
 -- a record whose right ascension is a whole turn, alone and with a byte over
 abbrev turnRecord : List ℕ
@@ -55,3 +56,15 @@ byte-two-written-excluded = apart (ofAnswer ofBytes) refl
 pub rates-dropped-excluded : ratesDropped twoStars ≢ toList twoStars
 unfolding computed
 rates-dropped-excluded = apart (ofAnswer ofBytes) refl
+
+pub empty-dropped-to-radio-excluded : emptyDroppedToRadio zeroRecord ≢ toRadio zeroRecord
+unfolding computed
+empty-dropped-to-radio-excluded = apart (ofAnswer ofBytes) refl
+
+-- the radio list of one star of number 0
+abbrev emptyStar : List ℕ
+emptyStar = 0x03 ∷ 0x01 ∷ 0x00 ∷ 0x00 ∷ 0x00 ∷ 0x00 ∷ 0x00 ∷ []
+
+pub empty-dropped-to-list-excluded : emptyDroppedToList emptyStar ≢ toList emptyStar
+unfolding computed
+empty-dropped-to-list-excluded = apart (ofAnswer ofBytes) refl

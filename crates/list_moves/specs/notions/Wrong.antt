@@ -4,7 +4,7 @@ use mathlib.Core.Bool.{false, cond}
 use mathlib.Core.List.{List, reverse, map}
 use Rattle.quantity.specs.rules.Answer.{Answer, answered, refused, with}
 use Rattle.list.specs.declared.Star.{Star}
-use Rattle.list.specs.rules.Stars.{isList, stars, listBytes, allInRange}
+use Rattle.list.specs.rules.Stars.{isList, stars, kept, listBytes, allInRange}
 use Rattle.list_radio.specs.rules.Star.{starOf}
 use Rattle.list_radio.specs.rules.Radio.{radioBytes, radioStars}
 use Rattle.list_radio.specs.notions.Good.{formNumbers, formBytes}
@@ -29,3 +29,10 @@ byteTwoWritten s = cond (isList s) (cond (allInRange (stars s)) (answered (formB
 abbrev pub ratesDropped : List ℕ → Answer (List ℕ)
 ratesDropped s =
     with (λ (rs : List Star). listBytes (map (λ (r : Star). starOf (formNumbers false r)) rs)) (radioStars s)
+
+-- stars of number 0 left out
+abbrev pub emptyDroppedToRadio : List ℕ → Answer (List ℕ)
+emptyDroppedToRadio s = cond (isList s) (cond (allInRange (stars s)) (answered (radioBytes (kept (stars s)))) (refused 9)) (refused 8)
+
+abbrev pub emptyDroppedToList : List ℕ → Answer (List ℕ)
+emptyDroppedToList s = with (λ (rs : List Star). listBytes (kept rs)) (radioStars s)

@@ -25,7 +25,7 @@ use Rattle.list_radio.specs.notions.Computed.{computed}
 use Rattle.list_radio.specs.notions.Wrong.{emptyIsEleven, anyFirstByte, byteFourTaken, byteTwoRefused, count3001Taken}
 use Rattle.list_radio.specs.notions.Wrong.{rangeUnchecked, nineBeforeTheLastNumber, nineBeforeTheRates, byteTwoWithRates}
 use Rattle.list_radio.specs.notions.Wrong.{byteTwoWithFiveNumbers, byteThreeWithThreeNumbers, ratesReadTraded, ratesReadAsTheyStand}
-use Rattle.list_radio.specs.notions.Wrong.{ownOffset, byteOverTaken, accepts3001, twelveForBytesOver}
+use Rattle.list_radio.specs.notions.Wrong.{ownOffset, emptyPassedOver, byteOverTaken, accepts3001, twelveForBytesOver}
 use Rattle.list_radio.specs.notions.Wrong.{ascensionFirst, declinationUnfolded, ratesWrittenTraded, ratesUnfolded, ratesLeftOut}
 use Rattle.list_radio.specs.notions.Wrong.{byteTwoWritten, countLeftOut, bytesCounted, eightBeforeNine, count3001Put, anyStarPut}
 
@@ -45,6 +45,10 @@ ofReceived p = p .offset + 65536 * p .value .number
 -- two stars; a count of 3001; a star whose right ascension is a whole turn, the same without its last number, and with three numbers alone
 abbrev pub twoStars : List ℕ
 twoStars = 0x03 ∷ 0x02 ∷ 0x07 ∷ 0x00 ∷ 0x00 ∷ 0x00 ∷ 0x00 ∷ 0x09 ∷ 0x00 ∷ 0x01 ∷ 0x01 ∷ 0x02 ∷ []
+
+-- the first has number 0
+abbrev emptyFirst : List ℕ
+emptyFirst = 0x03 ∷ 0x02 ∷ 0x00 ∷ 0x00 ∷ 0x00 ∷ 0x00 ∷ 0x00 ∷ 0x09 ∷ 0x00 ∷ 0x01 ∷ 0x01 ∷ 0x02 ∷ []
 
 abbrev count3001 : List ℕ
 count3001 = 0xb9 ∷ 0x17 ∷ []
@@ -135,6 +139,10 @@ rates-read-as-they-stand-excluded = apart (ofAnswer ofStar) refl
 pub own-offset-excluded : ownOffset twoStars 2 ≢ starAtRule twoStars 2
 unfolding computed
 own-offset-excluded = apart (ofAnswer ofReceived) refl
+
+pub empty-passed-over-excluded : emptyPassedOver emptyFirst 2 ≢ starAtRule emptyFirst 2
+unfolding computed then
+empty-passed-over-excluded = apart (ofAnswer ofReceived) refl
 
 -- ---- the whole list
 

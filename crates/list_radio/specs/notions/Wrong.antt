@@ -9,13 +9,14 @@ use Rattle.quantity.specs.rules.Answer.{Answer, answered, refused, unless, with
 use Rattle.signed.specs.rules.Signed.{wordOf}
 use Rattle.list.specs.declared.Star.{Star}
 use Rattle.list.specs.rules.Record.{turn}
-use Rattle.list.specs.rules.Stars.{mostStars}
+use Rattle.list.specs.rules.Stars.{mostStars, isKept}
 use Rattle.list_groups.specs.rules.Groups.{groups}
 use Rattle.list_groups.specs.rules.Reading.{Got, readNumber, AtOffset, readAt}
 use Rattle.list_groups.specs.rules.Several.{spellAll, readAll}
 use Rattle.list_groups.specs.rules.Fold.{folded, unfolded}
 use Rattle.list_radio.specs.rules.Star.{numberCount, starOf, starGroups, readStar}
 use Rattle.list_radio.specs.rules.Radio.{mark, headBytes, markRefusal, isMoving, readCount, nothingOver}
+use Rattle.list_radio.specs.rules.Reader.{starAtRule}
 use Rattle.list_radio.specs.rules.Put.{starText}
 
 -- ---- the head
@@ -99,6 +100,11 @@ ratesReadAsTheyStand =
 abbrev pub ownOffset : List ℕ → ℕ → Answer (AtOffset Star)
 ownOffset s at =
     unless (markRefusal s) (with (λ (g : Got Star). record { value = g .value; offset = at }) (readStar (isMoving s) (drop at s)))
+
+-- a star of number 0 not shown, and the next in its place
+abbrev pub emptyPassedOver : List ℕ → ℕ → Answer (AtOffset Star)
+emptyPassedOver s at =
+    then (starAtRule s at) (λ (p : AtOffset Star). cond (isKept (p .value)) (answered p) (starAtRule s (p .offset)))
 
 -- ---- the whole list
 

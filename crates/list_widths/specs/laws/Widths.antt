@@ -69,7 +69,7 @@ module _ (s : List ℕ) where
 
 -- ---- stars that stand still
 
-fitting : (rs : List Star) → AllHold Narrow rs → AllFitting rs
+pub fitting : (rs : List Star) → AllHold Narrow rs → AllFitting rs
 fitting [] f = tt
 fitting (r ∷ rs) f = (f .0 .fitting, fitting rs (f .1))
 
@@ -78,7 +78,7 @@ unfolding isStill
 all-still [] f = refl
 all-still (r ∷ rs) f = rw (f .0 .still .asc, f .0 .still .dec) (all-still rs (f .1))
 
-all-narrow : (rs : List Star) → AllFitting rs → allAre isStill rs ≡ true → AllHold Narrow rs
+pub all-narrow : (rs : List Star) → AllFitting rs → allAre isStill rs ≡ true → AllHold Narrow rs
 all-narrow [] f h = tt
 all-narrow (r ∷ rs) f h =
     let p = both-hold (isStill r) (allAre isStill rs) h in

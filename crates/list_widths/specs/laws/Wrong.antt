@@ -17,6 +17,7 @@ use Rattle.list_widths.specs.rules.Narrow.{narrowWidth, isNarrow}
 use Rattle.list_widths.specs.rules.Widths.{toWide, toNarrow}
 use Rattle.list_widths.specs.notions.Computed.{computed}
 use Rattle.list_widths.specs.notions.Wrong.{oneStarTooManyUp, wideTakenForNarrow, outOfRangeUp, ratesLost, decRateLost, seventeenBeforeNine}
+use Rattle.list_widths.specs.notions.Wrong.{emptyDroppedUp, emptyUncheckedUp, emptyDroppedDown, emptyUncheckedDown}
 
 abbrev zeros : ℕ → List ℕ
 zeros n = upto n (λ (i : ℕ). 0)
@@ -45,6 +46,15 @@ pub out-of-range-up-excluded : outOfRangeUp far ≢ toWide far
 unfolding computed
 out-of-range-up-excluded = apart (ofAnswer ofBytes) refl
 
+-- an empty place, and one that is out of range
+pub empty-dropped-up-excluded : emptyDroppedUp (zeros narrowWidth) ≢ toWide (zeros narrowWidth)
+unfolding computed
+empty-dropped-up-excluded = apart (ofAnswer ofBytes) refl
+
+pub empty-unchecked-up-excluded : emptyUncheckedUp far ≢ toWide far
+unfolding computed
+empty-unchecked-up-excluded = apart (ofAnswer ofBytes) refl
+
 -- ---- down
 
 pub down-varies : Varies (toNarrow (zeros width)) (toNarrow [])
@@ -69,3 +79,12 @@ damaged = moving ++ (zeros 7 ++ (255 ∷ zeros 12))
 pub seventeen-before-nine-excluded : seventeenBeforeNine damaged ≢ toNarrow damaged
 unfolding computed
 seventeen-before-nine-excluded = apart (ofAnswer ofBytes) refl
+
+-- an empty place, and one that moves
+pub empty-dropped-down-excluded : emptyDroppedDown (zeros width) ≢ toNarrow (zeros width)
+unfolding computed
+empty-dropped-down-excluded = apart (ofAnswer ofBytes) refl
+
+pub empty-unchecked-down-excluded : emptyUncheckedDown moving ≢ toNarrow moving
+unfolding computed
+empty-unchecked-down-excluded = apart (ofAnswer ofBytes) refl

@@ -13,7 +13,7 @@ use Rattle.edition.specs.declared.Edition.{Edition}
 use Rattle.edition.specs.declared.Edition.the-variants.{Crate, Published}
 use Rattle.lent.specs.rules.Texts.{texts}
 use Rattle.lent.specs.laws.Texts.{texts-short}
-use Rattle.list.specs.rules.Stars.{mostStars, countOf}
+use Rattle.list.specs.rules.Stars.{mostStars, countOf, isKept, nth}
 use Rattle.list_tally.specs.declared.Tally.{Tally}
 use Rattle.list_tally.specs.rules.Status.{highestStatus}
 use Rattle.list_tally.specs.rules.Tally.{tallyOf}
@@ -25,7 +25,7 @@ use Rattle.text_number.specs.laws.Number.{any-decimal-short, refused-short}
 use Rattle.text_line.specs.laws.Room.{line-short}
 use Rattle.text_row.specs.laws.Room.{row-short, plan-row-short}
 use Rattle.text_time.specs.laws.Room as time
-use Rattle.text_refusal.specs.laws.Room.{refusal-short, plan-refusal-short}
+use Rattle.text_refusal.specs.laws.Room.{either-short, refusal-short, plan-refusal-short}
 use Rattle.text_answers.specs.declared.Style.{Style}
 use Rattle.text_answers.specs.declared.Style.the-variants.{Lines, Table, Plan, PlanTable}
 use Rattle.text_answers.specs.rules.Answers.{starText, headingText, planHeadingText, editionText, headText, countText, countAt, tallyText}
@@ -74,11 +74,14 @@ refused-short-in (PlanTable o) n = omega (arith, plan-refusal-short n)
 -- ---- the whole
 
 module _ (style : Style) (edition : Edition) (s : List ℕ) (day1 day2 : Float) where
+  place-short : (i : ℕ) → length (starLine style edition s day1 day2 i) ≤ 145
+  place-short i = either-short 145 (isKept (nth s i)) _ [] (star-short style _ _ _ _) (omega arith)
+
   stars-short : countOf s ≤ mostStars → length (starsText style edition s day1 day2) ≤ room
   stars-short h =
       let lines = texts (countOf s) (starLine style edition s day1 day2) in
       let tally = tallyOf (statusesOf edition s day1 day2) in
-      let short = texts-short 145 (countOf s) (starLine style edition s day1 day2) (λ (i : ℕ) k. star-short style _ _ _ _) in
+      let short = texts-short 145 (countOf s) (starLine style edition s day1 day2) (λ (i : ℕ) k. place-short i) in
       omega (
         arith,
         length-append (headText style edition) (lines ++ footText style tally),

@@ -3,18 +3,23 @@ use Prim.Native.Nat.{ℕ}
 use mathlib.Core.Path.{refl}
 use mathlib.Core.List.{List, [], _∷_}
 use std.Logic.{_≢_}
+use lib.ListN.{length, getD}
 use Rattle.double.specs.rules.Operations.{zero, two}
 use Rattle.double.specs.laws.Apart.{apart}
 use Rattle.quantity.specs.rules.Refusal.{epoch}
 use Rattle.quantity.specs.notions.Stated.{r0}
 use Rattle.edition.specs.declared.Edition.the-variants.{Crate, Published}
 use Rattle.transit.specs.declared.Observer.{Observer}
+use Rattle.lent.specs.rules.Rows.{upto}
+use Rattle.list.specs.rules.Record.{width}
 use Rattle.text_number.specs.notions.Code.{ofText}
 use Rattle.text_answers.specs.declared.Style.the-variants.{Table, Plan, PlanTable}
+use Rattle.text_row.specs.rules.Row.{columnText, rowOf}
+use Rattle.text_answers.specs.rules.Answers.{headingText}
 use Rattle.report.specs.rules.Report.{reportOf}
 use Rattle.report.specs.notions.Computed.{computed}
 use Rattle.report.specs.notions.Wrong.{eightBeforeThree, observerNotRefused, refusedAsEmpty, editionUnsaid}
-use Rattle.report.specs.notions.Wrong.{headingOfPlaces, observerWithoutWords}
+use Rattle.report.specs.notions.Wrong.{headingOfPlaces, observerWithoutWords, emptyHasLine}
 
 -- no star, and a byte that is no list
 abbrev empty : List ℕ
@@ -22,6 +27,10 @@ empty = []
 
 abbrev damaged : List ℕ
 damaged = 0 ∷ []
+
+-- a list of one empty place
+abbrev place : List ℕ
+place = upto width (λ (i : ℕ). 0)
 
 -- all angles 0.0, and a latitude of 2.0 radians
 abbrev atNone : Observer
@@ -57,3 +66,8 @@ heading-of-places-excluded = apart ofText refl
 pub observer-without-words-excluded : observerWithoutWords (PlanTable beyondPole) empty epoch epoch ≢ reportOf (PlanTable beyondPole) Crate empty epoch epoch
 unfolding computed
 observer-without-words-excluded = apart ofText refl
+
+-- by the byte behind the table's heading
+pub empty-has-line-excluded : emptyHasLine Table Crate place epoch epoch ≢ reportOf Table Crate place epoch epoch
+unfolding computed columnText rowOf
+empty-has-line-excluded = apart (λ (t : List ℕ). getD t (length headingText) 0) refl

@@ -4,15 +4,19 @@ use mathlib.Core.Bool.{cond}
 use mathlib.Core.List.{List, _++_}
 use lib.Dec.{eqb}
 use lib.Ieee.{Float}
+use Rattle.quantity.specs.rules.Angle.{rad}
+use Rattle.quantity.specs.rules.Answer.{statusOf}
 use Rattle.edition.specs.declared.Edition.{Edition}
 use Rattle.transit.specs.declared.Observer.{Observer}
 use Rattle.transit.specs.rules.Observer.{planRefusal}
 use Rattle.lent.specs.rules.Texts.{texts}
-use Rattle.list.specs.rules.Stars.{mostStars, countOf}
-use Rattle.batch.specs.rules.Batch.{batchRefusal}
+use Rattle.list.specs.rules.Stars.{mostStars, countOf, nth}
+use Rattle.list_tally.specs.rules.Tally.{tallyOf}
+use Rattle.batch.specs.rules.Star.{starRule, firstOf, secondOf}
+use Rattle.batch.specs.rules.Batch.{batchRefusal, statusesOf}
 use Rattle.text_answers.specs.declared.Style.{Style}
 use Rattle.text_answers.specs.declared.Style.the-variants.{Table, Plan}
-use Rattle.text_answers.specs.rules.Answers.{headingText, headingIn, headText, refusedIn}
+use Rattle.text_answers.specs.rules.Answers.{starText, headingText, headingIn, headText, footText, refusedIn}
 use Rattle.report.specs.rules.Report.{starLine, starsText, reportRefusal}
 
 -- a plan with another refusal of the call, of the list's and the observer's
@@ -50,3 +54,15 @@ headingOfPlaces = headedBy (λ (style : Style). headingText)
 -- an observer refused as a list is, so that 3 and 4 are not his
 abbrev pub observerWithoutWords : Style → List ℕ → Float → Float → List ℕ
 observerWithoutWords style s day1 day2 = refusedIn Table (reportRefusal style s day1 day2)
+
+-- star i, whether it is kept or not
+abbrev anyLine : Style → Edition → List ℕ → Float → Float → ℕ → List ℕ
+anyLine style edition s day1 day2 i =
+    let a = starRule edition (nth s i) day1 day2 in
+    starText style (nth s i .number) (statusOf a) (rad (firstOf a)) (rad (secondOf a))
+
+-- a line for an empty place, as a refused star has one
+abbrev pub emptyHasLine : Style → Edition → List ℕ → Float → Float → List ℕ
+emptyHasLine style edition s day1 day2 =
+    headText style edition
+    ++ (texts (countOf s) (anyLine style edition s day1 day2) ++ footText style (tallyOf (statusesOf edition s day1 day2)))

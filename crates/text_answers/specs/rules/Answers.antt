@@ -1,4 +1,4 @@
--- The text of a list's answers, in a style: a head, a line for each star, and a foot; of a refused call its refusal alone.
+-- The text of a list's answers, in a style: a head, a line for each star that is kept, and a foot; of a refused call its refusal alone.
 use Prim.Native.Nat.{ℕ, _+_}
 use mathlib.Core.Bool.{cond}
 use mathlib.Core.List.{List, [], _∷_, _++_}
@@ -12,7 +12,7 @@ use Rattle.edition.specs.declared.Edition.{Edition}
 use Rattle.edition.specs.rules.Edition.{byEdition}
 use Rattle.transit.specs.rules.Observer.{planRefusal, plannedOf}
 use Rattle.lent.specs.rules.Texts.{texts}
-use Rattle.list.specs.rules.Stars.{countOf, nth}
+use Rattle.list.specs.rules.Stars.{countOf, isKept, nth}
 use Rattle.list_tally.specs.declared.Tally.{Tally}
 use Rattle.list_tally.specs.rules.Status.{highestStatus}
 use Rattle.text_number.specs.rules.Bytes.{ascii, space, lineEnd}
@@ -90,9 +90,10 @@ refusedIn (PlanTable o) n = planRefusalText n
 abbrev pub angleAt : List ℕ → ℕ → Rad
 angleAt s i = rad (bits (getD s i 0))
 
--- star i, whose status and angles stand in three slices
+-- star i, whose status and angles stand in three slices; an empty place has no line
 abbrev pub lentLine : Style → List ℕ → List ℕ → List ℕ → List ℕ → ℕ → List ℕ
-lentLine style s status asc dec i = starText style (nth s i .number) (getD status i 0) (angleAt asc i) (angleAt dec i)
+lentLine style s status asc dec i =
+    cond (isKept (nth s i)) (starText style (nth s i .number) (getD status i 0) (angleAt asc i) (angleAt dec i)) []
 
 unfoldable pub answersText : Style → Edition → List ℕ → List ℕ → List ℕ → List ℕ → ℕ → Tally → List ℕ
 answersText style edition s status asc dec refusal tally =

@@ -82,15 +82,52 @@ returns-5 c =
     let t1 = t2 .before in
     same (simp (ne-eqb _ _ (t1 .if1 .left), ne-eqb _ _ (t2 .if2 .left), ne-eqb _ _ (t3 .if3 .left), ne-eqb _ _ (t4 .if4 .left), eq-eqb _ _ (t5 .if5 .taken))) (c2 .put5 .ensures)
 
+slice-aggregate-put-6 : tie.Need-slice-aggregate-put-6
+slice-aggregate-put-6 c = search needs
+
+same-length-6 : tie.Need-same-length-6
+same-length-6 c = search needs
+
 returns-6 : tie.Need-returns-6
 unfolding starWords
 returns-6 c =
-    let t5 = c .before in
+    let c2 = c .before .before in
+    let t6 = c2 .before .before .before in
+    let t5 = t6 .before in
     let t4 = t5 .before in
     let t3 = t4 .before in
     let t2 = t3 .before in
     let t1 = t2 .before in
-    same (simp (ne-eqb _ _ (t1 .if1 .left), ne-eqb _ _ (t2 .if2 .left), ne-eqb _ _ (t3 .if3 .left), ne-eqb _ _ (t4 .if4 .left), ne-eqb _ _ (t5 .if5 .left))) (nothing _ _ _ (c .within .ensures))
+    same
+    (simp (
+      ne-eqb _ _ (t1 .if1 .left),
+      ne-eqb _ _ (t2 .if2 .left),
+      ne-eqb _ _ (t3 .if3 .left),
+      ne-eqb _ _ (t4 .if4 .left),
+      ne-eqb _ _ (t5 .if5 .left),
+      eq-eqb _ _ (t6 .if6 .taken),
+    ))
+    (c2 .put6 .ensures)
+
+returns-7 : tie.Need-returns-7
+unfolding starWords
+returns-7 c =
+    let t6 = c .before in
+    let t5 = t6 .before in
+    let t4 = t5 .before in
+    let t3 = t4 .before in
+    let t2 = t3 .before in
+    let t1 = t2 .before in
+    same
+    (simp (
+      ne-eqb _ _ (t1 .if1 .left),
+      ne-eqb _ _ (t2 .if2 .left),
+      ne-eqb _ _ (t3 .if3 .left),
+      ne-eqb _ _ (t4 .if4 .left),
+      ne-eqb _ _ (t5 .if5 .left),
+      ne-eqb _ _ (t6 .if6 .left),
+    ))
+    (nothing _ _ _ (c .within .ensures))
 
 pub put-star-words-spec : {M : Type 1} → statement M
 put-star-words-spec =
@@ -116,5 +153,9 @@ put-star-words-spec =
     asks-nothing
     same-length-5
     returns-5
+    slice-aggregate-put-6
     asks-nothing
-    returns-6)
+    same-length-6
+    returns-6
+    asks-nothing
+    returns-7)

@@ -30,7 +30,8 @@ star-words-short n =
     (either-short 44 (eqb n 4) _ _ (omega arith)
     (either-short 44 (eqb n 7) _ _ (omega arith)
     (either-short 44 (eqb n 9) _ _ (omega arith)
-    (either-short 44 (eqb n 14) _ [] (omega arith) (omega arith)))))
+    (either-short 44 (eqb n 10) _ _ (omega arith)
+    (either-short 44 (eqb n 14) _ [] (omega arith) (omega arith))))))
 
 observer-words-short : (n : ℕ) → length (observerWords n) ≤ 76
 unfolding observerWords

@@ -5,7 +5,7 @@ use Rattle.double.specs.laws.Apart.{apart}
 use Rattle.text_number.specs.notions.Code.{ofText}
 use Rattle.text_refusal.specs.rules.Refusal.{refusalText, planRefusalText}
 use Rattle.text_refusal.specs.notions.Computed.{computed}
-use Rattle.text_refusal.specs.notions.Wrong.{wordsLost, wordsOfAnother, observerAsStar}
+use Rattle.text_refusal.specs.notions.Wrong.{wordsLost, wordsOfAnother, emptyAsDamaged, observerAsStar}
 
 pub words-lost-excluded : wordsLost 9 ≢ refusalText 9
 unfolding computed
@@ -14,6 +14,10 @@ words-lost-excluded = apart ofText refl
 pub words-of-another-excluded : wordsOfAnother 8 ≢ refusalText 8
 unfolding computed
 words-of-another-excluded = apart ofText refl
+
+pub empty-as-damaged-excluded : emptyAsDamaged 10 ≢ refusalText 10
+unfolding computed
+empty-as-damaged-excluded = apart ofText refl
 
 pub observer-as-star-excluded : observerAsStar 4 ≢ planRefusalText 4
 unfolding computed

@@ -21,7 +21,8 @@ starWords n =
     (cond (eqb n 4) (ascii ": too close to the pole: choose another star")
     (cond (eqb n 7) (ascii ": at the pole: choose another star")
     (cond (eqb n 9) (ascii ": the record is damaged")
-    (cond (eqb n 14) (ascii ": exactly at the pole: choose another star") []))))
+    (cond (eqb n 10) (ascii ": an empty place")
+    (cond (eqb n 14) (ascii ": exactly at the pole: choose another star") [])))))
 
 -- what a plan's observer can be refused by; 64 radians are 3666.9 degrees
 unfoldable pub observerWords : ℕ → List ℕ

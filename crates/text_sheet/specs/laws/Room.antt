@@ -1,23 +1,22 @@
 -- The sheet of any bytes has room in `room` bytes.
 use mathlib.Core.Path.{_≡_, refl}
 use mathlib.Core.Bool.{Bool, true, false, cond}
-use mathlib.Core.List.{List, _++_}
+use mathlib.Core.List.{List, [], _∷_, _++_}
 use Prim.Native.Nat.{ℕ, _*_, _-_, _≤_, _<_}
 use native.Mathlib.Omega.{arith}
 use lib.IntN.{ℤ, pos, negsuc, natAbs}
 use lib.ListN.{length, length-append}
-use Rattle.lent.specs.rules.Texts.{texts}
-use Rattle.lent.specs.laws.Texts.{texts-short}
 use Rattle.signed.specs.rules.Signed.{HasWord}
-use Rattle.list.specs.rules.Record.{inRange, width, Fitting}
-use Rattle.list.specs.rules.Stars.{isList, countOf, stars, nth, Bytes}
-use Rattle.list.specs.laws.Stars.{few, length-stars, nth-is}
-use Rattle.list.specs.laws.Record.{star-fits}
+use Rattle.list.specs.rules.Record.{inRange, Fitting}
+use Rattle.list.specs.rules.Stars.{mostStars, isList, stars, isKept, kept, AllFitting, Bytes}
+use Rattle.list.specs.laws.Stars.{few, length-stars}
 use Rattle.list.specs.declared.Star.{Star}
+use Rattle.list_edit.specs.laws.Gather.{fewer-kept}
+use Rattle.list_edit.specs.laws.Fitting.{list-fits}
 use Rattle.text_number.specs.rules.Number.{decimalText}
 use Rattle.text_number.specs.rules.Refused.{refusedText}
 use Rattle.text_number.specs.laws.Number.{decimal-short, integer-short, refused-short}
-use Rattle.text_sheet.specs.rules.Sheet.{okEnd, badEnd, placeText, ratesText, line, lineAt, goods, heading, footing, sheetOf}
+use Rattle.text_sheet.specs.rules.Sheet.{okEnd, badEnd, placeText, ratesText, line, lines, goods, heading, footing, sheetIn, sheetOf}
 use Rattle.text_sheet.specs.rules.Render.{room}
 use Rattle.text_sheet.specs.laws.Sheet.{goods-most}
 
@@ -57,27 +56,30 @@ footing-short : (g b : ℕ) → g < 4294967296 → b < 4294967296 → length (fo
 unfolding footing
 footing-short g b h k = let d = decimal-short g h in let e = decimal-short b k in simp length-append (omega arith)
 
-module _ (rates : Bool) (s : List ℕ) (y : Bytes s) where
-  list-short : isList s ≡ true
-      → length (heading (countOf s) ++ (texts (countOf s) (lineAt rates s) ++ footing (goods (stars s)) (countOf s - goods (stars s)))) ≤ room
-  list-short t =
-      let n = few s t in
-      let g = goods-most (stars s) in
-      let l = length-stars s in
-      let a = heading-short (countOf s) (omega arith) in
-      let b = texts-short 64 (countOf s) (lineAt rates s) (λ (i : ℕ) h. line-short rates (nth s i) (rw (nth-is s i h) (star-fits s y (i * width)))) in
-      let c = footing-short (goods (stars s)) (countOf s - goods (stars s)) (omega arith) (omega arith) in
+module _ (rates : Bool) where
+  lines-short : (rs : List Star) → AllFitting rs → length (lines rates (kept rs)) ≤ 64 * length (kept rs)
+  lines-short [] f = omega arith
+  lines-short (r ∷ rs) f = by-case (isKept r) (lines-short rs (f .1))
+    where
+      by-case : (b : Bool) → length (lines rates (kept rs)) ≤ 64 * length (kept rs)
+          → length (lines rates (cond b (r ∷ kept rs) (kept rs))) ≤ 64 * length (cond b (r ∷ kept rs) (kept rs))
+      by-case true h = omega (arith, length-append (line rates r) (lines rates (kept rs)), line-short rates r (f .0))
+      by-case false h = h
+
+  sheet-short : (rs : List Star) → AllFitting rs → length rs ≤ mostStars → length (sheetIn rates (kept rs)) ≤ room
+  unfolding sheetIn
+  sheet-short rs f h =
+      let n = fewer-kept rs in
+      let g = goods-most (kept rs) in
+      let a = heading-short (length (kept rs)) (omega arith) in
+      let b = lines-short rs f in
+      let c = footing-short (goods (kept rs)) (length (kept rs) - goods (kept rs)) (omega arith) (omega arith) in
       simp length-append (omega arith)
 
-  pub has-room : length (sheetOf rates s) ≤ room
+  pub has-room : (s : List ℕ) → Bytes s → length (sheetOf rates s) ≤ room
   unfolding sheetOf
-  has-room = by-case (isList s) refl
+  has-room s y = by-case (isList s) refl
     where
-      by-case : (b : Bool) → isList s ≡ b
-          → length
-          (cond b
-          (heading (countOf s) ++ (texts (countOf s) (lineAt rates s) ++ footing (goods (stars s)) (countOf s - goods (stars s))))
-          (refusedText 8))
-          ≤ room
-      by-case true t = list-short t
+      by-case : (b : Bool) → isList s ≡ b → length (cond b (sheetIn rates (kept (stars s))) (refusedText 8)) ≤ room
+      by-case true t = sheet-short (stars s) (list-fits s y t) (omega (arith, length-stars s, few s t))
       by-case false t = omega (arith, refused-short 8)

@@ -17,17 +17,22 @@ use Rattle.text_sheet.specs.rules.Sheet.{sheetOf}
 use Rattle.text_sheet.specs.rules.Render.{room, renderRule}
 use Rattle.text_sheet.specs.notions.Computed.{computed}
 use Rattle.text_sheet.specs.notions.Wrong.{capitalOk, ratesUnasked, ratesPrintedTraded, goodAndBadTraded, refusedByNine}
+use Rattle.text_sheet.specs.notions.Wrong.{emptyCounted, emptyPrinted, emptyCountedGood, emptyCountedBad}
 
--- a list of one star, whose record is zeros, and bytes that are no list
+-- a list of one star, the other bytes of whose record are zeros, and bytes that are no list
 abbrev single : List ℕ
-single = upto width (λ (i : ℕ). 0)
+single = 1 ∷ upto 19 (λ (i : ℕ). 0)
 
 abbrev short : List ℕ
 short = 0 ∷ []
 
 -- a list of one star with yearly changes of 0 and 1
 abbrev moving : List ℕ
-moving = upto 16 (λ (i : ℕ). 0) ++ (1 ∷ 0 ∷ 0 ∷ 0 ∷ [])
+moving = 1 ∷ (upto 15 (λ (i : ℕ). 0) ++ (1 ∷ 0 ∷ 0 ∷ 0 ∷ []))
+
+-- a list of one empty place
+abbrev empty : List ℕ
+empty = upto width (λ (i : ℕ). 0)
 
 -- into any slice that has room
 pub render-varies : (old : List ℕ) → length old ≡ room → Varies (renderRule false single old) (renderRule false [] old)
@@ -49,6 +54,22 @@ rates-printed-traded-excluded = apart ofText refl
 pub good-and-bad-traded-excluded : goodAndBadTraded false single ≢ sheetOf false single
 unfolding computed
 good-and-bad-traded-excluded = apart ofText refl
+
+pub empty-counted-excluded : emptyCounted false empty ≢ sheetOf false empty
+unfolding computed
+empty-counted-excluded = apart ofText refl
+
+pub empty-printed-excluded : emptyPrinted false empty ≢ sheetOf false empty
+unfolding computed
+empty-printed-excluded = apart ofText refl
+
+pub empty-counted-good-excluded : emptyCountedGood false empty ≢ sheetOf false empty
+unfolding computed
+empty-counted-good-excluded = apart ofText refl
+
+pub empty-counted-bad-excluded : emptyCountedBad false empty ≢ sheetOf false empty
+unfolding computed
+empty-counted-bad-excluded = apart ofText refl
 
 pub refused-by-nine-excluded : refusedByNine false short ≢ sheetOf false short
 unfolding computed

@@ -2,9 +2,9 @@
 use Prim.Native.Nat.{ℕ}
 use Rattle.list.specs.notions.Computed as list
 use Rattle.text_number.specs.notions.Computed as text
-use Rattle.text_sheet.specs.rules.Sheet.{placeText, ratesText, line, heading, footing, sheetOf}
+use Rattle.text_sheet.specs.rules.Sheet.{placeText, ratesText, line, heading, footing, sheetIn, sheetOf}
 
 -- a name for the line below it, which is what counts
 unfoldable pub computed : ℕ
-unfolding list.computed text.computed placeText ratesText line heading footing sheetOf
+unfolding list.computed text.computed placeText ratesText line heading footing sheetIn sheetOf
 computed = 0

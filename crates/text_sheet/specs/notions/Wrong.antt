@@ -2,20 +2,20 @@
 use Prim.Native.Nat.{ℕ, _-_}
 use mathlib.Core.Bool.{Bool, true, cond}
 use mathlib.Core.List.{List, _∷_, _++_}
-use Rattle.lent.specs.rules.Texts.{texts}
+use lib.ListN.{length}
 use Rattle.list.specs.declared.Star.{Star}
 use Rattle.list.specs.rules.Record.{inRange}
-use Rattle.list.specs.rules.Stars.{isList, countOf, stars, nth}
+use Rattle.list.specs.rules.Stars.{isList, stars, kept, recordsBytes}
 use Rattle.text_number.specs.rules.Bytes.{ascii, space}
 use Rattle.text_number.specs.rules.Number.{decimalText, integerText}
 use Rattle.text_number.specs.rules.Refused.{refusedText}
-use Rattle.text_sheet.specs.rules.Sheet.{okEnd, badEnd, placeText, ratesText, line, goods, heading, footing, sheetOf}
+use Rattle.text_sheet.specs.rules.Sheet.{okEnd, badEnd, placeText, ratesText, line, lines, goods, heading, footing, sheetOf}
 
--- the sheet of a list, with other lines and another footing
+-- the sheet of a list, with another line and another footing
 abbrev sheetBy : (Star → List ℕ) → (ℕ → ℕ → List ℕ) → List ℕ → List ℕ
 sheetBy body foot s =
-    heading (countOf s)
-    ++ (texts (countOf s) (λ (i : ℕ). body (nth s i)) ++ foot (goods (stars s)) (countOf s - goods (stars s)))
+    let rs = kept (stars s) in
+    heading (length rs) ++ (recordsBytes body rs ++ foot (goods rs) (length rs - goods rs))
 
 abbrev capitalEnd : List ℕ
 capitalEnd = ascii " OK\n"
@@ -38,6 +38,27 @@ ratesPrintedTraded =
 
 abbrev pub goodAndBadTraded : Bool → List ℕ → List ℕ
 goodAndBadTraded rates = sheetBy (line rates) (λ (good bad : ℕ). footing bad good)
+
+-- a sheet by its four parts: how many stars, whose lines, how many are good and how many bad. In each variant of it one part is of all
+-- places, the empty ones too.
+abbrev sheetWith : Bool → ℕ → List Star → ℕ → ℕ → List ℕ
+sheetWith rates n rs good bad = heading n ++ (lines rates rs ++ footing good bad)
+
+-- an empty place counted as a star
+abbrev pub emptyCounted : Bool → List ℕ → List ℕ
+emptyCounted rates s = let rs = kept (stars s) in sheetWith rates (length (stars s)) rs (goods rs) (length rs - goods rs)
+
+-- printed as a line
+abbrev pub emptyPrinted : Bool → List ℕ → List ℕ
+emptyPrinted rates s = let rs = kept (stars s) in sheetWith rates (length rs) (stars s) (goods rs) (length rs - goods rs)
+
+-- counted good, where what stands behind its 0 is in range
+abbrev pub emptyCountedGood : Bool → List ℕ → List ℕ
+emptyCountedGood rates s = let rs = kept (stars s) in sheetWith rates (length rs) rs (goods (stars s)) (length rs - goods rs)
+
+-- counted bad
+abbrev pub emptyCountedBad : Bool → List ℕ → List ℕ
+emptyCountedBad rates s = let rs = kept (stars s) in sheetWith rates (length rs) rs (goods rs) (length (stars s) - goods rs)
 
 -- "refused 9"
 abbrev pub refusedByNine : Bool → List ℕ → List ℕ

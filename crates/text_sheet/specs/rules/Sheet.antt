@@ -1,11 +1,11 @@
--- The text of a list: how many stars, a line for each, and how many are good and bad; a line with the star's yearly changes where they
--- are asked for. A text is a list of bytes.
+-- The text of a list: how many stars it keeps, a line for each, and how many are good and bad; a line with the star's yearly changes where
+-- they are asked for. A text is a list of bytes.
 use Prim.Native.Nat.{ℕ, _+_, _-_}
 use mathlib.Core.Bool.{Bool, cond}
 use mathlib.Core.List.{List, [], _∷_, _++_}
-use Rattle.lent.specs.rules.Texts.{texts}
+use lib.ListN.{length}
 use Rattle.list.specs.rules.Record.{inRange}
-use Rattle.list.specs.rules.Stars.{isList, countOf, stars, nth}
+use Rattle.list.specs.rules.Stars.{isList, stars, kept}
 use Rattle.list.specs.declared.Star.{Star}
 use Rattle.text_number.specs.rules.Bytes.{ascii, space, lineEnd}
 use Rattle.text_number.specs.rules.Number.{decimalText, integerText}
@@ -39,9 +39,10 @@ ratesText rates r = cond rates (space ∷ (integerText (r .«asc_rate») ++ (spa
 unfoldable pub line : Bool → Star → List ℕ
 line rates r = decimalText (r .number) ++ cond (inRange r) (placeText r ++ (ratesText rates r ++ okEnd)) badEnd
 
--- of star i of the list
-abbrev pub lineAt : Bool → List ℕ → ℕ → List ℕ
-lineAt rates s i = line rates (nth s i)
+-- one for each star
+abbrev pub lines : Bool → List Star → List ℕ
+lines rates [] = []
+lines rates (r ∷ rs) = line rates r ++ lines rates rs
 
 -- how many are in range
 abbrev pub goods : List Star → ℕ
@@ -54,8 +55,9 @@ heading n = starsWord ++ (decimalText n ++ (lineEnd ∷ []))
 unfoldable pub footing : ℕ → ℕ → List ℕ
 footing good bad = goodWord ++ (decimalText good ++ (badWord ++ (decimalText bad ++ (lineEnd ∷ []))))
 
+unfoldable pub sheetIn : Bool → List Star → List ℕ
+sheetIn rates rs = heading (length rs) ++ (lines rates rs ++ footing (goods rs) (length rs - goods rs))
+
+-- of the stars that are kept: an empty place has no line, and none of the three numbers counts it
 unfoldable pub sheetOf : Bool → List ℕ → List ℕ
-sheetOf rates s =
-    cond (isList s)
-    (heading (countOf s) ++ (texts (countOf s) (lineAt rates s) ++ footing (goods (stars s)) (countOf s - goods (stars s))))
-    (refusedText 8)
+sheetOf rates s = cond (isList s) (sheetIn rates (kept (stars s))) (refusedText 8)
