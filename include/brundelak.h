@@ -482,6 +482,15 @@ uint8_t brundelak_precess_orb_elements(double old_inc, double old_arg_perih, dou
  * Refusals:  1, 2 */
 uint8_t brundelak_nutation(double day, double *nut_in_long, double *nut_in_oblq);
 
+/* A ceiling on nutation: the most, in size, that brundelak_nutation can answer on the day, for an error budget. It does
+ * not fall as the day's distance from 2451545.0 grows: the ceiling of the farthest day bounds every day. It bounds this
+ * nutation, and says nothing of that nutation's distance from the sky's.
+ * Given:     day            Julian day
+ * Returned:  long_ceiling   ceiling on nutation in longitude
+ *            oblq_ceiling   ceiling on nutation in obliquity
+ * Refusals:  1, 2 */
+uint8_t brundelak_nutation_ceiling(double day, double *long_ceiling, double *oblq_ceiling);
+
 /* Nutation in equatorial coordinates.
  * Given:     asc, dec                   right ascension, declination (size at most 1.57)
  *            nut_in_long, nut_in_oblq   nutation in longitude, in obliquity

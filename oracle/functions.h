@@ -24,7 +24,7 @@ typedef uint8_t call(const double *a, double *const *o);
     F(alt_frm_eq, A3, O1) F(hr_angl_frm_hz, A3, O1) F(dec_frm_hz, A3, O1) F(gal_long_frm_eq, A2, O1) \
     F(gal_lat_frm_eq, A2, O1) F(asc_frm_gal, A2, O1) F(annual_precess, A3, O2) F(precess_eq_coords, A4, O2) \
     F(precess_eq_coords_fk5, A4, O2) F(precess_ecl_coords, A4, O2) F(precess_orb_elements, A5, O3) \
-    F(nutation, A1, O2) F(nutation_in_eq_coords, A5, O2) F(sol_aberr, A1, O1) \
+    F(nutation, A1, O2) F(nutation_ceiling, A1, O2) F(nutation_in_eq_coords, A5, O2) F(sol_aberr, A1, O1) \
     F(stell_aberr_in_eq_coords, A3, O2) F(eq_hz_parallax, A1, O1) F(topocent_eq_coords, A7, O2) \
     F(topopcent_ecl_coords, A9, O3) F(chain, A4, O2) F(dec_frm_hz_published, A3, O1) \
     F(precess_eq_coords_published, A4, O2) F(precess_eq_coords_fk5_published, A4, O2) \

@@ -1,6 +1,7 @@
 //! Every function compared: the sorts of its arguments, the port's call, and what it must answer.
 //! The Rust's modules go by the routed text; what no Rust is supplied for goes by `written`.
 use atmos::{self, by_library, by_rules};
+use ceiling;
 use own;
 use port::{self, Lent};
 use published::{self, OWN, WRITTEN};
@@ -205,6 +206,7 @@ pub fn all() -> Vec<Function> {
         },
 
         function!(rust brundelak_nutation [Day] (1, 2) |a| pair(nutation::nutation(a[0]))),
+        function!(rule brundelak_nutation_ceiling [Day] (1, 2) |a| Answer(ceiling::ceiling(a[0])), ceiling::ceiling(a[0])),
         function!(rust brundelak_nutation_in_eq_coords [Angle, Steep, Angle, Angle, Angle] (1, 3, 4)
             |a| pair(nutation::nutation_in_eq_coords(&coords::EqPoint { asc: a[0], dec: a[1] }, a[2], a[3], a[4]))),
 

@@ -9,6 +9,7 @@ extern crate astro_routed as routed;
 
 mod aimed;
 mod atmos;
+mod ceiling;
 mod edits;
 mod functions;
 mod inputs;

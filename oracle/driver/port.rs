@@ -52,6 +52,7 @@ exported! {
     brundelak_precess_ecl_coords(x, y, z, u)(a, b);
     brundelak_precess_orb_elements(x, y, z, u, v)(a, b, c);
     brundelak_nutation(x)(a, b);
+    brundelak_nutation_ceiling(x)(a, b);
     brundelak_nutation_in_eq_coords(x, y, z, u, v)(a, b);
     brundelak_sol_aberr(x)(a);
     brundelak_stell_aberr_in_eq_coords(x, y, z)(a, b);

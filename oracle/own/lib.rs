@@ -11,6 +11,8 @@ pub mod aberr;
 pub mod coords;
 #[path = "../../target/oracle/own/nutation.rs"]
 pub mod nutation;
+/// The text of the table of nutation, for the ceiling on it.
+pub const NUTATION: &str = include_str!("../../target/oracle/own/nutation.rs");
 #[path = "../../target/oracle/own/parallax.rs"]
 pub mod parallax;
 #[path = "../../target/oracle/own/precess.rs"]

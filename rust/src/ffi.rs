@@ -55,6 +55,7 @@ boundary! {
     brundelak_precess_ecl_coords precess_ecl_coords(long, lat, day1, day2) -> (a, b);
     brundelak_precess_orb_elements precess_orb_elements(inc, perih, node, day1, day2) -> (a, b, c);
     brundelak_nutation nutation(day) -> (a, b);
+    brundelak_nutation_ceiling nutation_ceiling(day) -> (a, b);
     brundelak_nutation_in_eq_coords nutation_in_eq_coords(asc, dec, long, oblq, tru) -> (a, b);
     brundelak_sol_aberr sol_aberr(dist) -> (a);
     brundelak_stell_aberr_in_eq_coords stell_aberr_in_eq_coords(asc, dec, day) -> (a, b);

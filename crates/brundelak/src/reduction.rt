@@ -7,6 +7,7 @@ ghost use Rattle.precess.specs.rules.Equatorial.{precessEqCoordsRule, precessEq
 ghost use Rattle.precess_ecl.specs.rules.Ecliptic.{precessEclCoordsRule};
 ghost use Rattle.precess_ecl.specs.rules.Orbit.{precessOrbElementsRule};
 ghost use Rattle.nutation.specs.rules.Day.{nutationRule};
+ghost use Rattle.nutation_ceiling.specs.rules.Ceiling.{nutationCeilingRule};
 ghost use Rattle.nutation.specs.rules.Point.{nutationInEqCoordsRule};
 ghost use Rattle.aberr.specs.rules.Sun.{solAberrRule};
 ghost use Rattle.aberr.specs.rules.Star.{stellAberrInEqCoordsRule};
@@ -134,6 +135,23 @@ pub extern "C" fn brundelak_nutation(day: f64, nut_in_long: &mut u64, nut_in_obl
         (now («nut_in_oblq» .exit)) ⌝ }
 {
     hand_two(nutation::nutation(day), nut_in_long, nut_in_oblq)
+}
+
+// The most, in size, that each can be on a day. Refusals: 1; 2.
+#[no_mangle]
+pub extern "C" fn brundelak_nutation_ceiling(
+    day: f64,
+    long_ceiling: &mut u64,
+    oblq_ceiling: &mut u64,
+) -> u8
+    ensures { λ n. ⌜ HandedTwo (nutationCeilingRule day) n (now («long_ceiling» .entry)) (now («oblq_ceiling» .entry))
+        (now («long_ceiling» .exit)) (now («oblq_ceiling» .exit)) ⌝ }
+{
+    hand_two(
+        nutation_ceiling::nutation_ceiling(day),
+        long_ceiling,
+        oblq_ceiling,
+    )
 }
 
 // Nutation in right ascension and declination. Refusals: 1; 3; 4.

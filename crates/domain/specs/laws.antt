@@ -17,6 +17,7 @@ pub mod Ranges
 pub mod NutationArguments
 pub mod NutationSum
 pub mod NutationPoint
+pub mod Ceiling
 pub mod SunAberration
 pub mod AberrationSum
 pub mod StarAberration

@@ -7,6 +7,7 @@ pub mod Pole
 pub mod Precession
 pub mod Ranges
 pub mod Nutation
+pub mod Ceiling
 pub mod Aberration
 pub mod Transit
 pub mod Wrong

@@ -9,15 +9,15 @@ use quantity::Rad;
 
 // How often D, M, M', F and Ω enter the argument; the coefficients of longitude and of obliquity, each with its slow part.
 pub struct Row(
-    pub i8,
-    pub i8,
-    pub i8,
-    pub i8,
-    pub i8,
     pub i32,
     pub i32,
     pub i32,
-    pub i16,
+    pub i32,
+    pub i32,
+    pub i32,
+    pub i32,
+    pub i32,
+    pub i32,
 );
 
 // The century t, and at it the five arguments, each folded into one turn of degrees first.

@@ -1,7 +1,6 @@
 -- `aberr_args::y_terms` meets its contract.
 use borrow.Author.Needs.{needs}
-use mir.Syntax.{w32}
-use Rattle.aberr_args.proofs.Columns.{as-read}
+use Rattle.signed.specs.laws.Signed.{signed-word}
 use Rattle.aberr_args.proofs.y_terms.Statement.{statement}
 use Rattle.aberr_args.proofs.y_terms.Tie as tie
 
@@ -25,10 +24,10 @@ returns c =
     let row = c .before .before .struct-told3 .given .1 .1 .1 .1 .1 .1 .1 .1 .1 .1 in
     let parts = c .struct-told4 .given .1 .1 .1 .1 .1 .1 .1 .1 .1 .1 in
     rw (
-      as-read w32 (x .10) (row .0 .1),
-      as-read w32 (q .10) (parts .0 .1),
-      as-read w32 (x .11) (row .1 .0 .1),
-      as-read w32 (q .11) (parts .1 .0 .1),
+      signed-word (x .10) (row .0 .1),
+      signed-word (q .10) (parts .0 .1),
+      signed-word (x .11) (row .1 .0 .1),
+      signed-word (q .11) (parts .1 .0 .1),
     )
 
 pub y-terms-spec : {M : Type 1} → statement M

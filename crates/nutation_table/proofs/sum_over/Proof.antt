@@ -6,22 +6,24 @@ use mathlib.Core.List.{List}
 use Prim.Native.Nat.{ℕ, _+_, _-_, _≤_, _<_}
 use native.Mathlib.Omega.{arith}
 use native.Mathlib.Numerals.{add-one}
+use lib.IntN.{ℤ}
 use lib.ListN.{length, getD, drop}
 use lib.Seq.{drop-cons, drop-length}
-use Rattle.nutation_args.specs.declared.Row.{Row}
 use Rattle.nutation_args.specs.declared.Moon.{Moon}
 use Rattle.nutation_args.specs.declared.Sums.{Sums}
 use Rattle.nutation_args.specs.rules.Sum.{summed, withRow}
+use Rattle.nutation_table.specs.rules.Rows.{rowOf, rowsOf}
 use Rattle.nutation_table.proofs.sum_over.Statement.{statement}
 use Rattle.nutation_table.proofs.sum_over.Tie as tie
 
 -- one row more
-next : (xs : List Row) (i : ℕ) (d : Row) (a : Moon) (s : Sums) → i < length xs → summed (drop (i + 1) xs) a (withRow (getD xs i d) a s) ≡ summed (drop i xs) a s
+next : (xs : List (List ℤ)) (i : ℕ) (d : List ℤ) (a : Moon) (s : Sums) → i < length xs
+    → summed (rowsOf (drop (i + 1) xs)) a (withRow (rowOf (getD xs i d)) a s) ≡ summed (rowsOf (drop i xs)) a s
 unfolding summed
 next xs i d a s h = rw (drop-cons xs i d, add-one)
 
 abbrev Inv-loop : tie.InvT-loop
-Inv-loop a table s₀ i₀ s i = (i ≤ length table) × (summed (drop i table) a s ≡ summed table a s₀) × (length table ≡ 63)
+Inv-loop a table s₀ i₀ s i = (i ≤ length table) × (summed (rowsOf (drop i table)) a s ≡ summed (rowsOf table) a s₀) × (length table ≡ 63)
 
 abbrev μ-loop : tie.MeasureT-loop
 μ-loop a table s₀ i₀ s i = 63 - i
@@ -29,11 +31,14 @@ abbrev μ-loop : tie.MeasureT-loop
 loop-holds : tie.Need-loop-holds Inv-loop μ-loop
 loop-holds c = (omega arith, refl, c .good .0 .1 .0 .1)
 
-mul-with-row : tie.Need-mul-with-row Inv-loop μ-loop
-mul-with-row c = search needs
+mul-row-of : tie.Need-mul-row-of Inv-loop μ-loop
+mul-row-of c = search needs
 
-array-copy-out-with-row : tie.Need-array-copy-out-with-row Inv-loop μ-loop
-array-copy-out-with-row c = search needs
+array-copy-out-row-of : tie.Need-array-copy-out-row-of Inv-loop μ-loop
+array-copy-out-row-of c = search needs
+
+row-of-requires : tie.Need-row-of-requires Inv-loop μ-loop
+row-of-requires c κs = search needs
 
 with-row-requires : tie.Need-with-row-requires Inv-loop μ-loop
 with-row-requires c κs = search needs
@@ -46,10 +51,11 @@ loop-less c = omega arith
 
 loop-again : tie.Need-loop-again Inv-loop μ-loop
 loop-again c =
-    let inv = c .before .before .before .loop .inv in
-    let table = c .before .before .before .before .args .t1 in
-    let inside : c .before .before .before .loop .i < length table = omega (arith, inv .2) in
-    (omega (arith, inv .2), rw (c .with-row .ensures) (next _ _ _ _ _ inside ∙ inv .1), inv .2)
+    let at = c .before .before .before .before in
+    let inv = at .loop .inv in
+    let table = at .before .args .t1 in
+    let inside : at .loop .i < length table = omega (arith, inv .2) in
+    (omega (arith, inv .2), rw (c .with-row .ensures, c .before .row-of .ensures) (next _ _ _ _ _ inside ∙ inv .1), inv .2)
 
 returns : tie.Need-returns Inv-loop μ-loop
 unfolding summed
@@ -66,8 +72,9 @@ sum-over-spec =
     Inv-loop
     μ-loop
     loop-holds
-    mul-with-row
-    array-copy-out-with-row
+    mul-row-of
+    array-copy-out-row-of
+    row-of-requires
     with-row-requires
     add-i
     loop-less

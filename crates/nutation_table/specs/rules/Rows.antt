@@ -2,6 +2,7 @@
 -- the coefficients of longitude and of obliquity, each with its slow part. p is plus, m is minus.
 use mathlib.Core.List.{List, [], _∷_}
 use Prim.Native.Nat.{ℕ}
+use lib.ListN.{getD}
 use lib.IntN.{ℤ, pos, negℤ}
 use Rattle.nutation_args.specs.declared.Row.{Row}
 
@@ -11,12 +12,11 @@ p n = pos n
 abbrev m : ℕ → ℤ
 m n = negℤ (pos n)
 
-abbrev row : ℤ → ℤ → ℤ → ℤ → ℤ → ℤ → ℤ → ℤ → ℤ → Row
-row d m m1 f om long slowLong oblq slowOblq =
-    record { 0 = d; 1 = m; 2 = m1; 3 = f; 4 = om; 5 = long; 6 = slowLong; 7 = oblq; 8 = slowOblq }
+abbrev row : ℤ → ℤ → ℤ → ℤ → ℤ → ℤ → ℤ → ℤ → ℤ → List ℤ
+row d m m1 f om long slowLong oblq slowOblq = d ∷ m ∷ m1 ∷ f ∷ om ∷ long ∷ slowLong ∷ oblq ∷ slowOblq ∷ []
 
-abbrev pub rows : List Row
-rows =
+abbrev pub table : List (List ℤ)
+table =
     row (p 0) (p 0) (p 0) (p 0) (p 1) (m 171996) (m 1742) (p 92025) (p 89)
     ∷ row (m 2) (p 0) (p 0) (p 2) (p 2) (m 13187) (m 16) (p 5736) (m 31)
     ∷ row (p 0) (p 0) (p 0) (p 2) (p 2) (m 2274) (m 2) (p 977) (m 5)
@@ -81,3 +81,25 @@ rows =
     ∷ row (p 0) (p 0) (p 3) (p 2) (p 2) (m 3) (p 0) (p 0) (p 0)
     ∷ row (p 2) (m 1) (p 0) (p 2) (p 2) (m 3) (p 0) (p 0) (p 0)
     ∷ []
+
+-- a row by its nine numbers
+abbrev pub rowOf : List ℤ → Row
+rowOf x =
+    record {
+      0 = getD x 0 (pos 0);
+      1 = getD x 1 (pos 0);
+      2 = getD x 2 (pos 0);
+      3 = getD x 3 (pos 0);
+      4 = getD x 4 (pos 0);
+      5 = getD x 5 (pos 0);
+      6 = getD x 6 (pos 0);
+      7 = getD x 7 (pos 0);
+      8 = getD x 8 (pos 0);
+    }
+
+abbrev pub rowsOf : List (List ℤ) → List Row
+rowsOf [] = []
+rowsOf (x ∷ xs) = rowOf x ∷ rowsOf xs
+
+abbrev pub rows : List Row
+rows = rowsOf table
