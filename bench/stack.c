@@ -291,13 +291,33 @@ static void gather(void)
         AT(gather)(holed, less(list_len, 1 - i));
 }
 
+/* A night measured where it is computed, and beside it; a float that is refused; slices of unequal lengths. */
+static void residuals(void)
+{
+    static const double last[] = {0.5, 65.0, 1.0 / 0.0};
+    static uint8_t all[STARS];
+    static double measured[STARS];
+    int64_t sheets[2][BRUNDELAK_FIGURES];
+    size_t n = list_len / WIDTH;
+    for (size_t i = 0; i < STARS; i++) {
+        ascs[i] = 6.28 - 0.002 * (double)i;
+        decs[i] = -1.5 + 0.001 * (double)i;
+        measured[i] = decs[i] + 0.000001 * (double)i;
+    }
+    for (size_t k = 0; k < sizeof last / sizeof *last; k++) {
+        measured[n == 0 ? 0 : n - 1] = last[k];
+        AT(residuals)(all, n, ascs, n, decs, n, ascs, n, measured, n, sheets[0], sheets[1]);
+        AT(residuals)(all, n, measured, n, decs, less(n, k), ascs, n, measured, n, sheets[0], sheets[1]);
+    }
+}
+
 #define LISTED(name, by) {#name, (any_function *)brundelak_##name, by}
 static const struct { const char *name; any_function *f; void (*by)(void); } listed[] = {
     LISTED(batch, batch), LISTED(batch_published, batch), LISTED(tally_raise, tally_raise), LISTED(star, star), LISTED(put_star, put_star),
     LISTED(find, find), LISTED(radio_open, radio_open), LISTED(radio_star, radio_star), LISTED(radio_accept, radio_accept),
     LISTED(radio_put_head, radio_put_head), LISTED(radio_put_star, radio_put_star), LISTED(radio_to_list, radio_to_list),
     LISTED(list_to_radio, list_to_radio), LISTED(list_12_to_20, list_12_to_20), LISTED(list_20_to_12, list_20_to_12),
-    LISTED(strike, strike), LISTED(add, add), LISTED(gather, gather)};
+    LISTED(strike, strike), LISTED(add, add), LISTED(gather, gather), LISTED(residuals, residuals)};
 
 enum { LISTED_COUNT = sizeof listed / sizeof *listed };
 

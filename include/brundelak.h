@@ -14,7 +14,7 @@
  *        every finite number); a declination, altitude, observer or frame latitude exceeds a quarter turn
  *        (1.5707963267948966) in size; for sine, cosine and tangent called alone: exceeds 400000.0; of refraction: an
  *        altitude outside 0.0 to 89.8 degrees; of a star in a batch: its declination, shifted by its rate, exceeds a quarter
- *        turn
+ *        turn; of residuals: any angle, a declination too, exceeds 64.0
  *    4   an angle that goes into a tangent, or whose cosine divides, exceeds 1.57 in size
  *    5   a distance outside 0.0001 to 1000000.0 AU, a height outside -1000.0 to 100000.0 m, the root of a number below 0
  *    6   the sine of the new inclination, or N in topopcent_ecl_coords, is zero; in topopcent_ecl_coords_published also the
@@ -24,7 +24,8 @@
  *        more than 36000; a slice lent to a batch shorter than the list has records; a place past the end of the list or not
  *        at a record's start (the end itself is accepted); a record to be written elsewhere than at one of a list's 3000
  *        record starts, or without room; a count to be raised already at 60000; a star count of a radio list above 3000; a
- *        slice too short for a radio list, a part of one or the list of one, or for a list of the other width
+ *        slice too short for a radio list, a part of one or the list of one, or for a list of the other width; slices of
+ *        residuals that have unequal lengths, or more than 3000 entries
  *    9   a star record out of range; a star to be added whose number is 0; a status given to the tally that is neither 0 nor
  *        a number of this table (before 8)
  *   10   no star has the number sought or to be struck, as none has number 0; of a record in a batch: an empty place
@@ -37,7 +38,8 @@
  *   17   a star's rate is not zero, and a narrow list, to which it is to move down, has no rates
  *   18   a star to be added has the number of a record of the list, in range or not
  *   19   no place of the list is empty, so that no star can be added
- * 1 to 5 are tested first, lowest number first, over all arguments; the others as the work meets them.
+ * 1 to 5 are tested first, lowest number first, over all arguments; the others as the work meets them. Residuals alone have
+ * 8 before 1 and 3.
  * Limits themselves are accepted.
  *
  * Units: angles in radians, unless degrees are named; days are Julian (Ephemeris) days; distances in astronomical units;
@@ -107,6 +109,15 @@ uint32_t brundelak_version(void);
 #define BRUNDELAK_COUNTS 20
 #define BRUNDELAK_FULLEST 60000
 #define BRUNDELAK_HIGHEST_STATUS 19
+
+/* The residual sheet of a coordinate: how many numbers it has, and which they are. */
+#define BRUNDELAK_FIGURES 6
+#define BRUNDELAK_FIGURE_COUNT 0
+#define BRUNDELAK_FIGURE_SUM 1
+#define BRUNDELAK_FIGURE_SQUARES 2
+#define BRUNDELAK_FIGURE_LARGEST 3
+#define BRUNDELAK_FIGURE_PLACE 4
+#define BRUNDELAK_FIGURE_ASIDE 5
 
 /* What brundelak_float_environment finds wrong. */
 #define BRUNDELAK_ENVIRONMENT_ROUNDING 1
@@ -697,6 +708,36 @@ uint8_t brundelak_batch_published(const uint8_t *bytes, uint64_t len, double day
  * Returned:  tally    the count of that status raised by one
  * Refusals:  9 for a status that is not known, then 8 for a count that is full, 60000; the counts stay unchanged */
 uint8_t brundelak_tally_raise(uint8_t status, uint32_t *tally);
+
+/* ---- the residuals of a night ------------------------------------------------------------------------------------
+ * A residual is a computed angle less the measured one, as a whole number of milliarcseconds. In right ascension the
+ * difference is taken across the turn: folded as by brundelak_limit_to_two_pi, then less a turn where it exceeds half of one,
+ * so that 359 degrees less 1 degree is -2 degrees; it is of the coordinate itself, not times cos declination. The difference
+ * times the double 180/PI, then times 3600000, is rounded to the nearest whole number, halves away from zero. A residual that
+ * exceeds 1000000 in size, once rounded, is set aside: counted as such, and in no other figure. Each coordinate stands by
+ * itself: of an entry one residual may be set aside and the other not. */
+
+/* The residual sheet of each coordinate, over all entries of status 0.
+ * Given:     status, status_len               a byte for each entry: any byte, and those of status 0 alone are taken in
+ *            asc, asc_len                     computed right ascensions, radians, and
+ *            dec, dec_len                     declinations, as brundelak_batch leaves them
+ *            measured_asc, measured_asc_len   the measured ones, radians
+ *            measured_dec, measured_dec_len   likewise
+ *            all five slices have one length, at most 3000: of longer ones that a batch was lent, give the list's records alone
+ * Returned:  asc_sheet, dec_sheet             BRUNDELAK_FIGURES numbers each, of the residuals taken in: their count, sum,
+ *                                             sum of squares, the largest size, the first place that has it; then how many
+ *                                             were set aside. A place counts entries, of any status, from 0: it is the index
+ *                                             in the slices. Largest size and place are 0 and 0 where none is taken in; where
+ *                                             all are 0, the place is that of the first taken in
+ * Refusals:  8 (unequal lengths, or more than 3000 entries), then 1 (a number is NaN or infinite), then 3 (one exceeds 64.0
+ *            in size), over all four slices of angles, at entries of any status; both sheets stay unchanged
+ * Note:      all numbers are exact: a sum is at most 3000000000 in size, a sum of squares at most 3000000000000000. The
+ *            sheet of a night in two parts is the sum of count, sum, squares and set aside of its parts, with the larger
+ *            largest; the second's place is moved on by the first's length, and of equal sizes the lower place stays. */
+uint8_t brundelak_residuals(const uint8_t *status, uint64_t status_len, const double *asc, uint64_t asc_len,
+                            const double *dec, uint64_t dec_len, const double *measured_asc, uint64_t measured_asc_len,
+                            const double *measured_dec, uint64_t measured_dec_len, int64_t *asc_sheet,
+                            int64_t *dec_sheet);
 
 /* ---- a list edited where it stands -------------------------------------------------------------------------------
  * None of the three changes a list's length: places for stars to come are laid as zero bytes, and zero bytes alone are a list

@@ -1,4 +1,4 @@
-/* Fourteen functions, each put in the place of the archive's by the linker, with one slip of the boundary: fuzz must report each. */
+/* Fifteen functions, each put in the place of the archive's by the linker, with one slip of the boundary: fuzz must report each. */
 #include "brundelak.h"
 
 /* A NaN tidied, any other number kept: made quiet, made the one without sign and payload, or its sign taken away. */
@@ -30,6 +30,12 @@ uint8_t __real_brundelak_list_20_to_12(const uint8_t *bytes, uint64_t len, uint8
 uint8_t __real_brundelak_strike(uint8_t *bytes, uint64_t len, uint32_t number);
 uint8_t __real_brundelak_add(uint8_t *bytes, uint64_t len, uint32_t number, uint32_t asc, int32_t dec, int32_t asc_rate, int32_t dec_rate);
 uint8_t __real_brundelak_gather(uint8_t *bytes, uint64_t len);
+uint8_t __real_brundelak_residuals(const uint8_t *status, uint64_t status_len, const double *asc, uint64_t asc_len, const double *dec,
+                                   uint64_t dec_len, const double *measured_asc, uint64_t measured_asc_len, const double *measured_dec,
+                                   uint64_t measured_dec_len, int64_t *asc_sheet, int64_t *dec_sheet);
+uint8_t __wrap_brundelak_residuals(const uint8_t *status, uint64_t status_len, const double *asc, uint64_t asc_len, const double *dec,
+                                   uint64_t dec_len, const double *measured_asc, uint64_t measured_asc_len, const double *measured_dec,
+                                   uint64_t measured_dec_len, int64_t *asc_sheet, int64_t *dec_sheet);
 uint8_t __wrap_brundelak_radio_star(const uint8_t *bytes, uint64_t len, uint64_t place, uint32_t *number, uint32_t *asc, int32_t *dec,
                                     int32_t *asc_rate, int32_t *dec_rate, uint64_t *next);
 uint8_t __wrap_brundelak_radio_to_list(const uint8_t *bytes, uint64_t len, uint8_t *out, uint64_t out_len, uint64_t *written);
@@ -307,4 +313,31 @@ uint8_t __wrap_brundelak_gather(uint8_t *bytes, uint64_t len)
         bytes[len] = 0;
 #endif
     return status;
+}
+
+uint8_t __wrap_brundelak_residuals(const uint8_t *status, uint64_t status_len, const double *asc, uint64_t asc_len, const double *dec,
+                                   uint64_t dec_len, const double *measured_asc, uint64_t measured_asc_len, const double *measured_dec,
+                                   uint64_t measured_dec_len, int64_t *asc_sheet, int64_t *dec_sheet)
+{
+    uint8_t status_of = __real_brundelak_residuals(status, status_len, asc, asc_len, dec, dec_len, measured_asc, measured_asc_len,
+                                                   measured_dec, measured_dec_len, asc_sheet, dec_sheet);
+#if SLIP == 41 /* a refusal that writes */
+    if (status_of == 3)
+        dec_sheet[0] = 0;
+#elif SLIP == 42 /* a number too many */
+    if (status_of == 0)
+        asc_sheet[BRUNDELAK_FIGURES] = 0;
+#elif SLIP == 43 /* a longer slice read to its end */
+    if (status_of == 8 && status_len < asc_len && ((const volatile uint8_t *)status)[asc_len - 1] == 1)
+        return 0;
+#elif SLIP == 44 /* the place counted over the entries of status 0 */
+    if (status_of == 0)
+        for (int64_t i = asc_sheet[BRUNDELAK_FIGURE_PLACE]; i > 0; i--)
+            asc_sheet[BRUNDELAK_FIGURE_PLACE] -= status[i - 1] != 0;
+#elif SLIP == 45 /* 3 before 1 */
+    for (uint64_t i = 0; status_of == 1 && i < dec_len; i++)
+        if (dec[i] > 64.0)
+            return 3;
+#endif
+    return status_of;
 }

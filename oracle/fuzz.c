@@ -148,7 +148,7 @@ static int kept_beyond(const struct room *r, size_t len)
 
 /* Of the words the first are a star's fields, in a record's order; the last is the place after it. */
 enum { NEXT = WORDS };
-static struct room places[3], bytes, slice, back, statuses, ascs, decs, tally, words[NEXT + 1];
+static struct room places[3], bytes, slice, back, statuses, ascs, decs, seen_ascs, seen_decs, tally, sheets[2], words[NEXT + 1];
 
 /* ---- what is told where a call is unsound ---- */
 
@@ -175,8 +175,9 @@ static void fault(int signal)
 
 /* ---- calls ---- */
 
-/* star, find, both batches, tally_raise, put_star, those of radio lists, the moves and the edits stand behind the functions of numbers. */
-enum { KINDS = FUNCTION_COUNT + 18 };
+/* star, find, both batches, tally_raise, put_star, those of radio lists, the moves, the edits and the residuals stand behind the functions of
+ * numbers. */
+enum { KINDS = FUNCTION_COUNT + 19 };
 static uint64_t answered[KINDS], refused[KINDS], unsound;
 static size_t which;
 
@@ -845,6 +846,80 @@ static void gather(void)
     judge(status, status == (bad_list(len) ? 8 : 0) && done);
 }
 
+/* ---- the residuals of a night ---- */
+
+/* Bytes of a sheet. */
+enum { SHEET = sizeof(int64_t[BRUNDELAK_FIGURES]) };
+
+/* So many angles near one another, or up to 64; spoilt, some of any bits, about one or many. The least refusal of 1 and 3 among them, 0 where
+ * there is none. */
+static uint8_t angles(struct room *r, size_t count, int spoilt)
+{
+    static const double ends[] = {64.0, -64.0, 6.283185307179586, 3.141592653589793, 0.0, -0.0};
+    double *to = lend(r, 8 * count);
+    size_t among = drawn_below(2) ? count : 3;
+    uint8_t refusal = 0;
+    for (size_t i = 0; i < count; i++) {
+        double part = (double)(drawn_bits() >> 11) / 9007199254740992.0 - 0.5;
+        size_t by = drawn_below(8);
+        double x = by == 0 ? 128.0 * part : by == 1 ? ends[drawn_below(6)] : 1.0 + 0.008 * part;
+        if (spoilt && drawn_below(among) == 0)
+            x = any_double();
+        memcpy(to + i, &x, sizeof x);
+        uint8_t one = !isfinite(x) ? 1 : x > 64.0 || x < -64.0 ? 3 : 0;
+        refusal = one != 0 && (refusal == 0 || one < refusal) ? one : refusal;
+    }
+    given(r);
+    return refusal;
+}
+
+/* Whether six numbers can be the sheet of a night. */
+static int is_sheet(const struct room *r, size_t entries, size_t of_status_0)
+{
+    int64_t of[BRUNDELAK_FIGURES];
+    memcpy(of, r->at, sizeof of);
+    int64_t count = of[0], sum = of[1], squares = of[2], largest = of[3], place = of[4], aside = of[5];
+    if (count < 0 || aside < 0 || (size_t)(count + aside) != of_status_0 || largest < 0 || largest > 1000000 || !kept_beyond(r, SHEET))
+        return 0;
+    if (count == 0)
+        return sum == 0 && squares == 0 && largest == 0 && place == 0;
+    return place >= 0 && (size_t)place < entries && statuses.at[place] == 0 && squares >= largest * largest && squares <= count * largest * largest
+        && sum <= count * largest && sum >= -count * largest && sum * sum <= count * squares && (sum - squares) % 2 == 0;
+}
+
+static void residuals(void)
+{
+    name = "residuals";
+    struct room *const of[4] = {&ascs, &decs, &seen_ascs, &seen_decs};
+    size_t entries = any_count(), unequal = drawn_below(8) == 0 ? drawn_below(5) : 5, spoilt = drawn_below(4) == 0 ? drawn_below(5) : 5, zeros = 0;
+    size_t lens[5];
+    for (size_t i = 0; i < 5; i++)
+        lens[i] = i == unequal ? drawn_below(entries + 4) : entries;
+    uint8_t *status_of = lend(&statuses, lens[4]), floats = 0;
+    for (size_t i = 0; i < lens[4]; i++) {
+        status_of[i] = drawn_below(4) == 0 ? (uint8_t)drawn_bits() : 0;
+        zeros += status_of[i] == 0;
+    }
+    given(&statuses);
+    for (size_t i = 0; i < 4; i++) {
+        uint8_t one = angles(of[i], lens[i], i == spoilt || spoilt == 4);
+        floats = one != 0 && (floats == 0 || one < floats) ? one : floats;
+    }
+    for (size_t i = 0; i < 2; i++)
+        lend(&sheets[i], SHEET);
+    uint8_t status = brundelak_residuals(status_of, lens[4], (double *)ascs.at, lens[0], (double *)decs.at, lens[1], (double *)seen_ascs.at,
+                                         lens[2], (double *)seen_decs.at, lens[3], (int64_t *)sheets[0].at, (int64_t *)sheets[1].at);
+    int unlike = lens[4] > BRUNDELAK_MOST_STARS;
+    for (size_t i = 0; i < 5; i++)
+        unlike |= lens[i] != lens[4];
+    int sound = status == (unlike ? 8 : floats) && kept(&statuses);
+    for (size_t i = 0; i < 4; i++)
+        sound &= kept(of[i]);
+    for (size_t i = 0; i < 2; i++)
+        sound &= status == 0 ? is_sheet(&sheets[i], entries, zeros) : kept(&sheets[i]);
+    judge(status, sound);
+}
+
 /* ---- the guard is tried first ---- */
 
 enum { SEEN = 3 };
@@ -904,14 +979,18 @@ int main(int argc, char **argv)
     make(&statuses, MANY);
     make(&ascs, sizeof(double) * MANY);
     make(&decs, sizeof(double) * MANY);
+    make(&seen_ascs, sizeof(double) * MANY);
+    make(&seen_decs, sizeof(double) * MANY);
     make(&tally, TALLY);
+    for (size_t i = 0; i < 2; i++)
+        make(&sheets[i], SHEET);
     try_the_guard();
     signal(SIGSEGV, fault);
     signal(SIGBUS, fault);
     signal(SIGFPE, fault);
     static void (*const others[KINDS - FUNCTION_COUNT])(void) = {
         star, find, batch, batch_published, tally_raise, put_star, radio_open, radio_star, radio_accept, radio_put_head, radio_put_star,
-        radio_to_list, list_to_radio, list_12_to_20, list_20_to_12, strike, add, gather};
+        radio_to_list, list_to_radio, list_12_to_20, list_20_to_12, strike, add, gather, residuals};
     for (at_call = 0; at_call < calls; at_call++) {
         which = drawn_below(KINDS);
         memset(args, 0, sizeof args);

@@ -263,6 +263,36 @@ static unsigned edited(const char *name)
     return agrees ? status : 999;
 }
 
+/* ---- residuals ---- */
+
+/* Numbers of a sheet that no call leaves. */
+static const int64_t UNTOUCHED_FIGURE = 0x5AA55AA55AA55AA5;
+
+static unsigned residuals(void)
+{
+    uint8_t statuses[ROOM];
+    double angles[4][ROOM];
+    int64_t sheets[2][BRUNDELAK_FIGURES], want[2][BRUNDELAK_FIGURES];
+    uint64_t lens[5];
+    for (size_t i = 0; i < 5; i++)
+        if ((lens[i] = (uint64_t)whole()) > ROOM)
+            return 999;
+    if (read_bytes(strtok(NULL, " \n"), statuses, ROOM) != lens[0])
+        return 999;
+    for (size_t k = 0; k < 4; k++)
+        for (size_t i = 0; i < lens[1 + k]; i++)
+            angles[k][i] = number(strtok(NULL, " \n"));
+    unsigned status = (unsigned)whole();
+    for (size_t k = 0; k < 2; k++)
+        for (size_t i = 0; i < BRUNDELAK_FIGURES; i++) {
+            sheets[k][i] = UNTOUCHED_FIGURE;
+            want[k][i] = status == 0 ? (int64_t)whole() : UNTOUCHED_FIGURE;
+        }
+    int agrees = brundelak_residuals(statuses, lens[0], angles[0], lens[1], angles[1], lens[2], angles[2], lens[3], angles[3], lens[4],
+                                     sheets[0], sheets[1]) == status;
+    return agrees && memcmp(sheets, want, sizeof want) == 0 ? status : 999;
+}
+
 /* ---- a sample of the days of 12-byte records ---- */
 
 enum { OLD = 12 };
@@ -401,6 +431,8 @@ int main(int argc, char **argv)
             status = written(word);
         } else if (strcmp(word, "strike") == 0 || strcmp(word, "add") == 0 || strcmp(word, "gather") == 0) {
             status = edited(word);
+        } else if (strcmp(word, "residuals") == 0) {
+            status = residuals();
         } else {
             size_t given_count = numbers(word, given, 9);
             word = strtok(NULL, " \n");

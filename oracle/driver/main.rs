@@ -1,6 +1,6 @@
 //! Compares the port with the supplied Rust.
 //!   driver compare N      N calls a function, bit for bit, refusals against section 5's table
-//!   driver lists N        of these the calls on lists alone
+//!   driver lists N        of these the calls on lists and nights alone
 //!   driver fuzz N         N calls in all, any bits at every function: it ends, and writes what it answers and nothing else
 //!   driver gaps N         the widest gap between the port and Rust's own library functions, as a table
 //!   driver sample N       what the Rust answers to some of N calls a function of each kind, a line for each
@@ -18,6 +18,7 @@ mod port;
 mod published;
 mod put;
 mod radio;
+mod residuals;
 mod table;
 mod transit;
 mod widths;
@@ -169,7 +170,7 @@ fn compare(n: u64) -> bool {
 
 /// Calls on lists, and of those that differ.
 fn compare_lists(n: u64) -> (u64, u64) {
-    let all = [lists::compare(n / 4), radio::compare(n), widths::compare(n), edits::compare(n)];
+    let all = [lists::compare(n / 4), radio::compare(n), widths::compare(n), edits::compare(n), residuals::compare(n)];
     all.iter().fold((0, 0), |t, c| (t.0 + c.0, t.1 + c.1))
 }
 
@@ -308,6 +309,7 @@ const LISTS: u64 = 48;
 const RADIO_LISTS: u64 = 64;
 const WIDTH_LISTS: u64 = 48;
 const EDITED_LISTS: u64 = 48;
+const NIGHTS: u64 = 64;
 
 fn sample(n: u64) {
     println!("# What the supplied Rust answers over the port's elementary functions and helpers, and these by their rules written a second");
@@ -345,6 +347,7 @@ fn sample(n: u64) {
     radio::sample(RADIO_LISTS);
     widths::sample(WIDTH_LISTS);
     edits::sample(EDITED_LISTS);
+    residuals::sample(NIGHTS);
 }
 
 fn main() {

@@ -1,6 +1,7 @@
 //! The C boundary. All that is unsafe stands here: each call lends floats of its own frame, valid and distinct.
 use crate::batch::COUNTS;
 use crate::list::Star;
+use crate::residuals::FIGURES;
 use crate::{Edition, Refusal};
 
 macro_rules! boundary {
@@ -162,6 +163,20 @@ mod stored {
             written: *mut usize,
         ) -> u8;
         pub fn brundelak_tally_raise(status: u8, tally: *mut u32) -> u8;
+        pub fn brundelak_residuals(
+            status: *const u8,
+            status_len: usize,
+            asc: *const f64,
+            asc_len: usize,
+            dec: *const f64,
+            dec_len: usize,
+            measured_asc: *const f64,
+            measured_asc_len: usize,
+            measured_dec: *const f64,
+            measured_dec_len: usize,
+            asc_sheet: *mut i64,
+            dec_sheet: *mut i64,
+        ) -> u8;
     }
 }
 
@@ -299,6 +314,35 @@ pub fn batch(
     };
     Refusal::from_status(answer)?;
     Ok(tally)
+}
+
+/// The numbers of both sheets, as C lays them out.
+pub fn residuals(
+    status: &[u8],
+    asc: &[f64],
+    dec: &[f64],
+    measured_asc: &[f64],
+    measured_dec: &[f64],
+) -> Result<([i64; FIGURES], [i64; FIGURES]), Refusal> {
+    let (mut asc_sheet, mut dec_sheet) = ([0; FIGURES], [0; FIGURES]);
+    let answer = unsafe {
+        stored::brundelak_residuals(
+            status.as_ptr(),
+            status.len(),
+            asc.as_ptr(),
+            asc.len(),
+            dec.as_ptr(),
+            dec.len(),
+            measured_asc.as_ptr(),
+            measured_asc.len(),
+            measured_dec.as_ptr(),
+            measured_dec.len(),
+            asc_sheet.as_mut_ptr(),
+            dec_sheet.as_mut_ptr(),
+        )
+    };
+    Refusal::from_status(answer)?;
+    Ok((asc_sheet, dec_sheet))
 }
 
 /// The tally with the count of a status raised.

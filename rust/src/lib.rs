@@ -36,6 +36,7 @@ pub mod nutation;
 pub mod parallax;
 pub mod precess;
 pub mod radio;
+pub mod residuals;
 pub mod time;
 pub mod transit;
 

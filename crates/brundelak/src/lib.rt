@@ -11,5 +11,6 @@ pub mod stored; // the stored list and the batch
 pub mod published; // the published edition of what has two
 pub mod radio; // lists over the radio link
 pub mod edits; // the stored list edited where it stands
+pub mod residuals; // the residual sheet of a night
 pub mod widths; // lists of the record of before
 pub mod version; // which version the archive is of

@@ -1,21 +1,11 @@
 // A star's line of the text that `reduce` prints: its number, then its angles or its refusal. Promised: every byte of it.
 ghost use mathlib.Core.Path.{_≡_};
 ghost use Rattle.lent.specs.rules.Writing.{Wrote};
-ghost use Rattle.text_line.specs.rules.Angle.{hasMinus, angleText};
+ghost use Rattle.text_line.specs.rules.Angle.{angleText};
 ghost use Rattle.text_line.specs.rules.Line.{angleThen, bitsThen, anglesText, lineOf};
 use quantity::Rad;
 
 // ---- an angle
-
-// Whether a minus sign stands before n.
-pub fn has_minus(y: f64, n: u64) -> bool
-    ensures { λ r. ⌜ r ≡ hasMinus y n ⌝ }
-{
-    if y < 0.0 {
-        return 0 < n;
-    }
-    false
-}
 
 // Each `put_` writes its text from the offset on, and answers the offset after it. This one: an angle in whole milliarcseconds.
 fn put_angle(out: &mut [u8], at: usize, x: Rad) -> usize
@@ -23,7 +13,7 @@ fn put_angle(out: &mut [u8], at: usize, x: Rad) -> usize
 {
     let y = units::milliarcseconds(units::to_degrees(x));
     let n = units::nearest_whole(double::size(y));
-    text_number::put_signed(out, at, has_minus(y, n), n)
+    text_number::put_signed(out, at, units::has_minus(y, n), n)
 }
 
 // ---- a star

@@ -82,7 +82,7 @@ fn put_degrees(out: &mut [u8], at: usize, x: Rad) -> usize
 {
     let y = hundredths(units::to_degrees(x));
     let n = units::nearest_whole(double::size(y));
-    put_arc(out, at, text_line::has_minus(y, n), n)
+    put_arc(out, at, units::has_minus(y, n), n)
 }
 
 // ---- a star

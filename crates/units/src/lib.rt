@@ -1,9 +1,9 @@
-// Radians as degrees, the nearest whole number, and milliarcseconds each way. Promised: the written operations on every double; below
+// Radians as degrees, the nearest whole number and its sign, and milliarcseconds each way. Promised: the written operations on every double; below
 // 2^53 the whole number is the nearest one, halves away from zero.
 ghost use mathlib.Core.Path.{_≡_};
 ghost use lib.IntN.{pos};
 ghost use Rattle.units.specs.rules.Degrees.{toDegrees, milliarcseconds, degreesOf};
-ghost use Rattle.units.specs.rules.Nearest.{nearestWhole};
+ghost use Rattle.units.specs.rules.Nearest.{nearestWhole, hasMinus};
 use quantity::Deg;
 use quantity::Rad;
 
@@ -46,4 +46,14 @@ pub fn nearest_whole(y: f64) -> u64
         }
     }
     w
+}
+
+// Whether a minus sign stands before n, the nearest whole number to the size of y.
+pub fn has_minus(y: f64, n: u64) -> bool
+    ensures { λ r. ⌜ r ≡ hasMinus y n ⌝ }
+{
+    if y < 0.0 {
+        return 0 < n;
+    }
+    false
 }

@@ -12,12 +12,14 @@ use Rattle.list.specs.rules.Reader.{Item}
 use Rattle.list.specs.declared.Star.{Star}
 use Rattle.list_groups.specs.rules.Reading.{AtOffset}
 use Rattle.edition.specs.declared.Edition.{Edition}
+use Rattle.residual_sheet.specs.rules.Residuals.{TwoSheets}
 use Rattle.batch.specs.declared.Batched.{Batched}
 use Rattle.batch.specs.laws.Batch.{batch-fixes-all}
 use Rattle.brundelak.specs.rules.Stored.{HandedFound, HandedStar, HandedBatch, HandedRaise}
 use Rattle.brundelak.specs.rules.Put.{HandedNumber, HandedPut}
 use Rattle.brundelak.specs.rules.Radio.{HandedOpened, HandedReceived}
 use Rattle.brundelak.specs.rules.Edits.{HandedEdit}
+use Rattle.brundelak.specs.rules.Residuals.{HandedSheets}
 
 pub one-handed-found : {a : Answer Entry} {n m index asc i i′ r r′ : ℕ} {dec ascRate decRate d d′ u u′ v v′ : ℤ}
     → HandedFound a n index asc dec ascRate decRate i r d u v → HandedFound a m index asc dec ascRate decRate i′ r′ d′ u′ v′
@@ -65,3 +67,10 @@ pub one-handed-received : {a : Answer (AtOffset Star)} {n m next k k′ : ℕ} {
     → HandedReceived a n star next r k → HandedReceived a m star next r′ k′ → (n ≡ m) × ((r ≡ r′) × (k ≡ k′))
 one-handed-received t u =
     (t .answers ∙ sym (u .answers), (t .leaves-star ∙ sym (u .leaves-star), t .leaves-next ∙ sym (u .leaves-next)))
+
+-- ---- the residuals of a night
+
+pub one-handed-sheets : {r : Answer TwoSheets} {n m : ℕ} {asc dec x x′ y y′ : List ℤ} → HandedSheets r n asc dec x y
+    → HandedSheets r m asc dec x′ y′ → (n ≡ m) × ((x ≡ x′) × (y ≡ y′))
+one-handed-sheets t u =
+    (t .answers ∙ sym (u .answers), (t .leaves-asc ∙ sym (u .leaves-asc), t .leaves-dec ∙ sym (u .leaves-dec)))

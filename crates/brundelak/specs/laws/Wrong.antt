@@ -4,7 +4,7 @@ use mathlib.Core.Path.{refl, ap, _∙_}
 use mathlib.Core.Bool.{false}
 use std.Logic.{_≢_}
 use mathlib.Core.List.{List, [], _∷_}
-use lib.IntN.{pos, negsuc, natAbs}
+use lib.IntN.{ℤ, pos, negsuc, natAbs}
 use lib.Ieee.{inf}
 use lib.ListN.{getD}
 use Rattle.double.specs.notions.Code.{ofNumber}
@@ -32,6 +32,8 @@ use Rattle.list_widths.specs.rules.Widths.{toNarrow}
 use Rattle.list_widths.specs.notions.Computed as widths
 use Rattle.list_edit.specs.rules.Edit.{strikeRule, addRule, gatherRule}
 use Rattle.list_edit.specs.notions.Computed as edits
+use Rattle.residual_sheet.specs.declared.Sheet.{Sheet}
+use Rattle.residual_sheet.specs.rules.Residuals.{residualsRule, residualsRefusal, lengthsRefusal, two}
 use Rattle.edition.specs.declared.Edition.{Edition}
 use Rattle.batch.specs.declared.Batched.{Batched}
 use Rattle.list.specs.rules.Stars.{isList, countOf, stars}
@@ -40,6 +42,7 @@ use Rattle.brundelak.specs.rules.Stored.{fields, HandedFound, HandedBatc
 use Rattle.brundelak.specs.rules.Put.{HandedNumber, HandedPut}
 use Rattle.brundelak.specs.rules.Edits.{HandedEdit}
 use Rattle.brundelak.specs.rules.Radio.{HandedOpened, HandedReceived}
+use Rattle.brundelak.specs.rules.Residuals.{numbersOf, HandedSheets}
 use Rattle.brundelak.specs.rules.Version.{version}
 
 -- a star found at index 7, at 5, 3, with yearly changes of 1 and 2
@@ -139,6 +142,29 @@ present-taken-for-full-excluded wrong = apart ofNumber refl (wrong .answers)
 pub byte-of-a-refused-gather-cleared-excluded : ¬ HandedEdit (gatherRule (9 ∷ [])) 8 (9 ∷ []) (0 ∷ [])
 unfolding edits.computed
 byte-of-a-refused-gather-cleared-excluded wrong = apart (λ (l : List ℕ). getD l 0 0) refl (wrong .leaves)
+
+-- ---- the residuals of a night
+
+-- five of right ascension and seven of declination
+abbrev ofAsc : Sheet
+ofAsc = record { count = pos 5; sum = negsuc 8; squares = pos 21; largest = pos 4; place = pos 2; aside = pos 1 }
+
+abbrev ofDec : Sheet
+ofDec = record { count = pos 7; sum = pos 3; squares = pos 9; largest = pos 3; place = pos 6; aside = pos 0 }
+
+-- each sheet stands where the other should
+pub sheets-traded-excluded : ¬ HandedSheets (answered (two ofAsc ofDec)) 0 [] [] (numbersOf ofDec) (numbersOf ofAsc)
+sheets-traded-excluded wrong = apart (λ (l : List ℤ). natAbs (getD l 0 (pos 0))) refl (wrong .leaves-asc)
+
+-- the sum of squares before the sum
+pub squares-before-the-sum-excluded : (dec : List ℤ)
+    → ¬ HandedSheets (answered (two ofAsc ofDec)) 0 [] [] (pos 5 ∷ pos 21 ∷ negsuc 8 ∷ pos 4 ∷ pos 2 ∷ pos 1 ∷ []) dec
+squares-before-the-sum-excluded dec wrong = apart (λ (l : List ℤ). natAbs (getD l 1 (pos 0))) refl (wrong .leaves-asc)
+
+-- two statuses and no angles, which is refused, and the count of declinations is cleared all the same
+pub sheet-of-a-refused-call-written-excluded : ¬ HandedSheets (residualsRule (0 ∷ 0 ∷ []) [] [] [] []) 8 [] (pos 9 ∷ []) [] (pos 0 ∷ [])
+unfolding computed residualsRule residualsRefusal lengthsRefusal
+sheet-of-a-refused-call-written-excluded wrong = apart (λ (l : List ℤ). natAbs (getD l 0 (pos 0))) refl (wrong .leaves-dec)
 
 -- ---- the version
 

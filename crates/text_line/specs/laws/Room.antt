@@ -9,12 +9,12 @@ use Rattle.double.specs.rules.Sign.{size}
 use Rattle.double.specs.rules.Pattern.{patternOf}
 use Rattle.quantity.specs.declared.Rad.{Rad}
 use Rattle.units.specs.rules.Degrees.{toDegrees, milliarcseconds}
-use Rattle.units.specs.rules.Nearest.{nearestWhole}
+use Rattle.units.specs.rules.Nearest.{nearestWhole, hasMinus}
 use Rattle.text_number.specs.rules.Bytes.{space, lineEnd}
 use Rattle.text_number.specs.rules.Number.{decimalText, signedText, hex16}
 use Rattle.text_number.specs.rules.Refused.{refusedText}
 use Rattle.text_number.specs.laws.Number.{any-decimal-short, any-signed-short, hex-length, refused-short}
-use Rattle.text_line.specs.rules.Angle.{hasMinus, angleText}
+use Rattle.text_line.specs.rules.Angle.{angleText}
 use Rattle.text_line.specs.rules.Line.{angleThen, bitsThen, anglesText, lineOf}
 
 angle-short : (x : Rad) (end : ℕ) → length (angleThen x end) ≤ 22

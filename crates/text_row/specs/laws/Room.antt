@@ -11,11 +11,10 @@ use Rattle.double.specs.rules.Sign.{size}
 use Rattle.quantity.specs.declared.Rad.{Rad}
 use Rattle.quantity.specs.rules.Answer.{Answer, answered, refused, Triple, triple}
 use Rattle.units.specs.rules.Degrees.{toDegrees}
-use Rattle.units.specs.rules.Nearest.{nearestWhole}
+use Rattle.units.specs.rules.Nearest.{nearestWhole, hasMinus}
 use Rattle.text_number.specs.rules.Bytes.{ascii, lineEnd, point}
 use Rattle.text_number.specs.rules.Number.{decimalText}
 use Rattle.text_number.specs.laws.Number.{decimal-short, any-decimal-short}
-use Rattle.text_line.specs.rules.Angle.{hasMinus}
 use Rattle.text_time.specs.rules.Time.{secondsOf, twoDigits, clockText}
 use Rattle.text_time.specs.laws.Clock.{two-digits}
 use Rattle.text_time.specs.laws.Room.{clock-short, why-short}

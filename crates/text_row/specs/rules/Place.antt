@@ -10,11 +10,10 @@ use Rattle.double.specs.rules.Sign.{size}
 use Rattle.quantity.specs.declared.Deg.{Deg}
 use Rattle.quantity.specs.declared.Rad.{Rad}
 use Rattle.units.specs.rules.Degrees.{toDegrees}
-use Rattle.units.specs.rules.Nearest.{nearestWhole}
+use Rattle.units.specs.rules.Nearest.{nearestWhole, hasMinus}
 use Rattle.helpers.specs.rules.Angle.{withinTwoPI}
 use Rattle.text_number.specs.rules.Bytes.{minusSign, plusSign, point, digit0}
 use Rattle.text_number.specs.rules.Number.{decimalText}
-use Rattle.text_line.specs.rules.Angle.{hasMinus}
 use Rattle.text_time.specs.rules.Time.{twoDigits, clockText}
 
 -- 240000.0: a degree is four minutes of time

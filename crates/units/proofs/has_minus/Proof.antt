@@ -1,6 +1,6 @@
--- `text_line::has_minus` meets its contract.
-use Rattle.text_line.proofs.has_minus.Statement.{statement}
-use Rattle.text_line.proofs.has_minus.Tie as tie
+-- `units::has_minus` meets its contract.
+use Rattle.units.proofs.has_minus.Statement.{statement}
+use Rattle.units.proofs.has_minus.Tie as tie
 
 returns : tie.Need-returns
 returns c = simp (c .if1 .taken)

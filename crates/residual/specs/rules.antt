@@ -1,0 +1,2 @@
+-- What a reader must believe of a residual, in reading order. Definitions only.
+pub mod Residual

@@ -1,0 +1,8 @@
+-- What is proved of a residual sheet, for callers to cite. Theorems only.
+pub mod Parts
+pub mod Place
+pub mod Merge
+pub mod Running
+pub mod Bounds
+pub mod Residuals
+pub mod Wrong

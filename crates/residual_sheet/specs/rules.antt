@@ -1,0 +1,5 @@
+-- What a reader must believe of a residual sheet, in reading order. Definitions only.
+pub mod Entry
+pub mod Sheet
+pub mod Residuals
+pub mod Running

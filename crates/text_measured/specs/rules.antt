@@ -1,0 +1,5 @@
+-- What a reader must believe of the text of measured places. Definitions only.
+pub mod Fields
+pub mod Lines
+pub mod Sight
+pub mod Next

@@ -1,0 +1,3 @@
+-- What is proved of the text of residuals. Theorems only.
+pub mod Room
+pub mod Wrong

@@ -1,0 +1,3 @@
+-- What `residuals` prints. Definitions only.
+pub mod Figures
+pub mod Sheet
