@@ -27,7 +27,7 @@ const KNOWN: usize = list_tally::HIGHEST_STATUS as usize + 1;
 // ---- a star
 
 // Byte i of a slice; past its end 0.
-fn byte_at(s: &[u8], i: usize) -> u8
+pub fn byte_at(s: &[u8], i: usize) -> u8
     ensures { λ r. ⌜ r ≡ getD (now (s .entry)) i 0 ⌝ }
 {
     if i < s.len() {
@@ -37,7 +37,7 @@ fn byte_at(s: &[u8], i: usize) -> u8
 }
 
 // Angle i of a slice of radians, each lent as its bits; past its end 0.0.
-fn angle_at(s: &[u64], i: usize) -> Rad
+pub fn angle_at(s: &[u64], i: usize) -> Rad
     ensures { λ r. ⌜ r ≡ angleAt (now (s .entry)) i ⌝ }
 {
     if i < s.len() {

@@ -3,5 +3,6 @@ pub mod Fields
 pub mod Lines
 pub mod Next
 pub mod Sights
+pub mod SightStored
 pub mod Written
 pub mod Wrong

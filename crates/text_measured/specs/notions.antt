@@ -1,6 +1,6 @@
 -- What theorems on the text of measured places speak of, and no promise mentions. Definitions only.
 pub mod Plain
-pub mod Sights
+pub mod SightStored
 pub mod Code
 pub mod Computed
 pub mod Wrong

@@ -3,3 +3,4 @@ pub mod Fields
 pub mod Lines
 pub mod Sight
 pub mod Next
+pub mod Sights

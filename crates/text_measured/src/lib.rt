@@ -1,6 +1,7 @@
 // The text of measured places, a line a sight: the star's number, its right ascension and its declination in decimal degrees, with blanks,
 // tabs or carriage returns between them; what follows # is left out, and a line with nothing else is passed over. Promised: exactly the
-// sights that stand there, each with its line; or the line that is none.
+// sights that stand there, each with its line, one after the other or all of them into slices; or the line that is none.
+ghost use Prim.Native.Nat.{_<_, min};
 ghost use mathlib.Core.Path.{_≡_};
 ghost use lib.ListN.{length, drop};
 ghost use Rattle.text_whole.specs.rules.Unsigned.{shownUnsigned, unsignedRule};
@@ -9,6 +10,9 @@ ghost use Rattle.text_measured.specs.rules.Fields.{isBlank, isStop, befo
 ghost use Rattle.text_measured.specs.rules.Lines.{lines, lineLength};
 ghost use Rattle.text_measured.specs.rules.Sight.{shownLine, sightFrom, withDec, withAsc, saidRule, lineRule, firstLine};
 ghost use Rattle.text_measured.specs.rules.Next.{nextAt, shownNext, isPassed, nextOf};
+ghost use Rattle.text_measured.specs.rules.Sights.{placesOf, ReadSights};
+ghost use Rattle.text_measured.specs.notions.SightStored.{SightStored};
+use helpers::angle;
 use quantity::Deg;
 use text_degrees::ReadDegrees;
 use text_whole::Unsigned;
@@ -34,6 +38,13 @@ pub enum Next {
     Sight(u32, Deg, Deg, usize, usize),
     Unclear(usize),
     End,
+}
+
+// All sights of a text: how many there are; the line that cannot be read; or that there is no place for the next of them.
+pub enum Sights {
+    Are(usize),
+    Unclear(usize),
+    Full,
 }
 
 // ---- fields
@@ -214,4 +225,80 @@ pub fn next_sight(text: &[u8], at: usize) -> Next
         }
     }
     Next::End
+}
+
+// ---- all of them
+
+// The lower of two numbers.
+fn lower(m: usize, n: usize) -> usize
+    ensures { λ r. ⌜ r ≡ min m n ⌝ }
+{
+    if m < n { m } else { n }
+}
+
+// One sight at its place in what is lent: its line, its star, and the bits of its two angles in radians.
+fn store_sight(
+    line: &mut [u64],
+    star: &mut [u32],
+    asc: &mut [u64],
+    dec: &mut [u64],
+    i: usize,
+    at_line: usize,
+    number: u32,
+    a: Deg,
+    d: Deg,
+)
+    requires { ⌜ i < length (now line) ⌝ }
+    requires { ⌜ i < length (now star) ⌝ }
+    requires { ⌜ i < length (now asc) ⌝ }
+    requires { ⌜ i < length (now dec) ⌝ }
+    ensures { λ r. ⌜ SightStored i «at_line» number a d (now (line .entry)) (now (star .entry)) (now (asc .entry)) (now (dec .entry))
+        (now (line .exit)) (now (star .exit)) (now (asc .exit)) (now (dec .exit)) ⌝ }
+{
+    line[i] = at_line as u64;
+    star[i] = number;
+    let x = angle::radians(a);
+    let y = angle::radians(d);
+    asc[i] = double::pattern(x.0);
+    dec[i] = double::pattern(y.0);
+}
+
+// Every sight of a text: its line, its star, and the bits of its right ascension and declination in radians, each at its place in what is
+// lent, in the text's order. A sight that finds no place in each slice, and a line that cannot be read, ends it; what was met before stands.
+pub fn read_sights(
+    text: &[u8],
+    line: &mut [u64],
+    star: &mut [u32],
+    asc: &mut [u64],
+    dec: &mut [u64],
+) -> Sights
+    ensures { λ r. ⌜ ReadSights
+        (placesOf (length (now (line .entry))) (length (now (star .entry))) (length (now (asc .entry))) (length (now (dec .entry))))
+        (now (text .entry)) (now (line .entry)) (now (star .entry)) (now (asc .entry)) (now (dec .entry)) r
+        (now (line .exit)) (now (star .exit)) (now (asc .exit)) (now (dec .exit)) ⌝ }
+{
+    let places = lower(lower(line.len(), star.len()), lower(asc.len(), dec.len()));
+    let mut at = 0;
+    let mut passed = 0;
+    let mut n = 0;
+    while at < text.len() {
+        match next_sight(text, at) {
+            Next::Sight(number, a, d, lines, next) => {
+                if n >= places {
+                    return Sights::Full;
+                }
+                passed += lines;
+                store_sight(line, star, asc, dec, n, passed, number, a, d);
+                at = next;
+                n += 1;
+            }
+            Next::Unclear(lines) => {
+                return Sights::Unclear(passed + lines);
+            }
+            Next::End => {
+                return Sights::Are(n);
+            }
+        }
+    }
+    Sights::Are(n)
 }

@@ -5,14 +5,17 @@ ghost use lib.IntN.{natAbs};
 ghost use Rattle.lent.specs.rules.Writing.{Wrote};
 ghost use Rattle.signed.specs.rules.Signed.{negative, reach};
 ghost use Rattle.text_number.specs.rules.Number.{integerText};
-ghost use Rattle.text_residuals.specs.rules.Figures.{residualThen, decimalThen, sightText, wholeThen, rowText, figuresText};
-ghost use Rattle.text_residuals.specs.rules.Sheet.{quotientOf, meanMinus, meanText, rootText, whereText, labelled};
-ghost use Rattle.text_residuals.specs.rules.Sheet.{takenText, anyTakenText, coordinateText, sheetText};
+ghost use Rattle.text_residuals.specs.rules.Figures.{residualThen, decimalThen, sightText, refusedSightText, wholeThen};
+ghost use Rattle.text_residuals.specs.rules.Figures.{rowText, figuresText};
+ghost use Rattle.text_residuals.specs.rules.Sheet.{quotientOf, meanMinus, meanText, rootText, lineStarText, whereText, labelled};
+ghost use Rattle.text_residuals.specs.rules.Sheet.{takenText, anyTakenText, coordinateText, sheetText, whyLeft, leftText};
 use residual::Residual;
 use residual_sheet::Sheet;
 
-// Bytes of each text, at most: of a sight's line, of the figures, of the sheet.
+// Bytes of each text, at most: of a sight's line, of one that is not taken in, of the figures, of the sheet.
 pub const SIGHT_ROOM: usize = 86;
+
+pub const LEFT_ROOM: usize = 177;
 
 pub const FIGURES_ROOM: usize = 264;
 
@@ -84,6 +87,15 @@ pub fn put_sight(
     put_residual_then(out, c, dec, b'\n')
 }
 
+// The line of a sight whose star is refused, or is not on the list.
+pub fn put_refused_sight(out: &mut [u8], at: usize, line: u64, star: u64, n: u8) -> usize
+    ensures { λ r. ⌜ Wrote (now (out .entry)) at (refusedSightText line star n) (now (out .exit)) r ⌝ }
+{
+    let a = put_decimal_then(out, at, line);
+    let b = put_decimal_then(out, a, star);
+    text_number::put_refused(out, b, n)
+}
+
 // ---- figures
 
 // The six figures of a coordinate in a row.
@@ -140,15 +152,23 @@ fn put_root(out: &mut [u8], at: usize, squares: i64, count: i64) -> usize
     lent::put_byte(out, a, b'\n')
 }
 
-// The line and the star of the largest, and the line's end.
+// A sight's line and its star.
+fn put_line_star(out: &mut [u8], at: usize, line: u64, star: u64) -> usize
+    ensures { λ r. ⌜ Wrote (now (out .entry)) at (lineStarText line star) (now (out .exit)) r ⌝ }
+{
+    let a = lent::put(out, at, b"line ");
+    let b = text_number::put_decimal(out, a, line);
+    let c = lent::put(out, b, b", star ");
+    text_number::put_decimal(out, c, star)
+}
+
+// Those of the largest, and the line's end.
 fn put_where(out: &mut [u8], at: usize, line: u64, star: u64) -> usize
     ensures { λ r. ⌜ Wrote (now (out .entry)) at (whereText line star) (now (out .exit)) r ⌝ }
 {
-    let a = lent::put(out, at, b"(line ");
-    let b = text_number::put_decimal(out, a, line);
-    let c = lent::put(out, b, b", star ");
-    let d = text_number::put_decimal(out, c, star);
-    lent::put(out, d, b")\n")
+    let a = lent::put_byte(out, at, b'(');
+    let b = put_line_star(out, a, line, star);
+    lent::put(out, b, b")\n")
 }
 
 // A label, a number and a byte.
@@ -219,4 +239,23 @@ pub fn put_sheet(
         b"declination, computed less measured, in milliarcseconds\n",
     );
     put_coordinate(out, c, dec, dec_place.line, dec_place.star)
+}
+
+// Why a sight is not taken in: find's 10, or the refusal of its star.
+fn put_why_left(out: &mut [u8], at: usize, n: u8) -> usize
+    ensures { λ r. ⌜ Wrote (now (out .entry)) at (whyLeft n) (now (out .exit)) r ⌝ }
+{
+    if n == 10 {
+        return lent::put(out, at, b"not on the list\n");
+    }
+    text_refusal::put_refusal(out, at, n)
+}
+
+// A sight that is not taken in, in words.
+pub fn put_left(out: &mut [u8], at: usize, line: u64, star: u64, n: u8) -> usize
+    ensures { λ r. ⌜ Wrote (now (out .entry)) at (leftText line star n) (now (out .exit)) r ⌝ }
+{
+    let a = put_line_star(out, at, line, star);
+    let b = lent::put(out, a, b": ");
+    put_why_left(out, b, n)
 }

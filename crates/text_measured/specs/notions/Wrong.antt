@@ -9,7 +9,8 @@ use Rattle.text_degrees.specs.rules.Degrees.{degreesRule}
 use Rattle.text_measured.specs.declared.Stop.the-variants.{Hash}
 use Rattle.text_measured.specs.rules.Fields.{before, isBare, fieldOf, afterField}
 use Rattle.text_measured.specs.rules.Lines.{longer}
-use Rattle.text_measured.specs.rules.Sight.{Said, nothing, sightFrom, saidRule, lineRule}
+use Rattle.text_measured.specs.rules.Sight.{Said, sight, nothing, unclear, sightFrom, saidRule, lineRule}
+use Rattle.text_measured.specs.rules.Sights.{Entry}
 use Rattle.text_measured.specs.rules.Next.{Found, end, foundOn, isPassed, nextOf}
 
 -- whatever follows the third
@@ -52,3 +53,18 @@ bareLineEnds passed (l ∷ ls) = foundOn (lineRule l) (suc passed) ls
 abbrev pub bareLinesUncounted : ℕ → List (List ℕ) → Found
 bareLinesUncounted passed [] = end
 bareLinesUncounted passed (l ∷ ls) = cond (isPassed (lineRule l)) (bareLinesUncounted passed ls) (foundOn (lineRule l) (suc passed) ls)
+
+-- a line that cannot be read passed over
+abbrev pub unclearPassedOver : ℕ → List (List ℕ) → List Entry
+unclearPassedOver passed [] = []
+unclearPassedOver passed (l ∷ ls) = withLine (lineRule l) (unclearPassedOver (suc passed) ls)
+  where
+    withLine : Said → List Entry → List Entry
+    withLine (sight n a d) others = record { number = n; asc = a; dec = d; line = suc passed } ∷ others
+    withLine nothing others = others
+    withLine unclear others = others
+
+-- the line of a sight counted over sights
+abbrev pub lineAmongSights : ℕ → List Entry → List Entry
+lineAmongSights i [] = []
+lineAmongSights i (e ∷ es) = record { number = e .number; asc = e .asc; dec = e .dec; line = suc i } ∷ lineAmongSights (suc i) es

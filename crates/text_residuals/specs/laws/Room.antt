@@ -13,11 +13,14 @@ use Rattle.units.specs.rules.Nearest.{nearestWhole}
 use Rattle.root.specs.rules.Root.{rootOf}
 use Rattle.text_number.specs.rules.Bytes.{ascii, space, lineEnd}
 use Rattle.text_number.specs.rules.Number.{decimalText, signedText, integerText}
-use Rattle.text_number.specs.laws.Number.{any-decimal-short, any-signed-short}
+use Rattle.text_number.specs.laws.Number.{any-decimal-short, any-signed-short, refused-short}
+use Rattle.text_number.specs.rules.Refused.{refusedText}
+use Rattle.text_refusal.specs.rules.Refusal.{refusalText}
+use Rattle.text_refusal.specs.laws.Room.{either-short, refusal-short}
 use Rattle.text_residuals.specs.declared.Place.{Place}
-use Rattle.text_residuals.specs.rules.Figures.{residualThen, decimalThen, sightText, wholeThen, rowText, figuresText}
-use Rattle.text_residuals.specs.rules.Sheet.{quotientOf, meanMinus, meanText, rootText, whereText, labelled}
-use Rattle.text_residuals.specs.rules.Sheet.{takenText, anyTakenText, coordinateText, sheetText}
+use Rattle.text_residuals.specs.rules.Figures.{residualThen, decimalThen, sightText, refusedSightText, wholeThen, rowText, figuresText}
+use Rattle.text_residuals.specs.rules.Sheet.{quotientOf, meanMinus, meanText, rootText, lineStarText, whereText, labelled}
+use Rattle.text_residuals.specs.rules.Sheet.{takenText, anyTakenText, coordinateText, sheetText, whyLeft, leftText}
 
 -- two texts, each within its bytes
 both : (a b : List ℕ) (m n : ℕ) → length a ≤ m → length b ≤ n → length (a ++ b) ≤ m + n
@@ -67,15 +70,18 @@ root-short squares count =
     let n = nearestWhole (rootOf (quotientOf squares count)) in
     both (decimalText n) (lineEnd ∷ []) 20 1 (any-decimal-short n) (omega arith)
 
+line-star-short : (line star : ℕ) → length (lineStarText line star) ≤ 52
+unfolding lineStarText
+line-star-short line star =
+    let named = ascii ", star " ++ decimalText star in
+    both (ascii "line ") (decimalText line ++ named) 5 47 (omega arith)
+    (both (decimalText line) named 20 27 (any-decimal-short line) (both (ascii ", star ") (decimalText star) 7 20 (omega arith) (any-decimal-short star)))
+
 where-short : (line star : ℕ) → length (whereText line star) ≤ 55
 unfolding whereText
 where-short line star =
-    let of-star = decimalText star ++ ascii ")\n" in
-    let named = ascii ", star " ++ of-star in
-    let of-line = decimalText line ++ named in
-    both (ascii "(line ") of-line 6 49 (omega arith)
-    (both (decimalText line) named 20 29 (any-decimal-short line)
-    (both (ascii ", star ") of-star 7 22 (omega arith) (both (decimalText star) (ascii ")\n") 20 2 (any-decimal-short star) (omega arith))))
+    both (ascii "(") (lineStarText line star ++ ascii ")\n") 1 54 (omega arith)
+    (both (lineStarText line star) (ascii ")\n") 52 2 (line-star-short line star) (omega arith))
 
 labelled-short : (label : List ℕ) (z : ℤ) (end : ℕ) → length label ≤ 20 → length (labelled label z end) ≤ 42
 unfolding labelled
@@ -120,3 +126,15 @@ sheet-short asc ascPlace dec decPlace =
     (both (coordinateText asc (ascPlace .line) (ascPlace .star)) named 264 320 (coordinate-short asc (ascPlace .line) (ascPlace .star))
     (both (ascii "declination, computed less measured, in milliarcseconds\n") second 56 264 (omega arith)
     (coordinate-short dec (decPlace .line) (decPlace .star))))
+
+-- a sight's line where its star is refused, and in words
+pub refused-sight-short : (line star n : ℕ) → length (refusedSightText line star n) ≤ 86
+unfolding refusedSightText
+refused-sight-short line star n =
+    both (decimalThen line) _ 21 65 (decimal-then-short line) (both (decimalThen star) (refusedText n) 21 44 (decimal-then-short star) (omega (arith, refused-short n)))
+
+pub left-short : (line star n : ℕ) → length (leftText line star n) ≤ 177
+unfolding leftText whyLeft
+left-short line star n =
+    both (lineStarText line star) _ 52 125 (line-star-short line star)
+    (both (ascii ": ") (whyLeft n) 2 123 (omega arith) (either-short 123 (eqb n 10) (ascii "not on the list\n") (refusalText n) (omega arith) (refusal-short n)))

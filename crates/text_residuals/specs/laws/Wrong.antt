@@ -10,9 +10,10 @@ use Rattle.double.specs.notions.Computed as double
 use Rattle.units.specs.rules.Nearest.{nearestWhole}
 use Rattle.residual_sheet.specs.declared.Sheet.{Sheet}
 use Rattle.text_number.specs.rules.Number.{decimalIn, integerText}
+use Rattle.text_refusal.specs.rules.Refusal.{numberWords, refusalText}
 use Rattle.text_residuals.specs.rules.Figures.{wholeThen, rowText, figuresText}
-use Rattle.text_residuals.specs.rules.Sheet.{quotientOf, meanMinus, meanText}
-use Rattle.text_residuals.specs.notions.Wrong.{rowsSwapped, meanCutOff, meanSized}
+use Rattle.text_residuals.specs.rules.Sheet.{quotientOf, meanMinus, meanText, whyLeft}
+use Rattle.text_residuals.specs.notions.Wrong.{rowsSwapped, meanCutOff, meanSized, tenAsAnEmptyPlace}
 
 -- a sheet by its count
 abbrev counted : ℕ → Sheet
@@ -34,3 +35,7 @@ mean-cut-off-excluded = apart first refl
 pub mean-sized-excluded : meanSized (negsuc 1) (pos 2) ≢ meanText (negsuc 1) (pos 2)
 unfolding double.computed nearestWhole quotientOf meanMinus meanText decimalIn
 mean-sized-excluded = apart first refl
+
+pub ten-as-an-empty-place-excluded : tenAsAnEmptyPlace 10 ≢ whyLeft 10
+unfolding refusalText numberWords whyLeft
+ten-as-an-empty-place-excluded = apart first refl

@@ -6,6 +6,7 @@ use Rattle.double.specs.rules.Whole.{wholePart}
 use Rattle.residual_sheet.specs.declared.Sheet.{Sheet}
 use Rattle.text_number.specs.rules.Bytes.{lineEnd}
 use Rattle.text_number.specs.rules.Number.{decimalText, signedText}
+use Rattle.text_refusal.specs.rules.Refusal.{refusalText}
 use Rattle.text_residuals.specs.rules.Figures.{rowText}
 use Rattle.text_residuals.specs.rules.Sheet.{quotientOf, meanMinus, meanText}
 
@@ -22,3 +23,7 @@ meanCutOff sum count =
 -- without its sign
 abbrev pub meanSized : ℤ → ℤ → List ℕ
 meanSized sum count = meanText (pos (natAbs sum)) count
+
+-- a star that is not on the list taken for an empty place of it
+abbrev pub tenAsAnEmptyPlace : ℕ → List ℕ
+tenAsAnEmptyPlace n = refusalText n

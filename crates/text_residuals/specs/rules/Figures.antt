@@ -7,6 +7,7 @@ use Rattle.residual.specs.declared.Residual.{Residual}
 use Rattle.residual_sheet.specs.declared.Sheet.{Sheet}
 use Rattle.text_number.specs.rules.Bytes.{space, lineEnd}
 use Rattle.text_number.specs.rules.Number.{decimalText, signedText, integerText}
+use Rattle.text_number.specs.rules.Refused.{refusedText}
 
 -- a residual, and a byte after it
 unfoldable pub residualThen : Residual → ℕ → List ℕ
@@ -18,6 +19,10 @@ decimalThen n = decimalText n ++ (space ∷ [])
 -- a sight: its line, its star, the residual of its right ascension and that of its declination
 unfoldable pub sightText : ℕ → ℕ → Residual → Residual → List ℕ
 sightText line star asc dec = decimalThen line ++ (decimalThen star ++ (residualThen asc space ++ residualThen dec lineEnd))
+
+-- a sight whose star is refused, or is not on the list: the refusal in place of the residuals
+unfoldable pub refusedSightText : ℕ → ℕ → ℕ → List ℕ
+refusedSightText line star n = decimalThen line ++ (decimalThen star ++ refusedText n)
 
 -- a number, and a byte after it
 unfoldable pub wholeThen : ℤ → ℕ → List ℕ

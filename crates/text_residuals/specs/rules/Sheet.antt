@@ -15,6 +15,7 @@ use Rattle.residual_sheet.specs.declared.Sheet.{Sheet}
 use Rattle.text_residuals.specs.declared.Place.{Place}
 use Rattle.text_number.specs.rules.Bytes.{ascii, space, lineEnd}
 use Rattle.text_number.specs.rules.Number.{decimalText, signedText, integerText}
+use Rattle.text_refusal.specs.rules.Refusal.{refusalText}
 use Rattle.text_residuals.specs.rules.Figures.{wholeThen}
 
 -- one number over another, by their sizes
@@ -34,9 +35,13 @@ meanText sum count =
 unfoldable pub rootText : ℤ → ℤ → List ℕ
 rootText squares count = decimalText (nearestWhole (rootOf (quotientOf squares count))) ++ (lineEnd ∷ [])
 
+-- a sight's line, and its star
+unfoldable pub lineStarText : ℕ → ℕ → List ℕ
+lineStarText line star = ascii "line " ++ (decimalText line ++ (ascii ", star " ++ decimalText star))
+
 -- where the largest stands
 unfoldable pub whereText : ℕ → ℕ → List ℕ
-whereText line star = ascii "(line " ++ (decimalText line ++ (ascii ", star " ++ (decimalText star ++ ascii ")\n")))
+whereText line star = ascii "(" ++ (lineStarText line star ++ ascii ")\n")
 
 unfoldable pub labelled : List ℕ → ℤ → ℕ → List ℕ
 labelled label z end = label ++ wholeThen z end
@@ -64,3 +69,10 @@ sheetText asc ascPlace dec decPlace =
     ascii "right ascension, computed less measured, in milliarcseconds\n"
     ++ (coordinateText asc (ascPlace .line) (ascPlace .star)
     ++ (ascii "declination, computed less measured, in milliarcseconds\n" ++ coordinateText dec (decPlace .line) (decPlace .star)))
+
+-- a sight that is not taken in, in words: 10 is find's
+unfoldable pub whyLeft : ℕ → List ℕ
+whyLeft n = cond (eqb n 10) (ascii "not on the list\n") (refusalText n)
+
+unfoldable pub leftText : ℕ → ℕ → ℕ → List ℕ
+leftText line star n = lineStarText line star ++ (ascii ": " ++ whyLeft n)

@@ -1,0 +1,27 @@
+-- `report_residuals::put_sights` meets its contract.
+use borrow.Author.Needs.{needs}
+use Prim.Native.Nat.{_-_}
+use native.Mathlib.Omega.{arith}
+use Rattle.double.specs.laws.Calls.{asks-nothing}
+use Rattle.lent.specs.notions.Walk.{Walked}
+use Rattle.lent.specs.laws.Walk.{begun, passed, ended, stays}
+use Rattle.report_residuals.specs.rules.Text.{sightAt}
+use Rattle.report_residuals.proofs.put_sights.Statement.{statement}
+use Rattle.report_residuals.proofs.put_sights.Tie as tie
+
+abbrev Inv-loop : tie.InvT-loop
+Inv-loop out₀ line star status asc dec masc mdec n offset₀ i₀ out offset i = Walked out₀ 0 n (sightAt line star status asc dec masc mdec) out offset i
+
+abbrev μ-loop : tie.MeasureT-loop
+μ-loop out₀ line star status asc dec masc mdec n offset₀ i₀ out offset i = n - i
+
+loop-again : tie.Need-loop-again Inv-loop μ-loop
+loop-again c =
+    let pass = c .before .before .before .before in
+    passed (pass .before .loop .inv) (pass .loop-test .taken) (c .before .before .put-sight-at .ensures)
+
+pub put-sights-spec : {M : Type 1} → statement M
+put-sights-spec =
+    tie.close
+    (tie.spec Inv-loop μ-loop (λ c. begun (omega arith)) asks-nothing (λ c. search needs) (λ c. search needs) loop-again
+    (λ c. stays (c .before .loop .inv)) (λ c. ended (c .before .loop .inv) (c .loop-test .left)))
