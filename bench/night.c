@@ -1,7 +1,7 @@
-/* night WHAT LIST STARS NIGHTS: the first stars of a list from J2000 to each of some nights, by the batch, by the chain star by star, or
- * by another library where it is compiled in. No place of the list may be empty, as a batch does no work for one. What takes no rates is
- * given a star where its rates have brought it, which is worked out here. Whatever the counts, the same list is read and as many places are
- * added up, so that the difference of two counts is the work's own.
+/* night WHAT LIST STARS NIGHTS: the first stars of a list from J2000 to each of some nights, by the batch, under one rotation, by the chain
+ * star by star, or by another library where it is compiled in. No place of the list may be empty, as a batch does no work for one. What
+ * takes no rates is given a star where its rates have brought it, which is worked out here. Whatever the counts, the same list is read and
+ * as many places are added up, so that the difference of two counts is the work's own.
  * night WHAT LIST time: the nanoseconds of a star, the night's own taken off: the median of seven rounds.
  * night WHAT LIST apart: the widest distance of its places from the chain's, in seconds of arc, over all stars of the first night. */
 #include <math.h>
@@ -56,6 +56,20 @@ static void batch_published(size_t stars, double day)
         exit(1);
 }
 
+static void rotate(size_t stars, double day)
+{
+    uint32_t tally[BRUNDELAK_COUNTS];
+    if (brundelak_rotate(bytes, WIDTH * stars, J2000, day, status, stars, asc, stars, dec, stars, tally) != 0 || tally[0] != stars)
+        exit(1);
+}
+
+static void rotate_published(size_t stars, double day)
+{
+    uint32_t tally[BRUNDELAK_COUNTS];
+    if (brundelak_rotate_published(bytes, WIDTH * stars, J2000, day, status, stars, asc, stars, dec, stars, tally) != 0 || tally[0] != stars)
+        exit(1);
+}
+
 static void chain(size_t stars, double day)
 {
     double since = years(day);
@@ -65,6 +79,18 @@ static void chain(size_t stars, double day)
 }
 
 #ifdef WITH_ERFA
+/* Precession alone, as rotate: the IAU 1976 matrix once, and each star's vector by it. */
+static void erfa_matrix(size_t stars, double day)
+{
+    double matrix[3][3], from[3], to[3], since = years(day);
+    eraPmat76(day, 0.0, matrix);
+    for (size_t i = 0; i < stars; i++) {
+        eraS2c(asc_after(i, since), dec_after(i, since), from);
+        eraRxp(matrix, from, to);
+        eraC2s(to, &asc[i], &dec[i]);
+    }
+}
+
 /* What the day fixes once; eo turns the right ascension from ERFA's origin to the equinox. */
 static void erfa_quick(size_t stars, double day)
 {
@@ -120,9 +146,12 @@ static void nova(size_t stars, double day)
 static const struct { const char *name; void (*work)(size_t, double); } works[] = {
     {"batch", batch},
     {"batch_published", batch_published},
+    {"rotate", rotate},
+    {"rotate_published", rotate_published},
     {"chain", chain},
 #ifdef WITH_ERFA
     {"erfa_quick", erfa_quick},
+    {"erfa_matrix", erfa_matrix},
     {"erfa_motion", erfa_motion},
     {"erfa_full", erfa_full},
 #endif

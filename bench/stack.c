@@ -313,10 +313,11 @@ static void residuals(void)
 
 #define LISTED(name, by) {#name, (any_function *)brundelak_##name, by}
 static const struct { const char *name; any_function *f; void (*by)(void); } listed[] = {
-    LISTED(batch, batch), LISTED(batch_published, batch), LISTED(tally_raise, tally_raise), LISTED(star, star), LISTED(put_star, put_star),
-    LISTED(find, find), LISTED(radio_open, radio_open), LISTED(radio_star, radio_star), LISTED(radio_accept, radio_accept),
-    LISTED(radio_put_head, radio_put_head), LISTED(radio_put_star, radio_put_star), LISTED(radio_to_list, radio_to_list),
-    LISTED(list_to_radio, list_to_radio), LISTED(list_12_to_20, list_12_to_20), LISTED(list_20_to_12, list_20_to_12),
+    LISTED(batch, batch), LISTED(batch_published, batch), LISTED(rotate, batch), LISTED(rotate_published, batch),
+    LISTED(tally_raise, tally_raise), LISTED(star, star), LISTED(put_star, put_star), LISTED(find, find), LISTED(radio_open, radio_open),
+    LISTED(radio_star, radio_star), LISTED(radio_accept, radio_accept), LISTED(radio_put_head, radio_put_head),
+    LISTED(radio_put_star, radio_put_star), LISTED(radio_to_list, radio_to_list), LISTED(list_to_radio, list_to_radio),
+    LISTED(list_12_to_20, list_12_to_20), LISTED(list_20_to_12, list_20_to_12),
     LISTED(strike, strike), LISTED(add, add), LISTED(gather, gather), LISTED(residuals, residuals)};
 
 enum { LISTED_COUNT = sizeof listed / sizeof *listed };

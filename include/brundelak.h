@@ -702,6 +702,28 @@ uint8_t brundelak_batch_published(const uint8_t *bytes, uint64_t len, double day
                                   uint64_t status_len, double *asc, uint64_t asc_len, double *dec, uint64_t dec_len,
                                   uint32_t *tally);
 
+/* Every star of a list under one rotation, from one day to another: precession alone, without nutation and aberration, each of
+ * which moves a star by up to 20 seconds of arc. For those use brundelak_batch; this is for who wants mean places, or adds
+ * both himself, and takes three quarters of the batch's instructions a star. Each coordinate is shifted as brundelak_batch shifts
+ * it. The three angles of precession are made one matrix, Rz(-second) Ry(third) Rz(-first), each a turn of the axes, and that
+ * is applied to the star's unit vector: right ascension is the arctangent of (y, x), not folded, -PI to PI, declination the
+ * arcsine of z.
+ * Given:     as brundelak_batch
+ * Returned:  status[i]             of record i, from 0, and one of 0, 3, 7, 9, 10, 14: 0, or the first refusal met: 10, 9 and 3
+ *                                  as in brundelak_batch, then 14 (the star comes to lie in the pole itself) and 7
+ *            asc[i], dec[i], tally as brundelak_batch
+ * Refusals:  1, 2, then 8; all that is lent stays unchanged
+ * Note:      it stands beside brundelak_precess_eq_coords and is not claimed equal to it: the last digits differ. Negate a
+ *            right ascension, and its place need not come out mirrored: the axes turn one way for both. */
+uint8_t brundelak_rotate(const uint8_t *bytes, uint64_t len, double day1, double day2, uint8_t *status, uint64_t status_len,
+                         double *asc, uint64_t asc_len, double *dec, uint64_t dec_len, uint32_t *tally);
+
+/* The same by the published edition's angles.
+ * Given, Returned, Refusals:  as brundelak_rotate */
+uint8_t brundelak_rotate_published(const uint8_t *bytes, uint64_t len, double day1, double day2, uint8_t *status,
+                                   uint64_t status_len, double *asc, uint64_t asc_len, double *dec, uint64_t dec_len,
+                                   uint32_t *tally);
+
 /* One status counted in a tally.
  * Given:     status   0, or a refusal number up to 19
  *            tally    BRUNDELAK_COUNTS counts

@@ -175,9 +175,9 @@ static void fault(int signal)
 
 /* ---- calls ---- */
 
-/* star, find, both batches, tally_raise, put_star, those of radio lists, the moves, the edits and the residuals stand behind the functions of
- * numbers. */
-enum { KINDS = FUNCTION_COUNT + 19 };
+/* star, find, both batches, both rotations, tally_raise, put_star, those of radio lists, the moves, the edits and the residuals stand behind
+ * the functions of numbers. */
+enum { KINDS = FUNCTION_COUNT + 21 };
 static uint64_t answered[KINDS], refused[KINDS], unsound;
 static size_t which;
 
@@ -424,13 +424,18 @@ static size_t length(size_t stars)
 
 typedef uint8_t batch_call(const uint8_t *, uint64_t, double, double, uint8_t *, uint64_t, double *, uint64_t, double *, uint64_t, uint32_t *);
 
-/* Whether a record can have the status. */
+/* Whether a record can have the status: in a batch; under a rotation, which knows no 4. */
 static int of_a_star(uint8_t status)
 {
     return status == 0 || status == 3 || status == 4 || status == 7 || status == 9 || status == 10 || status == 14;
 }
 
-static void batch_by(batch_call *call)
+static int of_a_rotated_star(uint8_t status)
+{
+    return status == 0 || status == 3 || status == 7 || status == 9 || status == 10 || status == 14;
+}
+
+static void stored_by(batch_call *call, int (*can_be)(uint8_t))
 {
     size_t len = list(), stars = len / WIDTH, lens[3] = {length(stars), length(stars), length(stars)};
     args[0] = any_day();
@@ -450,7 +455,7 @@ static void batch_by(batch_call *call)
         sound &= status_of[i] == 0 ? isfinite(asc[i]) && isfinite(dec[i]) : as_bits(asc[i]) == 0 && as_bits(dec[i]) == 0;
         uint32_t of[WORDS];
         star_of(WIDTH, i, of);
-        sound &= of_a_star(status_of[i]) && (status_of[i] == 10) == (of[0] == 0) && (status_of[i] == 9) == (of[0] != 0 && !in_range(of));
+        sound &= can_be(status_of[i]) && (status_of[i] == 10) == (of[0] == 0) && (status_of[i] == 9) == (of[0] != 0 && !in_range(of));
         empty += of[0] == 0;
     }
     for (size_t i = 0; i < BRUNDELAK_COUNTS; i++)
@@ -461,13 +466,25 @@ static void batch_by(batch_call *call)
 static void batch(void)
 {
     name = "batch";
-    batch_by(brundelak_batch);
+    stored_by(brundelak_batch, of_a_star);
 }
 
 static void batch_published(void)
 {
     name = "batch_published";
-    batch_by(brundelak_batch_published);
+    stored_by(brundelak_batch_published, of_a_star);
+}
+
+static void rotate(void)
+{
+    name = "rotate";
+    stored_by(brundelak_rotate, of_a_rotated_star);
+}
+
+static void rotate_published(void)
+{
+    name = "rotate_published";
+    stored_by(brundelak_rotate_published, of_a_rotated_star);
 }
 
 static void tally_raise(void)
@@ -989,8 +1006,8 @@ int main(int argc, char **argv)
     signal(SIGBUS, fault);
     signal(SIGFPE, fault);
     static void (*const others[KINDS - FUNCTION_COUNT])(void) = {
-        star, find, batch, batch_published, tally_raise, put_star, radio_open, radio_star, radio_accept, radio_put_head, radio_put_star,
-        radio_to_list, list_to_radio, list_12_to_20, list_20_to_12, strike, add, gather, residuals};
+        star, find, batch, batch_published, rotate, rotate_published, tally_raise, put_star, radio_open, radio_star, radio_accept,
+        radio_put_head, radio_put_star, radio_to_list, list_to_radio, list_12_to_20, list_20_to_12, strike, add, gather, residuals};
     for (at_call = 0; at_call < calls; at_call++) {
         which = drawn_below(KINDS);
         memset(args, 0, sizeof args);

@@ -421,6 +421,10 @@ int main(int argc, char **argv)
             status = batch(brundelak_batch, 0);
         } else if (strcmp(word, "batch_published") == 0) {
             status = batch(brundelak_batch_published, 0);
+        } else if (strcmp(word, "rotate") == 0) {
+            status = batch(brundelak_rotate, 0);
+        } else if (strcmp(word, "rotate_published") == 0) {
+            status = batch(brundelak_rotate_published, 0);
         } else if (strcmp(word, "radio_open") == 0) {
             status = radio_open();
         } else if (strcmp(word, "radio_star") == 0) {

@@ -23,6 +23,11 @@ def lines_of(path):
     return cited.read(path).split('\n')
 
 
+def head_of(path, at):
+    """The head of a definition that begins on a line; it may be broken over three."""
+    return cited.DEFINED.match('\n'.join(lines_of(path)[at:at + 3]))
+
+
 @functools.lru_cache(None)
 def file_of(path):
     """The definitions of a file: of each run of lines without an empty one the first head, and the cases of a data type below it."""
@@ -33,7 +38,7 @@ def file_of(path):
         elif line.lstrip().startswith('--'):
             continue
         elif head is None:
-            found = cited.DEFINED.match(line)
+            found = head_of(path, at)
             if found:
                 head = found.group(1)
                 definitions.setdefault(head, at)
@@ -117,7 +122,7 @@ def parts(name):
 
 def heads(where, name):
     """Whether the line of a place defines the name, which else is a case below it."""
-    found = cited.DEFINED.match(lines_of(where[0])[where[1]])
+    found = head_of(*where)
     return found is not None and found.group(1) == name
 
 

@@ -10,11 +10,11 @@ use table::{refuses, Sort};
 use written;
 use Count;
 
-/// The editions of the batch, which take the same.
+/// The editions of the batch and of the rotation, which take the same.
 macro_rules! batches {
     ($($symbol:ident)*) => {
         extern "C" {
-            $( fn $symbol(
+            $( pub fn $symbol(
                 bytes: *const u8,
                 len: usize,
                 day1: f64,
@@ -31,7 +31,7 @@ macro_rules! batches {
     };
 }
 
-batches! { brundelak_batch brundelak_batch_published }
+batches! { brundelak_batch brundelak_batch_published brundelak_rotate brundelak_rotate_published }
 
 extern "C" {
     fn brundelak_star(
@@ -69,14 +69,15 @@ extern "C" {
     fn brundelak_tally_raise(status: u8, tally: *mut u32) -> u8;
 }
 
-type BatchCall =
+pub type BatchCall =
     unsafe extern "C" fn(*const u8, usize, f64, f64, *mut u8, usize, *mut f64, usize, *mut f64, usize, *mut u32) -> u8;
 
-/// An edition of the batch: its name, the port's call, and the chain that it must answer by, at days and a declination that are not refused.
-struct Edition {
-    name: &'static str,
-    call: BatchCall,
-    chain: fn(&[f64]) -> Outcome,
+/// An edition of the batch, or of the rotation: its name, the port's call, and what a star's place must be answered by, the chain in a
+/// batch, at days and a declination that are not refused.
+pub struct Edition {
+    pub name: &'static str,
+    pub call: BatchCall,
+    pub chain: fn(&[f64]) -> Outcome,
 }
 
 const CRATE: Edition = Edition { name: "batch", call: brundelak_batch, chain: ::functions::chain_in };
@@ -193,7 +194,7 @@ fn years_between(day1: f64, day2: f64) -> f64 {
 }
 
 /// A record's status and two angles.
-fn reduced(edition: &Edition, r: Record, day1: f64, day2: f64) -> (u8, f64, f64) {
+pub fn reduced(edition: &Edition, r: Record, day1: f64, day2: f64) -> (u8, f64, f64) {
     let (asc, dec) = r.place(years_between(day1, day2));
     if r.number == 0 {
         return (10, 0.0, 0.0);
@@ -211,7 +212,7 @@ fn reduced(edition: &Edition, r: Record, day1: f64, day2: f64) -> (u8, f64, f64)
 }
 
 /// What a batch answers as a whole.
-fn batch_status(bytes: &[u8], lens: [usize; 3], (day1, day2): (f64, f64)) -> u8 {
+pub fn batch_status(bytes: &[u8], lens: [usize; 3], (day1, day2): (f64, f64)) -> u8 {
     match (1..3).find(|&n| refuses(n, Sort::Day, day1) || refuses(n, Sort::Day, day2)) {
         Some(n) => n,
         None if bad_list(bytes) || lens.iter().any(|&l| l < bytes.len() / RECORD) => 8,
@@ -222,7 +223,7 @@ fn batch_status(bytes: &[u8], lens: [usize; 3], (day1, day2): (f64, f64)) -> u8 
 // ---- inputs
 
 /// Two days: most often good ones, and the same as the last.
-fn days(r: &mut Random, last: (f64, f64)) -> (f64, f64) {
+pub fn days(r: &mut Random, last: (f64, f64)) -> (f64, f64) {
     match r.below(16) {
         0 => (inputs::damaged(r), last.1),
         1 => (last.0, inputs::damaged(r)),
@@ -284,7 +285,7 @@ fn record(r: &mut Random, stars: usize, day1: f64, day2: f64) -> Record {
     one
 }
 
-fn list(r: &mut Random, day1: f64, day2: f64) -> Vec<u8> {
+pub fn list(r: &mut Random, day1: f64, day2: f64) -> Vec<u8> {
     let stars = match r.below(16) {
         0 => 0,
         1 => 1,
@@ -427,7 +428,7 @@ fn lent<T: Copy>(len: usize, fill: T) -> Vec<T> {
 }
 
 /// The length of a lent slice.
-fn places(r: &mut Random, stars: usize) -> usize {
+pub fn places(r: &mut Random, stars: usize) -> usize {
     match r.below(24) {
         0 => stars.saturating_sub(1),
         1 => 0,
@@ -436,7 +437,7 @@ fn places(r: &mut Random, stars: usize) -> usize {
     }
 }
 
-fn compare_batch(
+pub fn compare_batch(
     edition: &Edition,
     bytes: &[u8],
     lens: [usize; 3],
@@ -634,8 +635,13 @@ fn sample_list(r: &mut Random, bytes: &[u8], both: (f64, f64), a_number: fn(&mut
         let answer = found.map_or(String::new(), |(index, one)| format!(" {} {}", index, one.told_but_number()));
         println!("find {} = {}{}", number, status, answer);
     }
+    sample_batches(&[CRATE, PUBLISHED], bytes, both);
+}
+
+/// A list in these editions.
+pub fn sample_batches(editions: &[Edition], bytes: &[u8], both: (f64, f64)) {
     let status = batch_status(bytes, [bytes.len() / RECORD; 3], both);
-    for edition in [CRATE, PUBLISHED].iter() {
+    for edition in editions.iter() {
         let mut answer = String::new();
         for i in 0..if status == 0 { bytes.len() / RECORD } else { 0 } {
             let (status, asc, dec) = reduced(edition, Record::at(bytes, RECORD * i), both.0, both.1);

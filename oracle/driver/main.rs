@@ -19,6 +19,7 @@ mod published;
 mod put;
 mod radio;
 mod residuals;
+mod rotation;
 mod table;
 mod transit;
 mod widths;
@@ -170,7 +171,8 @@ fn compare(n: u64) -> bool {
 
 /// Calls on lists, and of those that differ.
 fn compare_lists(n: u64) -> (u64, u64) {
-    let all = [lists::compare(n / 4), radio::compare(n), widths::compare(n), edits::compare(n), residuals::compare(n)];
+    let all =
+        [lists::compare(n / 4), radio::compare(n), widths::compare(n), edits::compare(n), residuals::compare(n), rotation::compare(n / 16)];
     all.iter().fold((0, 0), |t, c| (t.0 + c.0, t.1 + c.1))
 }
 
@@ -310,6 +312,7 @@ const RADIO_LISTS: u64 = 64;
 const WIDTH_LISTS: u64 = 48;
 const EDITED_LISTS: u64 = 48;
 const NIGHTS: u64 = 64;
+const ROTATED_LISTS: u64 = 24;
 
 fn sample(n: u64) {
     println!("# What the supplied Rust answers over the port's elementary functions and helpers, and these by their rules written a second");
@@ -348,6 +351,7 @@ fn sample(n: u64) {
     widths::sample(WIDTH_LISTS);
     edits::sample(EDITED_LISTS);
     residuals::sample(NIGHTS);
+    rotation::sample(ROTATED_LISTS);
 }
 
 fn main() {

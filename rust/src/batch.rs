@@ -42,10 +42,18 @@ pub fn reduced(bytes: &[u8], day1: f64, day2: f64) -> Result<Vec<Reduced>, Refus
 
 /// The same in an edition, which is the chain's.
 pub fn reduced_by(edition: Edition, bytes: &[u8], day1: f64, day2: f64) -> Result<Vec<Reduced>, Refusal> {
-    // Room for every record of the longest list: more bytes are no list, which is the batch's to refuse, after the days.
+    by_star(bytes, |status, asc, dec| batch_by(edition, bytes, day1, day2, status, asc, dec))
+}
+
+/// Each star of a list with what a call stored of it.
+pub(crate) fn by_star(
+    bytes: &[u8],
+    store: impl FnOnce(&mut [u8], &mut [f64], &mut [f64]) -> Result<[u32; COUNTS], Refusal>,
+) -> Result<Vec<Reduced>, Refusal> {
+    // Room for every record of the longest list: more bytes are no list, which is the call's to refuse, after the days.
     let records = MOST_STARS.min(bytes.len() / RECORD_BYTES);
     let (mut status, mut asc, mut dec) = (vec![0; records], vec![0.0; records], vec![0.0; records]);
-    batch_by(edition, bytes, day1, day2, &mut status, &mut asc, &mut dec)?;
+    store(&mut status, &mut asc, &mut dec)?;
     let (mut reduced, mut place) = (Vec::with_capacity(records), 0);
     // The record of a star that is shown is the one that ends at the next place, whatever was passed over before it.
     while let Some((star, next)) = list::star(bytes, place)? {

@@ -81,7 +81,7 @@ boundary! {
 // ---- the stored list: the slices' own lengths go with them
 
 mod stored {
-    /// The editions of the batch, which take the same.
+    /// The editions of the batch and of the rotation, which take the same.
     macro_rules! batches {
         ($($symbol:ident)*) => {
             extern "C" {
@@ -102,7 +102,7 @@ mod stored {
         };
     }
 
-    batches! { brundelak_batch brundelak_batch_published }
+    batches! { brundelak_batch brundelak_batch_published brundelak_rotate brundelak_rotate_published }
 
     extern "C" {
         pub fn brundelak_star(
@@ -282,21 +282,19 @@ pub fn gather(bytes: &mut [u8]) -> Result<(), Refusal> {
     Refusal::from_status(unsafe { stored::brundelak_gather(bytes.as_mut_ptr(), bytes.len()) })
 }
 
-/// The tally.
-pub fn batch(
-    edition: Edition,
+type Storing =
+    unsafe extern "C" fn(*const u8, usize, f64, f64, *mut u8, usize, *mut f64, usize, *mut f64, usize, *mut u32) -> u8;
+
+/// The tally of a call that stores a list's stars.
+fn stored_by(
+    call: Storing,
     bytes: &[u8],
-    day1: f64,
-    day2: f64,
+    (day1, day2): (f64, f64),
     status: &mut [u8],
     asc: &mut [f64],
     dec: &mut [f64],
 ) -> Result<[u32; COUNTS], Refusal> {
     let mut tally = [0; COUNTS];
-    let call = match edition {
-        Edition::Crate => stored::brundelak_batch,
-        Edition::Published => stored::brundelak_batch_published,
-    };
     let answer = unsafe {
         call(
             bytes.as_ptr(),
@@ -314,6 +312,40 @@ pub fn batch(
     };
     Refusal::from_status(answer)?;
     Ok(tally)
+}
+
+/// The tally.
+pub fn batch(
+    edition: Edition,
+    bytes: &[u8],
+    day1: f64,
+    day2: f64,
+    status: &mut [u8],
+    asc: &mut [f64],
+    dec: &mut [f64],
+) -> Result<[u32; COUNTS], Refusal> {
+    let call = match edition {
+        Edition::Crate => stored::brundelak_batch,
+        Edition::Published => stored::brundelak_batch_published,
+    };
+    stored_by(call, bytes, (day1, day2), status, asc, dec)
+}
+
+/// The tally.
+pub fn rotate(
+    edition: Edition,
+    bytes: &[u8],
+    day1: f64,
+    day2: f64,
+    status: &mut [u8],
+    asc: &mut [f64],
+    dec: &mut [f64],
+) -> Result<[u32; COUNTS], Refusal> {
+    let call = match edition {
+        Edition::Crate => stored::brundelak_rotate,
+        Edition::Published => stored::brundelak_rotate_published,
+    };
+    stored_by(call, bytes, (day1, day2), status, asc, dec)
 }
 
 /// The numbers of both sheets, as C lays them out.

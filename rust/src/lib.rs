@@ -37,6 +37,7 @@ pub mod parallax;
 pub mod precess;
 pub mod radio;
 pub mod residuals;
+pub mod rotation;
 pub mod time;
 pub mod transit;
 

@@ -3,5 +3,4 @@ pub mod Known
 pub mod Star
 pub mod ReadBack
 pub mod Batch
-pub mod StarStored
 pub mod Wrong

@@ -1,16 +1,17 @@
-// The stored list: a star shown, a star written, find and the batch.
+// The stored list: a star shown, a star written, find, the batch and the rotation.
 ghost use Rattle.edition.specs.declared.Edition.the-variants.{Crate, Published};
 ghost use Rattle.list.specs.rules.Find.{findRule};
 ghost use Rattle.list.specs.rules.Reader.{readRule};
 ghost use Rattle.list.specs.rules.Writer.{recordText};
 ghost use Rattle.brundelak.specs.rules.Put.{HandedPut};
-ghost use Rattle.brundelak.specs.rules.Stored.{fields, HandedFound, HandedStar, HandedBatch, HandedRaise};
+ghost use Rattle.brundelak.specs.rules.Stored.{fields, HandedFound, HandedStar, HandedTally, HandedBatch, HandedRotated, HandedRaise};
 use edition::Edition;
 use lent::Written;
 use list::Found;
 use list::Star;
 use list::Stored;
 use list_tally::Tally;
+use star_store::Tallied;
 
 // The first star with a number: its index and the record's other fields. Refusals: 8; 10 for number 0 too; 9.
 #[no_mangle]
@@ -109,6 +110,19 @@ pub extern "C" fn brundelak_put_star(
     }
 }
 
+// The refusal of a call that stored its stars, with the counts of its tally handed over where there is none.
+fn hand_tally(tallied: Tallied, counts: &mut [u32; 20]) -> u8
+    ensures { λ n. ⌜ HandedTally tallied n (now (counts .entry)) (now (counts .exit)) ⌝ }
+{
+    if tallied.refusal != 0 {
+        return tallied.refusal;
+    }
+    let tally = tallied.tally;
+    let all = tally.counts;
+    *counts = all;
+    0
+}
+
 // The batch in an edition, with its counts handed over. Refusals: 1; 2; 8.
 fn hand_batch(
     edition: Edition,
@@ -123,14 +137,8 @@ fn hand_batch(
     ensures { λ n. ⌜ HandedBatch edition (now (bytes .entry)) day1 day2 (now (status .entry)) (now (asc .entry)) (now (dec .entry))
         (now (counts .entry)) n (now (status .exit)) (now (asc .exit)) (now (dec .exit)) (now (counts .exit)) ⌝ }
 {
-    let b = batch::batch(edition, bytes, day1, day2, status, asc, dec);
-    if b.refusal != 0 {
-        return b.refusal;
-    }
-    let tally = b.tally;
-    let all = tally.counts;
-    *counts = all;
-    0
+    let tallied = batch::batch(edition, bytes, day1, day2, status, asc, dec);
+    hand_tally(tallied, counts)
 }
 
 // Every star of a list from the first day to the second: status, right ascension and declination of each into the lent slices, and
@@ -166,6 +174,68 @@ pub extern "C" fn brundelak_batch_published(
         (now (counts .entry)) n (now (status .exit)) (now (asc .exit)) (now (dec .exit)) (now (counts .exit)) ⌝ }
 {
     hand_batch(
+        Edition::Published,
+        bytes,
+        day1,
+        day2,
+        status,
+        asc,
+        dec,
+        counts,
+    )
+}
+
+// The rotation of a list in an edition, with its counts handed over. Refusals: 1; 2; 8.
+fn hand_rotate(
+    edition: Edition,
+    bytes: &[u8],
+    day1: f64,
+    day2: f64,
+    status: &mut [u8],
+    asc: &mut [u64],
+    dec: &mut [u64],
+    counts: &mut [u32; 20],
+) -> u8
+    ensures { λ n. ⌜ HandedRotated edition (now (bytes .entry)) day1 day2 (now (status .entry)) (now (asc .entry)) (now (dec .entry))
+        (now (counts .entry)) n (now (status .exit)) (now (asc .exit)) (now (dec .exit)) (now (counts .exit)) ⌝ }
+{
+    let tallied = rotation_list::rotate(edition, bytes, day1, day2, status, asc, dec);
+    hand_tally(tallied, counts)
+}
+
+// Every star of a list under the one rotation of precession from the first day to the second, without nutation and aberration: stored and
+// counted as brundelak_batch does. Refusals, which leave all lent memory unchanged: 1; 2; 8.
+#[no_mangle]
+pub extern "C" fn brundelak_rotate(
+    bytes: &[u8],
+    day1: f64,
+    day2: f64,
+    status: &mut [u8],
+    asc: &mut [u64],
+    dec: &mut [u64],
+    counts: &mut [u32; 20],
+) -> u8
+    ensures { λ n. ⌜ HandedRotated Crate (now (bytes .entry)) day1 day2 (now (status .entry)) (now (asc .entry)) (now (dec .entry))
+        (now (counts .entry)) n (now (status .exit)) (now (asc .exit)) (now (dec .exit)) (now (counts .exit)) ⌝ }
+{
+    hand_rotate(Edition::Crate, bytes, day1, day2, status, asc, dec, counts)
+}
+
+// The same in the published edition.
+#[no_mangle]
+pub extern "C" fn brundelak_rotate_published(
+    bytes: &[u8],
+    day1: f64,
+    day2: f64,
+    status: &mut [u8],
+    asc: &mut [u64],
+    dec: &mut [u64],
+    counts: &mut [u32; 20],
+) -> u8
+    ensures { λ n. ⌜ HandedRotated Published (now (bytes .entry)) day1 day2 (now (status .entry)) (now (asc .entry)) (now (dec .entry))
+        (now (counts .entry)) n (now (status .exit)) (now (asc .exit)) (now (dec .exit)) (now (counts .exit)) ⌝ }
+{
+    hand_rotate(
         Edition::Published,
         bytes,
         day1,

@@ -1,5 +1,5 @@
 -- What is proved of precession, for callers to cite. Theorems only.
 pub mod Constants
 pub mod Editions
-pub mod Arcs
+pub mod Two
 pub mod Wrong

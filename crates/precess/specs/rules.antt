@@ -2,5 +2,4 @@
 pub mod Numbers
 pub mod Annual
 pub mod Equatorial
-pub mod Arcs
 pub mod Two

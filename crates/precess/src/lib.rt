@@ -5,7 +5,6 @@ ghost use mathlib.Core.Path.{_≡_};
 ghost use Rattle.quantity.specs.rules.Answer.{shownTwo};
 ghost use Rattle.precess.specs.rules.Annual.{annualM, annualN, annualAt, annualIn, annualRefusal, annualPrecessRule};
 ghost use Rattle.precess.specs.rules.Equatorial.{arcsOf, precessedFrom, precessedIn, precessEqCoordsRule, precessEqCoordsFK5Rule};
-ghost use Rattle.precess.specs.rules.Arcs.{arcsRefusal};
 ghost use Rattle.precess.specs.rules.Two.{precessedTwoFrom, precessedTwo};
 use edition::Edition;
 use elementary::Direction;
@@ -123,22 +122,7 @@ pub fn precessed_in(asc: Rad, dec: Rad, precession: EqPrecession) -> Two
     precessed_from(elementary::toward(p), precession)
 }
 
-// Refusals of arcs: 14; 7; and 1 of a NaN.
-fn arcs_refusal(a: Arcs) -> u8
-    ensures { λ r. ⌜ r ≡ arcsRefusal a ⌝ }
-{
-    let height = a.height;
-    if elementary_arc::both_zero(a.up, a.across) {
-        return 14;
-    }
-    let size = double::size(height);
-    if size <= 1.0 {
-        return 0;
-    }
-    if 1.0 < size { 7 } else { 1 }
-}
-
-// Two places after precession, side by side: both roots first, for both declinations wait for them. Refusals of each: 14; 7.
+// Two places after precession, side by side. Refusals of each: 14; 7.
 fn precessed_two_from(d: Direction, e: Direction, precession: EqPrecession) -> Places
     ensures { λ r. ⌜ r ≡ precessedTwoFrom d e precession ⌝ }
 {
@@ -147,15 +131,23 @@ fn precessed_two_from(d: Direction, e: Direction, precession: EqPrecession) -> P
     let b = arcs_of(e, precession);
     let root = elementary_arc::arcsine_root(a.height);
     let root2 = elementary_arc::arcsine_root(b.height);
-    let ascs = elementary_arc::arctangents_of(a.up, a.across, b.up, b.across);
-    let decs = elementary_arc::arctangents_of(a.height, root, b.height, root2);
+    let p = precess_arcs::arcs_two(
+        a.up,
+        a.across,
+        a.height,
+        root,
+        b.up,
+        b.across,
+        b.height,
+        root2,
+    );
     Places {
-        first_asc: ascs.first.0 + zeta.0,
-        second_asc: ascs.second.0 + zeta.0,
-        first_dec: decs.first.0,
-        second_dec: decs.second.0,
-        first_refusal: arcs_refusal(a),
-        second_refusal: arcs_refusal(b),
+        first_asc: p.first_asc + zeta.0,
+        second_asc: p.second_asc + zeta.0,
+        first_dec: p.first_dec,
+        second_dec: p.second_dec,
+        first_refusal: precess_arcs::arcs_refusal(a.up, a.across, a.height),
+        second_refusal: precess_arcs::arcs_refusal(b.up, b.across, b.height),
     }
 }
 

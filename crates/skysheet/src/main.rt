@@ -200,12 +200,18 @@ fn sun_at_the_horizon() {
     degrees(atmos::plan_alt(Deg(0.5541)));
 }
 
-// Polaris on a day: its place of J2000, 2h31m48.704s and 89d15'50.72", is moved by its yearly rates first.
-fn polaris(day: f64) {
+// Polaris on a day: its place of J2000, 2h31m48.704s and 89d15'50.72", moved by its yearly rates.
+fn polaris_at(day: f64) -> EqPoint {
     let years = (day - J2000) / 365.25;
-    let asc = deg((9108.704 + 0.19877 * years) / 240.0);
-    let dec = deg((321350.72 - 0.0152 * years) / 3600.0);
-    two(precess::precess_eq_coords(Edition::Crate, asc, dec, J2000, day));
+    EqPoint {
+        asc: deg((9108.704 + 0.19877 * years) / 240.0).0,
+        dec: deg((321350.72 - 0.0152 * years) / 3600.0).0,
+    }
+}
+
+fn polaris(day: f64) {
+    let place = polaris_at(day);
+    two(precess::precess_eq_coords(Edition::Crate, Rad(place.asc), Rad(place.dec), J2000, day));
 }
 
 // A record of J2000 on a day, its rates in whole milliarcseconds a year.
@@ -247,6 +253,37 @@ fn precessions() {
     polaris(2469807.5);
     polaris(2488070.0);
     two(precess_ecl::precess_ecl_coords(deg(149.48194), deg(1.76549), J2000, 1643074.5));
+}
+
+// A place of J2000 on a day by one rotation, the second of two that go side by side.
+fn rotated(place: EqPoint, day: f64) {
+    let toward = elementary::toward(place);
+    let places = rotation::rotated_two(
+        rotation::rotation_of(Edition::Crate, J2000, day),
+        toward,
+        toward,
+    );
+    if places.second_refusal == 0 {
+        number(places.second_asc);
+        next(places.second_dec);
+    } else {
+        refusal(places.second_refusal);
+    }
+    end();
+}
+
+// theta Persei, and Polaris on its three days.
+fn rotations() {
+    rotated(
+        EqPoint {
+            asc: deg(41.054063).0,
+            dec: deg(49.22775).0,
+        },
+        2462088.69,
+    );
+    rotated(polaris_at(2415020.3135), 2415020.3135);
+    rotated(polaris_at(2469807.5), 2469807.5);
+    rotated(polaris_at(2488070.0), 2488070.0);
 }
 
 // The mean obliquity on a day, then the true one.
@@ -358,6 +395,7 @@ fn main() {
     sun_at_the_horizon();
     precessions();
     moving_stars();
+    rotations();
     reductions();
     parallaxes();
     editions();

@@ -7,7 +7,7 @@ ghost use Rattle.lent.specs.rules.Writing.{Wrote};
 ghost use Rattle.lent.specs.rules.Texts.{texts};
 ghost use Rattle.list_tally.specs.rules.Status.{highestStatus};
 ghost use Rattle.text_answers.specs.rules.Answers.{starText, editionText, headingIn, headText, countText, countAt, tallyText, footText};
-ghost use Rattle.text_answers.specs.rules.Answers.{refusalIn, refusedIn, angleAt, lentLine, answersText};
+ghost use Rattle.text_answers.specs.rules.Answers.{refusalIn, refusedIn, angleAt, lentLine, listText, answersText};
 use edition::Edition;
 use list_tally::Tally;
 use quantity::Rad;
@@ -133,12 +133,12 @@ fn put_stars<'a>(
 // ---- head and foot
 
 // The edition in a line, where it is the published one.
-fn put_edition(out: &mut [u8], edition: Edition) -> usize
-    ensures { λ r. ⌜ Wrote (now (out .entry)) 0 (editionText edition) (now (out .exit)) r ⌝ }
+fn put_edition(out: &mut [u8], at: usize, edition: Edition) -> usize
+    ensures { λ r. ⌜ Wrote (now (out .entry)) at (editionText edition) (now (out .exit)) r ⌝ }
 {
     match edition {
-        Edition::Crate => 0,
-        Edition::Published => lent::put(out, 0, b"edition published\n"),
+        Edition::Crate => lent::within(at, out.len()),
+        Edition::Published => lent::put(out, at, b"edition published\n"),
     }
 }
 
@@ -163,10 +163,10 @@ fn put_heading(out: &mut [u8], at: usize, style: Style) -> usize
 }
 
 // What stands before the stars.
-fn put_head(out: &mut [u8], style: Style, edition: Edition) -> usize
-    ensures { λ r. ⌜ Wrote (now (out .entry)) 0 (headText style edition) (now (out .exit)) r ⌝ }
+fn put_head(out: &mut [u8], at: usize, style: Style, edition: Edition) -> usize
+    ensures { λ r. ⌜ Wrote (now (out .entry)) at (headText style edition) (now (out .exit)) r ⌝ }
 {
-    let a = put_edition(out, edition);
+    let a = put_edition(out, at, edition);
     put_heading(out, a, style)
 }
 
@@ -241,6 +241,26 @@ fn put_refused(out: &mut [u8], style: Style, n: u8) -> usize
 
 // ---- the whole
 
+// The answers of a list whose call was not refused, with such a tally, from the offset on; and the offset after them.
+pub fn put_list<'a>(
+    out: &mut [u8],
+    at: usize,
+    style: Style,
+    edition: Edition,
+    bytes: &'a [u8],
+    status: &'a [u8],
+    asc: &'a [u64],
+    dec: &'a [u64],
+    tally: Tally,
+) -> usize
+    ensures { λ r. ⌜ Wrote (now (out .entry)) at
+        (listText style edition (now (bytes .entry)) (now (status .entry)) (now (asc .entry)) (now (dec .entry)) tally) (now (out .exit)) r ⌝ }
+{
+    let a = put_head(out, at, style, edition);
+    let b = put_stars(out, a, style, bytes, status, asc, dec, list::count(bytes));
+    put_foot(out, b, style, tally)
+}
+
 // The answers of a list that was reduced with such a refusal and tally, from the slice's start on; and the offset after them.
 pub fn put_answers<'a>(
     out: &mut [u8],
@@ -260,7 +280,5 @@ pub fn put_answers<'a>(
     if stated != 0 {
         return put_refused(out, style, stated);
     }
-    let a = put_head(out, style, edition);
-    let b = put_stars(out, a, style, bytes, status, asc, dec, list::count(bytes));
-    put_foot(out, b, style, tally)
+    put_list(out, 0, style, edition, bytes, status, asc, dec, tally)
 }

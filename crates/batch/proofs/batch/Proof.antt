@@ -5,17 +5,22 @@ use mathlib.Core.Path.{_≡_, sym, ap, _∙_}
 use Prim.Native.Nat.{_+_, _-_, _≤_, _<_}
 use native.Mathlib.Omega.{arith}
 use Rattle.double.specs.laws.Calls.{asks-nothing}
-use Rattle.quantity.specs.rules.Answer.{firstPlace, secondPlace}
+use Rattle.quantity.specs.rules.Answer.{Answer, Pair, firstPlace, secondPlace}
+use Rattle.list.specs.declared.Star.{Star}
 use Rattle.list.specs.rules.Stars.{countOf}
-use Rattle.batch.specs.notions.StarStored.{under, Begun, Upto}
-use Rattle.batch.specs.laws.Star.{first-star, second-star}
-use Rattle.batch.specs.laws.StarStored.{few-stars, no-star-stored, places-there, one-star-stored, all-stars-stored}
+use Rattle.star_store.specs.rules.Stored.{answersBy}
+use Rattle.star_store.specs.notions.StarStored.{Begun, Upto}
+use Rattle.star_store.specs.laws.StarStored.{allowed, few-stars, no-star-stored, places-there, one-star-stored, all-stars-stored}
+use Rattle.batch.specs.rules.Batch.{answersOf}
+use Rattle.batch.specs.notions.Under.{under}
+use Rattle.batch.specs.laws.Known.{known-under}
+use Rattle.batch.specs.laws.Star.{first-star, second-star, answers-under-a-night}
 use Rattle.batch.proofs.batch.Statement.{statement}
 use Rattle.batch.proofs.batch.Tie as tie
 
 abbrev Inv-loop : tie.InvT-loop
 Inv-loop bytes day1 day2 status₀ asc₀ dec₀ why tally₀ night years n i₀ status asc dec tally i =
-    (i ≤ n) × ((n ≡ countOf bytes) × Upto night years bytes status₀ asc₀ dec₀ i tally status asc dec)
+    (i ≤ n) × ((n ≡ countOf bytes) × Upto (under night years) bytes status₀ asc₀ dec₀ i tally status asc dec)
 
 abbrev μ-loop : tie.MeasureT-loop
 μ-loop bytes day1 day2 status₀ asc₀ dec₀ why tally₀ night years n i₀ status asc dec tally i = n - i
@@ -23,9 +28,9 @@ abbrev μ-loop : tie.MeasureT-loop
 returns : tie.Need-returns Inv-loop μ-loop
 returns c =
     let at-refusal = c .before .before in
-    let refused = ne-eqb _ _ (λ e. c .if1 .taken (at-refusal .batch-refusal .ensures ∙ e)) in
+    let refused = ne-eqb _ _ (λ e. c .if1 .taken (at-refusal .store-refusal .ensures ∙ e)) in
     record {
-      answer = simp refused (λ j. record { refusal = at-refusal .batch-refusal .ensures j; tally = c .before .new .ensures j });
+      answer = simp refused (λ j. record { refusal = at-refusal .store-refusal .ensures j; tally = c .before .new .ensures j });
       statuses = simp refused;
       ascs = simp refused;
       decs = simp refused;
@@ -36,14 +41,23 @@ module _ (c : tie.After-count Inv-loop μ-loop) where
   abbrev begin : tie.Start Inv-loop μ-loop
   begin = c .before .before .before .before .before .before .before .before .before .before
 
-  begun : Begun (begin .args .edition) (begin .args .bytes .now) (begin .args .day1) (begin .args .day2) (begin .args .status .now) (begin .args .asc .now) (begin .args .dec .now) (c .before .before .night-of .result) (c .before .years-between .result)
+  -- under its night, after its years
+  abbrev rule : Star → Answer Pair
+  rule = under (c .before .before .night-of .result) (c .before .years-between .result)
+
+  begun : Begun rule (begin .args .bytes .now) (begin .args .day1) (begin .args .day2) (begin .args .status .now) (begin .args .asc .now) (begin .args .dec .now)
   begun =
       let at-night = c .before .before in
       record {
-        none = sym (at-night .before .before .before .batch-refusal .ensures) ∙ at-night .before .if1 .left;
-        night-is = at-night .night-of .ensures;
-        years-are = c .before .years-between .ensures;
+        none = sym (at-night .before .before .before .store-refusal .ensures) ∙ at-night .before .if1 .left;
+        known = λ star. rw (at-night .night-of .ensures) (known-under (begin .args .edition) star (begin .args .day1) (begin .args .day2) (c .before .years-between .result));
       }
+
+  -- which is what is promised
+  promised : answersBy rule (begin .args .bytes .now) ≡ answersOf (begin .args .edition) (begin .args .bytes .now) (begin .args .day1) (begin .args .day2)
+  promised =
+      answers-under-a-night (begin .args .edition) (begin .args .bytes .now) (begin .args .day1) (begin .args .day2) (allowed begun .days)
+      (c .before .before .night-of .ensures) (c .before .years-between .ensures)
 
 loop-holds : tie.Need-loop-holds Inv-loop μ-loop
 loop-holds c = (search needs, (c .count .ensures, no-star-stored (begun c) _ (c .before .before .before .before .new .ensures)))
@@ -72,11 +86,11 @@ module _ (c : tie.After-store-star Inv-loop μ-loop) where
   abbrev before-pass : tie.After-count Inv-loop μ-loop
   before-pass = in-pass .before .before
 
-  first-stored : Upto (before-pass .before .before .night-of .result) (before-pass .before .years-between .result) (begin before-pass .args .bytes .now) (begin before-pass .args .status .now) (begin before-pass .args .asc .now) (begin before-pass .args .dec .now) (in-pass .before .loop .i + 1) (c .store-star .result) (c .store-star .last .0) (c .store-star .last .1 .0) (c .store-star .last .1 .1 .0)
+  first-stored : Upto (rule before-pass) (begin before-pass .args .bytes .now) (begin before-pass .args .status .now) (begin before-pass .args .asc .now) (begin before-pass .args .dec .now) (in-pass .before .loop .i + 1) (c .store-star .result) (c .store-star .last .0) (c .store-star .last .1 .0) (c .store-star .last .1 .1 .0)
   first-stored =
       let at-two = c .before .before .before .before in
       one-star-stored (begun before-pass) (in-pass .before .loop .inv .1 .1) (omega (arith, both-there in-pass))
-      (ap firstPlace (at-two .two-stars-under .ensures) ∙ first-star _ _ _ _ ∙ ap (under (before-pass .before .before .night-of .result) (before-pass .before .years-between .result)) (at-two .before .before .nth .ensures))
+      (ap firstPlace (at-two .two-stars-under .ensures) ∙ first-star _ _ _ _ ∙ ap (rule before-pass) (at-two .before .before .nth .ensures))
       (c .store-star .ensures)
 
 store-star-requires-2 : tie.Need-store-star-requires-2 Inv-loop μ-loop
@@ -102,7 +116,7 @@ loop-again c =
       (
         in-pass at-first .before .loop .inv .1 .0,
         one-star-stored (begun (before-pass at-first)) (first-stored at-first) (both-there (in-pass at-first))
-            (ap secondPlace (at-two .two-stars-under .ensures) ∙ second-star _ _ _ _ ∙ ap (under (before-pass at-first .before .before .night-of .result) (before-pass at-first .before .years-between .result)) (at-two .before .nth2 .ensures))
+            (ap secondPlace (at-two .two-stars-under .ensures) ∙ second-star _ _ _ _ ∙ ap (rule (before-pass at-first)) (at-two .before .nth2 .ensures))
             (at-second .store-star2 .ensures),
       ),
     )
@@ -125,11 +139,11 @@ module _ (c : tie.After-store-star3 Inv-loop μ-loop) where
   abbrev before-last : tie.After-count Inv-loop μ-loop
   before-last = with-one-left .before .before .before
 
-  last-stored : Upto (before-last .before .before .night-of .result) (before-last .before .years-between .result) (begin before-last .args .bytes .now) (begin before-last .args .status .now) (begin before-last .args .asc .now) (begin before-last .args .dec .now) (with-one-left .before .before .loop .i + 1) (c .store-star3 .result) (c .store-star3 .last .0) (c .store-star3 .last .1 .0) (c .store-star3 .last .1 .1 .0)
+  last-stored : Upto (rule before-last) (begin before-last .args .bytes .now) (begin before-last .args .status .now) (begin before-last .args .asc .now) (begin before-last .args .dec .now) (with-one-left .before .before .loop .i + 1) (c .store-star3 .result) (c .store-star3 .last .0) (c .store-star3 .last .1 .0) (c .store-star3 .last .1 .1 .0)
   last-stored =
       let at-two = c .before .before .before .before in
       one-star-stored (begun before-last) (with-one-left .before .before .loop .inv .1 .1) (last-there with-one-left)
-      (ap firstPlace (at-two .two-stars-under2 .ensures) ∙ first-star _ _ _ _ ∙ ap (under (before-last .before .before .night-of .result) (before-last .before .years-between .result)) (at-two .before .nth3 .ensures))
+      (ap firstPlace (at-two .two-stars-under2 .ensures) ∙ first-star _ _ _ _ ∙ ap (rule before-last) (at-two .before .nth3 .ensures))
       (c .store-star3 .ensures)
 
 same-length : tie.Need-same-length Inv-loop μ-loop
@@ -145,7 +159,7 @@ returns-2 : tie.Need-returns-2 Inv-loop μ-loop
 returns-2 c =
     let at-last = c .before .before .before .before .before .before in
     let left = with-one-left at-last in
-    all-stars-stored (begun (before-last at-last)) (last-stored at-last)
+    all-stars-stored (begun (before-last at-last)) (last-stored at-last) (promised (before-last at-last))
     (omega (arith, left .before .loop-test .left, last-there left, left .before .before .loop .inv .1 .0))
 
 same-length-4 : tie.Need-same-length-4 Inv-loop μ-loop
@@ -160,7 +174,7 @@ same-length-6 c = c .before .before .loop .inv .1 .1 .decs .long
 returns-3 : tie.Need-returns-3 Inv-loop μ-loop
 returns-3 c =
     let inv = c .before .before .loop .inv in
-    all-stars-stored (begun (c .before .before .before)) (inv .1 .1) (omega (arith, c .if2 .left, inv .0, inv .1 .0))
+    all-stars-stored (begun (c .before .before .before)) (inv .1 .1) (promised (c .before .before .before)) (omega (arith, c .if2 .left, inv .0, inv .1 .0))
 
 pub batch-spec : {M : Type 1} → statement M
 batch-spec =

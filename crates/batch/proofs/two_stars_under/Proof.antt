@@ -1,6 +1,7 @@
 -- `batch::two_stars_under` meets its contract.
 use Rattle.double.specs.laws.Calls.{asks-nothing}
-use Rattle.batch.specs.rules.Star.{starRefusal, twoStarsUnder}
+use Rattle.star_store.specs.rules.Star.{starRefusal}
+use Rattle.batch.specs.rules.Star.{twoStarsUnder}
 use Rattle.batch.proofs.two_stars_under.Statement.{statement}
 use Rattle.batch.proofs.two_stars_under.Tie as tie
 

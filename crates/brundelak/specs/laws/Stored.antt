@@ -1,12 +1,10 @@
--- How find's and the batch's promises reach the C caller.
+-- How the promises of find, of the reader and of a tally reach the C caller.
 use Prim.Native.Nat.{ℕ}
 use mathlib.Core.Path.{_≡_, refl, sym}
 use mathlib.Core.List.{List}
 use lib.IntN.{ℤ}
-use lib.Ieee.{Float}
 use borrow.Author.Tests.{eq-eqb, ne-eqb}
 use Rattle.quantity.specs.rules.Answer.{Answer}
-use Rattle.edition.specs.declared.Edition.{Edition}
 use Rattle.list.specs.declared.Star.{Star}
 use Rattle.list.specs.declared.Stored.{Stored}
 use Rattle.list.specs.declared.Stored.the-variants as stored
@@ -14,9 +12,8 @@ use Rattle.list.specs.declared.Found.{Found}
 use Rattle.list.specs.declared.Found.the-variants.{At, Refused}
 use Rattle.list.specs.rules.Find.{Entry, shownFound}
 use Rattle.list.specs.rules.Reader.{Item, shownStored}
-use Rattle.batch.specs.declared.Batched.{Batched}
-use Rattle.batch.specs.rules.Batch.{Batch}
-use Rattle.brundelak.specs.rules.Stored.{fields, HandedFound, HandedStar, HandedBatch}
+use Rattle.star_store.specs.declared.Tallied.{Tallied}
+use Rattle.brundelak.specs.rules.Stored.{fields, HandedFound, HandedStar, HandedTally}
 
 pub found-handed : {a : Answer Entry} {r : Found} {i index asc₀ : ℕ} {star : Star} {d u v dec ascRate decRate : ℤ} → shownFound r ≡ a
     → r ≡ At i star → d ≡ star .dec → u ≡ star .«asc_rate» → v ≡ star .«dec_rate»
@@ -48,9 +45,8 @@ pub field-by-field : (star : Star) {d u v : ℤ} → d ≡ star .dec → u ≡ s
     → fields (star .number) (star .asc) d u v ≡ star
 field-by-field star d u v = λ i. fields (star .number) (star .asc) (d i) (u i) (v i)
 
-module _ {edition : Edition} {s : List ℕ} {day1 day2 : Float} {status asc dec counts : List ℕ} {status′ asc′ dec′ : List ℕ} (b : Batched) (done : Batch edition s day1 day2 status asc dec b status′ asc′ dec′) where
-  pub batch-refused : (b .refusal ≡ 0 → ⊥) → HandedBatch edition s day1 day2 status asc dec counts (b .refusal) status′ asc′ dec′ counts
-  batch-refused h = record { batched = b; batch = done; answers = refl; leaves-counts = rw (ne-eqb (b .refusal) 0 h) }
+pub tally-refused : (t : Tallied) {counts : List ℕ} → (t .refusal ≡ 0 → ⊥) → HandedTally t (t .refusal) counts counts
+tally-refused t h = record { answers = refl; leaves-counts = rw (ne-eqb (t .refusal) 0 h) }
 
-  pub batch-done : b .refusal ≡ 0 → HandedBatch edition s day1 day2 status asc dec counts 0 status′ asc′ dec′ (b .tally .counts)
-  batch-done e = record { batched = b; batch = done; answers = sym e; leaves-counts = rw (eq-eqb (b .refusal) 0 e) }
+pub tally-handed : (t : Tallied) {counts : List ℕ} → t .refusal ≡ 0 → HandedTally t 0 counts (t .tally .counts)
+tally-handed t e = record { answers = sym e; leaves-counts = rw (eq-eqb (t .refusal) 0 e) }

@@ -6,16 +6,15 @@ use mathlib.Core.Bool.{cond}
 use lib.Dec.{eqb}
 use lib.IntN.{ℤ}
 use lib.Ieee.{Float}
-use Rattle.quantity.specs.rules.Answer.{Answer}
+use Rattle.quantity.specs.rules.Answer.{Answer, Pair}
 use Rattle.list.specs.rules.Find.{Entry}
 use Rattle.list.specs.rules.Reader.{Item}
 use Rattle.list.specs.declared.Star.{Star}
 use Rattle.list_groups.specs.rules.Reading.{AtOffset}
-use Rattle.edition.specs.declared.Edition.{Edition}
 use Rattle.residual_sheet.specs.rules.Residuals.{TwoSheets}
-use Rattle.batch.specs.declared.Batched.{Batched}
-use Rattle.batch.specs.laws.Batch.{batch-fixes-all}
-use Rattle.brundelak.specs.rules.Stored.{HandedFound, HandedStar, HandedBatch, HandedRaise}
+use Rattle.star_store.specs.declared.Tallied.{Tallied}
+use Rattle.star_store.specs.laws.Stored.{stored-fixes-all}
+use Rattle.brundelak.specs.rules.Stored.{HandedFound, HandedStar, HandedStored, HandedRaise}
 use Rattle.brundelak.specs.rules.Put.{HandedNumber, HandedPut}
 use Rattle.brundelak.specs.rules.Radio.{HandedOpened, HandedReceived}
 use Rattle.brundelak.specs.rules.Edits.{HandedEdit}
@@ -36,12 +35,14 @@ pub one-handed-raise : {status n m : ℕ} {counts c c′ : List ℕ} → HandedR
     → HandedRaise status counts m c′ → (n ≡ m) × (c ≡ c′)
 one-handed-raise t u = (t .answers ∙ sym (u .answers), t .leaves-counts ∙ sym (u .leaves-counts))
 
-pub one-handed-batch : {edition : Edition} {s status asc dec counts : List ℕ} {day1 day2 : Float} {n m : ℕ} {z z′ c c′ x x′ y y′ : List ℕ}
-    → HandedBatch edition s day1 day2 status asc dec counts n z x y c → HandedBatch edition s day1 day2 status asc dec counts m z′ x′ y′ c′
+pub one-handed-stored : (rule : Star → Answer Pair) {s status asc dec counts : List ℕ} {day1 day2 : Float} {n m : ℕ} {z z′ c c′ x x′ y y′ : List ℕ}
+    → HandedStored rule s day1 day2 status asc dec counts n z x y c → HandedStored rule s day1 day2 status asc dec counts m z′ x′ y′ c′
     → (n ≡ m) × ((c ≡ c′) × ((z ≡ z′) × ((x ≡ x′) × (y ≡ y′))))
-one-handed-batch {counts = counts} t u =
-    let f = batch-fixes-all (t .batch) (u .batch) in
-    (t .answers ∙ ap (λ (b : Batched). b .refusal) (f .0) ∙ sym (u .answers), (t .leaves-counts ∙ ap (λ (b : Batched). cond (eqb (b .refusal) 0) (b .tally .counts) counts) (f .0) ∙ sym (u .leaves-counts), f .1))
+one-handed-stored rule {counts = counts} t u =
+    let f = stored-fixes-all (t .stored) (u .stored) in
+    let h = t .handed in
+    let k = u .handed in
+    (h .answers ∙ ap (λ (b : Tallied). b .refusal) (f .0) ∙ sym (k .answers), (h .leaves-counts ∙ ap (λ (b : Tallied). cond (eqb (b .refusal) 0) (b .tally .counts) counts) (f .0) ∙ sym (k .leaves-counts), f .1))
 
 -- ---- a number, and a text put
 

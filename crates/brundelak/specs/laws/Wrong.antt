@@ -9,7 +9,7 @@ use lib.Ieee.{inf}
 use lib.ListN.{getD}
 use Rattle.double.specs.notions.Code.{ofNumber}
 use Rattle.double.specs.laws.Apart.{apart}
-use Rattle.quantity.specs.rules.Answer.{answered}
+use Rattle.quantity.specs.rules.Answer.{Answer, answered, Pair}
 use Rattle.quantity.specs.rules.Refusal.{epoch}
 use Rattle.quantity.specs.notions.Computed.{computed}
 use Rattle.lent.specs.rules.Put.{roomFor}
@@ -34,11 +34,10 @@ use Rattle.list_edit.specs.rules.Edit.{strikeRule, addRule, gatherRule}
 use Rattle.list_edit.specs.notions.Computed as edits
 use Rattle.residual_sheet.specs.declared.Sheet.{Sheet}
 use Rattle.residual_sheet.specs.rules.Residuals.{residualsRule, residualsRefusal, lengthsRefusal, two}
-use Rattle.edition.specs.declared.Edition.{Edition}
-use Rattle.batch.specs.declared.Batched.{Batched}
+use Rattle.star_store.specs.declared.Tallied.{Tallied}
 use Rattle.list.specs.rules.Stars.{isList, countOf, stars}
-use Rattle.batch.specs.rules.Batch.{batchRefusal, answersOf}
-use Rattle.brundelak.specs.rules.Stored.{fields, HandedFound, HandedBatch, HandedRaise}
+use Rattle.star_store.specs.rules.Stored.{storeRefusal}
+use Rattle.brundelak.specs.rules.Stored.{fields, HandedFound, HandedStored, HandedRaise}
 use Rattle.brundelak.specs.rules.Put.{HandedNumber, HandedPut}
 use Rattle.brundelak.specs.rules.Edits.{HandedEdit}
 use Rattle.brundelak.specs.rules.Radio.{HandedOpened, HandedReceived}
@@ -57,23 +56,23 @@ found-asc-lost-excluded wrong = apart ofNumber refl (wrong .leaves-asc)
 pub found-rates-traded-excluded : ¬ HandedFound (answered found) 0 0 0 (pos 0) (pos 0) (pos 0) 7 5 (pos 3) (pos 2) (pos 1)
 found-rates-traded-excluded wrong = apart natAbs refl (wrong .leaves-asc-rate)
 
--- the first day is no number
-pub batch-always-refused-by-eight-excluded : (edition : Edition) → ¬ HandedBatch edition [] (inf false) epoch [] [] [] [] 8 [] [] [] []
-unfolding computed batchRefusal daysRefusal
-batch-always-refused-by-eight-excluded edition wrong =
-    apart ofNumber refl (wrong .answers ∙ ap (λ (b : Batched). b .refusal) (wrong .batch .answer))
+-- the batch or the rotation, by whatever rule of a star: the first day is no number
+pub batch-always-refused-by-eight-excluded : (rule : Star → Answer Pair) → ¬ HandedStored rule [] (inf false) epoch [] [] [] [] 8 [] [] [] []
+unfolding computed storeRefusal daysRefusal
+batch-always-refused-by-eight-excluded rule wrong =
+    apart ofNumber refl (wrong .handed .answers ∙ ap (λ (b : Tallied). b .refusal) (wrong .stored .answer))
 
 -- so is the call refused, and of the angles a NaN that the caller left is made the quiet one
-pub nan-of-a-refused-batch-tidied-excluded : (edition : Edition)
-    → ¬ HandedBatch edition [] (inf false) epoch [] (0x7ff0000000000001 ∷ []) [] [] 1 [] (0x7ff8000000000000 ∷ []) [] []
-unfolding computed batchRefusal daysRefusal
-nan-of-a-refused-batch-tidied-excluded edition wrong = apart (λ (l : List ℕ). getD l 0 0) refl (wrong .batch .ascs)
+pub nan-of-a-refused-batch-tidied-excluded : (rule : Star → Answer Pair)
+    → ¬ HandedStored rule [] (inf false) epoch [] (0x7ff0000000000001 ∷ []) [] [] 1 [] (0x7ff8000000000000 ∷ []) [] []
+unfolding computed storeRefusal daysRefusal
+nan-of-a-refused-batch-tidied-excluded rule wrong = apart (λ (l : List ℕ). getD l 0 0) refl (wrong .stored .ascs)
 
 -- an empty list is reduced, and of the places past its stars a NaN is made the quiet one
-pub nan-past-the-stars-tidied-excluded : (edition : Edition) (counts′ : List ℕ)
-    → ¬ HandedBatch edition [] epoch epoch [] [] (0x7ff0000000000001 ∷ []) [] 0 [] [] (0x7ff8000000000000 ∷ []) counts′
-unfolding computed batchRefusal daysRefusal isList countOf stars answersOf
-nan-past-the-stars-tidied-excluded edition counts′ wrong = apart (λ (l : List ℕ). getD l 0 0) refl (wrong .batch .decs)
+pub nan-past-the-stars-tidied-excluded : (rule : Star → Answer Pair) (counts′ : List ℕ)
+    → ¬ HandedStored rule [] epoch epoch [] [] (0x7ff0000000000001 ∷ []) [] 0 [] [] (0x7ff8000000000000 ∷ []) counts′
+unfolding computed storeRefusal daysRefusal isList countOf stars
+nan-past-the-stars-tidied-excluded rule counts′ wrong = apart (λ (l : List ℕ). getD l 0 0) refl (wrong .stored .decs)
 
 -- the status 3, and 0 is counted
 pub another-status-counted-excluded : ¬ HandedRaise 3 (empty .counts) 0 (raiseRule empty 0 .tally .counts)

@@ -1,4 +1,4 @@
--- What a C caller sees of the stored list: a star found, a star shown, the batch, and a status counted.
+-- What a C caller sees of the stored list: a star found, a star shown, the batch and the rotation, and a status counted.
 use Prim.Native.Nat.{ℕ}
 use mathlib.Core.Path.{_≡_}
 use mathlib.Core.List.{List}
@@ -6,14 +6,16 @@ use mathlib.Core.Bool.{cond}
 use lib.Dec.{eqb}
 use lib.IntN.{ℤ}
 use lib.Ieee.{Float}
-use Rattle.quantity.specs.rules.Answer.{Answer, answered, refused, statusOf}
+use Rattle.quantity.specs.rules.Answer.{Answer, answered, refused, Pair, statusOf}
 use Rattle.edition.specs.declared.Edition.{Edition}
 use Rattle.list.specs.declared.Star.{Star}
 use Rattle.list.specs.rules.Find.{Entry}
 use Rattle.list.specs.rules.Reader.{Item, item, none}
 use Rattle.list_tally.specs.rules.Tally.{raiseRule}
-use Rattle.batch.specs.declared.Batched.{Batched}
-use Rattle.batch.specs.rules.Batch.{Batch}
+use Rattle.star_store.specs.declared.Tallied.{Tallied}
+use Rattle.star_store.specs.rules.Stored.{StarsStored}
+use Rattle.batch.specs.rules.Batch.{starsOn}
+use Rattle.rotation_list.specs.rules.Rotate.{rotatedOn}
 use Rattle.brundelak_handed.specs.rules.Boundary.{kept}
 
 -- what is lent for a star's fields, and what is handed over for them, as a star
@@ -48,12 +50,25 @@ pub record HandedStar (a : Answer Item) (n : ℕ) (star : Star) (next : ℕ) (st
   pub leaves-star : star′ ≡ keptItem (λ (r : Star) (k : ℕ). r) a star
   pub leaves-next : next′ ≡ keptItem (λ (r : Star) (k : ℕ). k) a next
 
--- the batch: its refusal, the three slices, and the 20 counts where it is not refused
-pub record HandedBatch (edition : Edition) (s : List ℕ) (day1 day2 : Float) (status asc dec counts : List ℕ) (n : ℕ) (status′ asc′ dec′ counts′ : List ℕ) : Type 0 where
-  pub batched : Batched
-  pub batch : Batch edition s day1 day2 status asc dec batched status′ asc′ dec′
-  pub answers : n ≡ batched .refusal
-  pub leaves-counts : counts′ ≡ cond (eqb (batched .refusal) 0) (batched .tally .counts) counts
+-- a tally: the refusal beside it, and its 20 counts where there is none
+pub record HandedTally (tallied : Tallied) (n : ℕ) (counts counts′ : List ℕ) : Type 0 where
+  pub answers : n ≡ tallied .refusal
+  pub leaves-counts : counts′ ≡ cond (eqb (tallied .refusal) 0) (tallied .tally .counts) counts
+
+-- a call that stores its stars by a rule: what it leaves in the three slices, and its tally
+pub record HandedStored (rule : Star → Answer Pair) (s : List ℕ) (day1 day2 : Float) (status asc dec counts : List ℕ) (n : ℕ)
+    (status′ asc′ dec′ counts′ : List ℕ) : Type 0 where
+  pub tallied : Tallied
+  pub stored : StarsStored rule s day1 day2 status asc dec tallied status′ asc′ dec′
+  pub handed : HandedTally tallied n counts counts′
+
+-- the batch
+abbrev pub HandedBatch : Edition → List ℕ → Float → Float → List ℕ → List ℕ → List ℕ → List ℕ → ℕ → List ℕ → List ℕ → List ℕ → List ℕ → Type 0
+HandedBatch edition s day1 day2 = HandedStored (starsOn edition day1 day2) s day1 day2
+
+-- the rotation of a list
+abbrev pub HandedRotated : Edition → List ℕ → Float → Float → List ℕ → List ℕ → List ℕ → List ℕ → ℕ → List ℕ → List ℕ → List ℕ → List ℕ → Type 0
+HandedRotated edition s day1 day2 = HandedStored (rotatedOn edition day1 day2) s day1 day2
 
 -- a status counted: the refusal, and the 20 counts, which stay where it is refused
 pub record HandedRaise (status : ℕ) (counts : List ℕ) (n : ℕ) (counts′ : List ℕ) : Type 0 where

@@ -11,7 +11,7 @@ use Rattle.quantity.specs.laws.Answer.{then-unless}
 use Rattle.elementary.specs.rules.Direction.{directionOf}
 use Rattle.precess.specs.rules.Equatorial.{precessedIn}
 use Rattle.precess.specs.rules.Two.{precessedTwo}
-use Rattle.precess.specs.laws.Arcs.{first-precessed, second-precessed}
+use Rattle.precess.specs.laws.Two.{first-precessed, second-precessed}
 use Rattle.chain.specs.declared.Night.{Night}
 use Rattle.chain.specs.rules.Chain.{point, pointRefusal}
 use Rattle.chain.specs.rules.Night.{movedUnder, pairOf, pointUnder, placeUnder}

@@ -36,7 +36,7 @@ use Rattle.precess.specs.rules.Equatorial.{arcsOf, precessedFrom, precessedIn, 
 use Rattle.domain_accepted.specs.laws.Accepted.{angle-between, latitude-sine, latitude-cosine}
 use Rattle.domain_accepted.specs.notions.Outcome.{Outcome, SevenOrFourteen}
 use Rattle.domain_accepted.specs.notions.Within.{Within, IsPlace, BothFinite}
-use Rattle.domain.specs.notions.Precession.{EqPrecessionNear, upOf, acrossOf, noDirection}
+use Rattle.domain.specs.notions.Precession.{EqAnglesNear, EqPrecessionNear, upOf, acrossOf, noDirection}
 use Rattle.domain_accepted.specs.laws.Outcome.{outcome-with, outcome-both, rule-answers, rule-refuses}
 use Rattle.domain_accepted.specs.laws.Elementary.{arctangent-outcome, arcsine-outcome}
 use Rattle.domain_accepted.specs.laws.Near.{within, near-far, near-sine, near-cosine}
@@ -108,9 +108,9 @@ module _ (c t : Float) (C : Within 41 c) (S : Within 41 t) where
   fk4-theta-near Crate = fk4-theta-within
   fk4-theta-near Published = within 2048 (known fk4-theta-within ⊠ con degree) tt
 
-precession-near : (a : EqAngles) → Within 1024 (a .xi .0) → Within 32 (a .zeta .0) → Within 2048 (a .theta .0) → EqPrecessionNear (precessionBy a)
+precession-near : (a : EqAngles) → EqAnglesNear a → EqPrecessionNear (precessionBy a)
 unfolding precessionBy
-precession-near a X Z T = record { xi = X; zeta = Z; sine = near-sine (a .theta) T; cosine = near-cosine (a .theta) T }
+precession-near a N = record { xi = N .xi; zeta = N .zeta; sine = near-sine (a .theta) (N .theta); cosine = near-cosine (a .theta) (N .theta) }
 
 module _ (e : Edition) (day1 day2 : Float) (none : daysRefusal day1 day2 ≡ 0) where
   century : Within 20 (centuryOf day1)
@@ -125,12 +125,16 @@ module _ (e : Edition) (day1 day2 : Float) (none : daysRefusal day1 day2 ≡ 0) 
   fk4-span : Within 41 (fk4Span day1 day2)
   fk4-span = fk4-span-within day1 day2 none
 
-  pub eq-precession-near : EqPrecessionNear (eqPrecessionOf e day1 day2)
-  unfolding eqPrecessionOf eqAnglesOf
-  eq-precession-near =
+  pub eq-angles-near : EqAnglesNear (eqAnglesOf e day1 day2)
+  unfolding eqAnglesOf
+  eq-angles-near =
       let c = centuryOf day1 in
       let t = spanOf day1 day2 in
-      precession-near (eqAnglesOf e day1 day2) (xi-within c t century span) (zeta-within c t century span e) (theta-within c t century span e)
+      record { xi = xi-within c t century span; zeta = zeta-within c t century span e; theta = theta-within c t century span e }
+
+  pub eq-precession-near : EqPrecessionNear (eqPrecessionOf e day1 day2)
+  unfolding eqPrecessionOf
+  eq-precession-near = precession-near (eqAnglesOf e day1 day2) eq-angles-near
 
   pub fk4-precession-near : EqPrecessionNear (fk4PrecessionOf e day1 day2)
   unfolding fk4PrecessionOf fk4AnglesOf
@@ -138,7 +142,11 @@ module _ (e : Edition) (day1 day2 : Float) (none : daysRefusal day1 day2 ≡ 0) 
       let c = fk4Century day1 in
       let t = fk4Span day1 day2 in
       precession-near (fk4AnglesOf e day1 day2)
-      (fk4-xi-near c t fk4-century fk4-span e) (fk4-zeta-near c t fk4-century fk4-span e) (fk4-theta-near c t fk4-century fk4-span e)
+      (record {
+        xi = fk4-xi-near c t fk4-century fk4-span e;
+        zeta = fk4-zeta-near c t fk4-century fk4-span e;
+        theta = fk4-theta-near c t fk4-century fk4-span e;
+      })
 
   -- the third angle goes into a sine
   pub theta-far : size (radiansOf (eqTheta e (centuryOf day1) (spanOf day1 day2)) .0) ≼ farthestAlone

@@ -25,7 +25,8 @@ use Rattle.chain.specs.rules.Chain.{chainRule}
 use Rattle.chain.specs.notions.Computed.{computed}
 use Rattle.list.specs.declared.Star.{Star}
 use Rattle.list.specs.rules.Record.{inRange}
-use Rattle.batch.specs.rules.Star.{starRefusal, starRule}
+use Rattle.star_store.specs.rules.Star.{starRefusal}
+use Rattle.batch.specs.rules.Star.{starRule}
 
 abbrev zeroOf : Bool → Float
 zeroOf true = minusZero

@@ -38,7 +38,8 @@ use Rattle.chain.specs.notions.Computed.{computed}
 use Rattle.chain.specs.notions.Still.{still}
 use Rattle.list.specs.declared.Star.{Star}
 use Rattle.list.specs.rules.Record.{quarter, inRange}
-use Rattle.batch.specs.rules.Star.{starRefusal, starUnder}
+use Rattle.star_store.specs.rules.Star.{starRefusal}
+use Rattle.batch.specs.rules.Star.{starUnder}
 use Rattle.domain_accepted.specs.notions.Within.{Within}
 use Rattle.domain.specs.notions.Nutation.{Moon, MoonNear}
 use Rattle.domain.specs.notions.Wrong.{StatusFiveForFour, StatusThreeLeftOut}

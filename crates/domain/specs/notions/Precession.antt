@@ -7,9 +7,15 @@ use Rattle.quantity.specs.declared.Rad.{Rad}
 use Rattle.quantity.specs.rules.Angle.{rad}
 use Rattle.elementary.specs.rules.Sine.{sineOf, cosineOf}
 use Rattle.elementary_arc.specs.rules.Arctangent.{bothZero}
+use Rattle.precess_angles.specs.declared.EqAngles.{EqAngles}
 use Rattle.precess_angles.specs.declared.EqPrecession.{EqPrecession}
 use Rattle.precess_ecl.specs.declared.EclPrecession.{EclPrecession}
 use Rattle.domain_accepted.specs.notions.Within.{Within}
+
+pub record EqAnglesNear (angles : EqAngles) : Type 0 where
+  pub xi : Within 1024 (angles .xi .0)
+  pub zeta : Within 32 (angles .zeta .0)
+  pub theta : Within 2048 (angles .theta .0)
 
 pub record EqPrecessionNear (precession : EqPrecession) : Type 0 where
   pub xi : Within 1024 (precession .xi .0)

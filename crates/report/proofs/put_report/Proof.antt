@@ -8,7 +8,7 @@ use Rattle.report.proofs.put_report.Statement.{statement}
 use Rattle.report.proofs.put_report.Tie as tie
 
 returns : tie.Need-returns
-returns c = same (report-is _ (c .before .before .before .before .before .before .before .before .before .before .before .batch .ensures) refl refl refl) (c .before .before .put-answers .ensures)
+returns c = same (report-is _ _ (c .before .before .before .before .before .before .before .before .before .before .before .batch .ensures) refl refl refl) (c .before .before .put-answers .ensures)
 
 pub put-report-spec : {M : Type 1} → statement M
 put-report-spec =

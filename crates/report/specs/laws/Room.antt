@@ -1,5 +1,5 @@
 -- The text of any bytes has room in `room` bytes, in each style.
-use Prim.Native.Nat.{ℕ, _+_, _≤_}
+use Prim.Native.Nat.{ℕ, _+_, _*_, _≤_}
 use mathlib.Core.Path.{_≡_, refl}
 use mathlib.Core.Bool.{Bool, true, false, cond}
 use mathlib.Core.List.{List, [], _∷_, _++_}
@@ -9,18 +9,23 @@ use lib.Ieee.{Float}
 use lib.ListN.{length, length-append}
 use borrow.Author.Tests.{eqb-true}
 use Rattle.quantity.specs.declared.Rad.{Rad}
+use Rattle.quantity.specs.rules.Answer.{Answer, Pair}
 use Rattle.edition.specs.declared.Edition.{Edition}
 use Rattle.edition.specs.declared.Edition.the-variants.{Crate, Published}
 use Rattle.lent.specs.rules.Texts.{texts}
 use Rattle.lent.specs.laws.Texts.{texts-short}
+use Rattle.list.specs.declared.Star.{Star}
 use Rattle.list.specs.rules.Stars.{mostStars, countOf, isKept, nth}
 use Rattle.list_tally.specs.declared.Tally.{Tally}
 use Rattle.list_tally.specs.rules.Status.{highestStatus}
 use Rattle.list_tally.specs.rules.Tally.{tallyOf}
-use Rattle.batch.specs.rules.Batch.{batchRefusal, statusesOf}
-use Rattle.batch.specs.laws.Batch.{accepted}
+use Rattle.star_store.specs.rules.Stored.{storeRefusal, statusesBy}
+use Rattle.batch.specs.rules.Batch.{starsOn}
+use Rattle.rotation_list.specs.rules.Rotate.{rotatedOn}
+use Rattle.star_store.specs.laws.Stored.{accepted}
 use Rattle.transit.specs.rules.Observer.{plannedOf}
 use Rattle.text_number.specs.rules.Bytes.{ascii, lineEnd}
+use Rattle.text_number.specs.rules.Refused.{refusedText}
 use Rattle.text_number.specs.laws.Number.{any-decimal-short, refused-short}
 use Rattle.text_line.specs.laws.Room.{line-short}
 use Rattle.text_row.specs.laws.Room.{row-short, plan-row-short}
@@ -30,7 +35,7 @@ use Rattle.text_answers.specs.declared.Style.{Style}
 use Rattle.text_answers.specs.declared.Style.the-variants.{Lines, Table, Plan, PlanTable}
 use Rattle.text_answers.specs.rules.Answers.{starText, headingText, planHeadingText, editionText, headText, countText, countAt, tallyText}
 use Rattle.text_answers.specs.rules.Answers.{footText, refusedIn}
-use Rattle.report.specs.rules.Report.{starLine, starsText, reportRefusal, reportOf, room}
+use Rattle.report.specs.rules.Report.{lineBy, textBy, starsText, reportRefusal, reportOf, aloneText, rotatedOf, room}
 use Rattle.report.specs.laws.Report.{not-refused}
 
 -- ---- what differs by the style
@@ -73,15 +78,15 @@ refused-short-in (PlanTable o) n = omega (arith, plan-refusal-short n)
 
 -- ---- the whole
 
-module _ (style : Style) (edition : Edition) (s : List ℕ) (day1 day2 : Float) where
-  place-short : (i : ℕ) → length (starLine style edition s day1 day2 i) ≤ 145
+module _ (style : Style) (edition : Edition) (rule : Star → Answer Pair) (s : List ℕ) where
+  place-short : (i : ℕ) → length (lineBy style rule s i) ≤ 145
   place-short i = either-short 145 (isKept (nth s i)) _ [] (star-short style _ _ _ _) (omega arith)
 
-  stars-short : countOf s ≤ mostStars → length (starsText style edition s day1 day2) ≤ room
-  stars-short h =
-      let lines = texts (countOf s) (starLine style edition s day1 day2) in
-      let tally = tallyOf (statusesOf edition s day1 day2) in
-      let short = texts-short 145 (countOf s) (starLine style edition s day1 day2) (λ (i : ℕ) k. place-short i) in
+  by-short : countOf s ≤ mostStars → length (textBy style edition rule s) ≤ 444 + 145 * mostStars
+  by-short h =
+      let lines = texts (countOf s) (lineBy style rule s) in
+      let tally = tallyOf (statusesBy rule s) in
+      let short = texts-short 145 (countOf s) (lineBy style rule s) (λ (i : ℕ) k. place-short i) in
       omega (
         arith,
         length-append (headText style edition) (lines ++ footText style tally),
@@ -90,6 +95,7 @@ module _ (style : Style) (edition : Edition) (s : List ℕ) (day1 day2 : Float) 
         short,
       )
 
+module _ (style : Style) (edition : Edition) (s : List ℕ) (day1 day2 : Float) where
   pub has-room : length (reportOf style edition s day1 day2) ≤ room
   unfolding reportOf
   has-room = by-case (eqb no 0) refl
@@ -99,6 +105,23 @@ module _ (style : Style) (edition : Edition) (s : List ℕ) (day1 day2 : Float) 
 
       by-case : (t : Bool) → eqb no 0 ≡ t → length (cond t (starsText style edition s day1 day2) (refusedIn style no)) ≤ room
       by-case true e =
-          let none = not-refused style (batchRefusal s day1 day2 mostStars mostStars mostStars) (eqb-true no 0 e) in
-          stars-short (accepted s day1 day2 mostStars mostStars mostStars none .statuses)
+          let none = not-refused style (storeRefusal s day1 day2 mostStars mostStars mostStars) (eqb-true no 0 e) in
+          omega (arith, by-short style edition (starsOn edition day1 day2) s (accepted s day1 day2 mostStars mostStars mostStars none .statuses))
       by-case false e = omega (arith, refused-short-in style no)
+
+-- under one rotation
+pub rotated-has-room : (edition : Edition) (s : List ℕ) (day1 day2 : Float) → length (rotatedOf edition s day1 day2) ≤ room
+unfolding rotatedOf
+rotated-has-room edition s day1 day2 = by-case (eqb no 0) refl
+  where
+    no : ℕ
+    no = storeRefusal s day1 day2 mostStars mostStars mostStars
+
+    rule : Star → Answer Pair
+    rule = rotatedOn edition day1 day2
+
+    by-case : (t : Bool) → eqb no 0 ≡ t → length (cond t (aloneText ++ textBy Lines edition rule s) (refusedText no)) ≤ room
+    by-case true e =
+        let few = accepted s day1 day2 mostStars mostStars mostStars (eqb-true no 0 e) .statuses in
+        omega (arith, length-append aloneText (textBy Lines edition rule s), by-short Lines edition rule s few)
+    by-case false e = omega (arith, refused-short no)

@@ -15,11 +15,11 @@ use Rattle.list.specs.rules.Record.{width}
 use Rattle.text_number.specs.notions.Code.{ofText}
 use Rattle.text_answers.specs.declared.Style.the-variants.{Table, Plan, PlanTable}
 use Rattle.text_row.specs.rules.Row.{columnText, rowOf}
-use Rattle.text_answers.specs.rules.Answers.{headingText}
-use Rattle.report.specs.rules.Report.{reportOf}
+use Rattle.text_answers.specs.rules.Answers.{headingText, tallyText}
+use Rattle.report.specs.rules.Report.{reportOf, rotatedOf}
 use Rattle.report.specs.notions.Computed.{computed}
 use Rattle.report.specs.notions.Wrong.{eightBeforeThree, observerNotRefused, refusedAsEmpty, editionUnsaid}
-use Rattle.report.specs.notions.Wrong.{headingOfPlaces, observerWithoutWords, emptyHasLine}
+use Rattle.report.specs.notions.Wrong.{headingOfPlaces, observerWithoutWords, emptyHasLine, aloneUnsaid, aloneOfARefusal}
 
 -- no star, and a byte that is no list
 abbrev empty : List ℕ
@@ -71,3 +71,11 @@ observer-without-words-excluded = apart ofText refl
 pub empty-has-line-excluded : emptyHasLine Table Crate place epoch epoch ≢ reportOf Table Crate place epoch epoch
 unfolding computed columnText rowOf
 empty-has-line-excluded = apart (λ (t : List ℕ). getD t (length headingText) 0) refl
+
+pub alone-unsaid-excluded : aloneUnsaid Crate empty epoch epoch ≢ rotatedOf Crate empty epoch epoch
+unfolding computed rotatedOf tallyText
+alone-unsaid-excluded = apart (λ (t : List ℕ). getD t 0 0) refl
+
+pub alone-of-a-refusal-excluded : aloneOfARefusal Crate damaged epoch epoch ≢ rotatedOf Crate damaged epoch epoch
+unfolding computed rotatedOf
+alone-of-a-refusal-excluded = apart ofText refl

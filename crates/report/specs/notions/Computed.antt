@@ -5,11 +5,11 @@ use Rattle.list.specs.notions.Computed as list
 use Rattle.text_number.specs.notions.Computed as text
 use Rattle.text_refusal.specs.notions.Computed as refusal
 use Rattle.precess_angles.specs.rules.Days.{daysRefusal}
-use Rattle.batch.specs.rules.Batch.{batchRefusal}
+use Rattle.star_store.specs.rules.Stored.{storeRefusal}
 use Rattle.text_answers.specs.rules.Answers.{editionText}
 use Rattle.report.specs.rules.Report.{reportOf}
 
 -- a name for the line below it, which is what counts
 unfoldable pub computed : ℕ
-unfolding transit.computed list.computed text.computed refusal.computed daysRefusal batchRefusal editionText reportOf
+unfolding transit.computed list.computed text.computed refusal.computed daysRefusal storeRefusal editionText reportOf
 computed = 0

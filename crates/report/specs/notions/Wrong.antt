@@ -12,17 +12,21 @@ use Rattle.transit.specs.rules.Observer.{planRefusal}
 use Rattle.lent.specs.rules.Texts.{texts}
 use Rattle.list.specs.rules.Stars.{mostStars, countOf, nth}
 use Rattle.list_tally.specs.rules.Tally.{tallyOf}
-use Rattle.batch.specs.rules.Star.{starRule, firstOf, secondOf}
-use Rattle.batch.specs.rules.Batch.{batchRefusal, statusesOf}
+use Rattle.star_store.specs.rules.Star.{firstOf, secondOf}
+use Rattle.batch.specs.rules.Star.{starRule}
+use Rattle.star_store.specs.rules.Stored.{storeRefusal}
+use Rattle.batch.specs.rules.Batch.{statusesOf}
+use Rattle.rotation_list.specs.rules.Rotate.{rotatedOn}
+use Rattle.text_number.specs.rules.Refused.{refusedText}
 use Rattle.text_answers.specs.declared.Style.{Style}
-use Rattle.text_answers.specs.declared.Style.the-variants.{Table, Plan}
+use Rattle.text_answers.specs.declared.Style.the-variants.{Lines, Table, Plan}
 use Rattle.text_answers.specs.rules.Answers.{starText, headingText, headingIn, headText, footText, refusedIn}
-use Rattle.report.specs.rules.Report.{starLine, starsText, reportRefusal}
+use Rattle.report.specs.rules.Report.{textBy, starLine, starsText, reportRefusal, aloneText}
 
 -- a plan with another refusal of the call, of the list's and the observer's
 abbrev refusedBy : (ℕ → ℕ → ℕ) → Observer → Edition → List ℕ → Float → Float → List ℕ
 refusedBy both o edition s day1 day2 =
-    let no = both (batchRefusal s day1 day2 mostStars mostStars mostStars) (planRefusal o) in
+    let no = both (storeRefusal s day1 day2 mostStars mostStars mostStars) (planRefusal o) in
     cond (eqb no 0) (starsText (Plan o) edition s day1 day2) (refusedIn (Plan o) no)
 
 -- the list before the observer
@@ -66,3 +70,15 @@ abbrev pub emptyHasLine : Style → Edition → List ℕ → Float → Float →
 emptyHasLine style edition s day1 day2 =
     headText style edition
     ++ (texts (countOf s) (anyLine style edition s day1 day2) ++ footText style (tallyOf (statusesOf edition s day1 day2)))
+
+-- ---- under one rotation
+
+-- as a reduced list is printed, so that one is taken for the other
+abbrev pub aloneUnsaid : Edition → List ℕ → Float → Float → List ℕ
+aloneUnsaid edition s day1 day2 =
+    let no = storeRefusal s day1 day2 mostStars mostStars mostStars in
+    cond (eqb no 0) (textBy Lines edition (rotatedOn edition day1 day2) s) (refusedText no)
+
+-- said of a refused call too
+abbrev pub aloneOfARefusal : Edition → List ℕ → Float → Float → List ℕ
+aloneOfARefusal edition s day1 day2 = aloneText ++ aloneUnsaid edition s day1 day2

@@ -20,10 +20,12 @@ use Rattle.list.specs.rules.Record.{inRange}
 use Rattle.list.specs.rules.Stars.{mostStars, isList, countOf, stars, nth, nought}
 use Rattle.list.specs.rules.Find.{Entry, entry, entryAt, findIn, findRule, indexOf}
 use Rattle.list.specs.laws.Stars.{length-stars}
-use Rattle.batch.specs.declared.Batched.{Batched}
-use Rattle.batch.specs.rules.Star.{starRule, firstBits, secondBits}
-use Rattle.batch.specs.rules.Batch.{batchRefusal, Batch}
-use Rattle.batch.specs.laws.Batch.{status-at, asc-at, dec-at}
+use Rattle.star_store.specs.declared.Tallied.{Tallied}
+use Rattle.star_store.specs.rules.Star.{firstBits, secondBits}
+use Rattle.star_store.specs.rules.Stored.{storeRefusal}
+use Rattle.star_store.specs.laws.Stored.{status-at, asc-at, dec-at}
+use Rattle.batch.specs.rules.Star.{starRule}
+use Rattle.batch.specs.rules.Batch.{Batch}
 use Rattle.residual_sheet.specs.declared.Sheets.{Sheets}
 use Rattle.residual_sheet.specs.rules.Residuals.{shownSheets, residualsRule}
 use Rattle.text_measured.specs.declared.Sights.{Sights}
@@ -62,7 +64,7 @@ text-inside {p = sheetRefused n} h = omega (arith, ap lengthOf (h .answer))
 
 -- a refused list
 pub list-refused : (style : Style) (edition : Edition) (s : List ℕ) (day1 day2 : Float) (text : List ℕ) (n : ℕ)
-    → n ≡ batchRefusal s day1 day2 mostStars mostStars mostStars → n ≢ 0 → reportOf style edition s day1 day2 text ≡ listRefused n
+    → n ≡ storeRefusal s day1 day2 mostStars mostStars mostStars → n ≢ 0 → reportOf style edition s day1 day2 text ≡ listRefused n
 unfolding reportOf
 list-refused style edition s day1 day2 text n e h = rw (sym e, ne-eqb n 0 h)
 
@@ -145,9 +147,9 @@ module _ (text : List ℕ) (n : ℕ) (e : sights.Are n ≡ sightsRule mostStars 
 
 -- ---- what a star came to
 
-module _ {edition : Edition} {s : List ℕ} {day1 day2 : Float} {status asc dec : List ℕ} {r : Batched} {status′ asc′ dec′ : List ℕ}
+module _ (edition : Edition) {s : List ℕ} {day1 day2 : Float} {status asc dec : List ℕ} {r : Tallied} {status′ asc′ dec′ : List ℕ}
     (b : Batch edition s day1 day2 status asc dec r status′ asc′ dec′)
-    (none : batchRefusal s day1 day2 (length status) (length asc) (length dec) ≡ 0) where
+    (none : storeRefusal s day1 day2 (length status) (length asc) (length dec) ≡ 0) where
   abbrev came : Answer Pair → Came
   came a = record { status = statusOf a; asc = firstBits a; dec = secondBits a }
 
@@ -202,8 +204,8 @@ module _ {edition : Edition} {s : List ℕ} {day1 day2 : Float} {status asc dec 
   unfolding reportOf
   report-is style text p q t =
       ap (λ (k : ℕ). cond (eqb k 0) (sightsReport (sightsRule mostStars text) (nightReport style edition s day1 day2 (entriesOf text))) (listRefused k))
-      (ap (λ (k : ℕ). batchRefusal s day1 day2 k mostStars mostStars) (sym p)
-      ∙ ap (λ (k : ℕ). batchRefusal s day1 day2 (length status) k mostStars) (sym q)
-      ∙ ap (λ (k : ℕ). batchRefusal s day1 day2 (length status) (length asc) k) (sym t)
+      (ap (λ (k : ℕ). storeRefusal s day1 day2 k mostStars mostStars) (sym p)
+      ∙ ap (λ (k : ℕ). storeRefusal s day1 day2 (length status) k mostStars) (sym q)
+      ∙ ap (λ (k : ℕ). storeRefusal s day1 day2 (length status) (length asc) k) (sym t)
       ∙ none)
       ∙ sym (sighted-is style text)

@@ -12,7 +12,7 @@ use Rattle.quantity.specs.rules.Answer.{Answer, answered, refused}
 use Rattle.edition.specs.declared.Edition.{Edition}
 use Rattle.lent.specs.laws.Texts.{texts-short}
 use Rattle.list.specs.rules.Stars.{mostStars}
-use Rattle.batch.specs.rules.Batch.{batchRefusal}
+use Rattle.star_store.specs.rules.Stored.{storeRefusal}
 use Rattle.residual_sheet.specs.declared.Sheet.{Sheet}
 use Rattle.residual_sheet.specs.rules.Residuals.{TwoSheets, two, residualsRule}
 use Rattle.text_measured.specs.rules.Sights.{Entry, entriesOf, Ending, allRead, unclearIn, endingOf, sightsWith, sightsRule}
@@ -69,10 +69,10 @@ module _ (line star status asc dec measuredAsc measuredDec : List ℕ) (few : le
 
 pub has-room : (style : Style) (edition : Edition) (s : List ℕ) (day1 day2 : Float) (text : List ℕ) → Short room (reportOf style edition s day1 day2 text)
 unfolding reportOf sightsRule nightReport
-has-room style edition s day1 day2 text = by-case (eqb (batchRefusal s day1 day2 mostStars mostStars mostStars) 0) (ltb mostStars (length (entriesOf text))) (endingOf text) refl
+has-room style edition s day1 day2 text = by-case (eqb (storeRefusal s day1 day2 mostStars mostStars mostStars) 0) (ltb mostStars (length (entriesOf text))) (endingOf text) refl
   where
     by-case : (t u : Bool) (e : Ending) → ltb mostStars (length (entriesOf text)) ≡ u
-        → Short room (cond t (sightsReport (cond u sights.Full (sightsWith (length (entriesOf text)) e)) (nightReport style edition s day1 day2 (entriesOf text))) (listRefused (batchRefusal s day1 day2 mostStars mostStars mostStars)))
+        → Short room (cond t (sightsReport (cond u sights.Full (sightsWith (length (entriesOf text)) e)) (nightReport style edition s day1 day2 (entriesOf text))) (listRefused (storeRefusal s day1 day2 mostStars mostStars mostStars)))
     by-case false u e h = tt
     by-case true true e h = tt
     by-case true false (unclearIn l) h = tt

@@ -6,8 +6,9 @@ use Rattle.text_number.specs.notions.Computed as text
 use Rattle.text_measured.specs.notions.Computed as measured
 use Rattle.quantity.specs.rules.Answer.{then}
 use Rattle.precess_angles.specs.rules.Days.{daysRefusal}
-use Rattle.batch.specs.rules.Star.{starRefusal, starRule}
-use Rattle.batch.specs.rules.Batch.{batchRefusal}
+use Rattle.star_store.specs.rules.Star.{starRefusal}
+use Rattle.star_store.specs.rules.Stored.{storeRefusal}
+use Rattle.batch.specs.rules.Star.{starRule}
 use Rattle.text_measured.specs.rules.Sights.{entriesFrom, endingFrom, sightsRule}
 use Rattle.report_residuals.specs.rules.Came.{cameTo}
 use Rattle.residual_sheet.specs.rules.Residuals.{lengthsRefusal, floatsRefusal, residualsRefusal, residualsRule}
@@ -16,6 +17,6 @@ use Rattle.report_residuals.specs.rules.Report.{nightReport, reportOf}
 
 -- a name for the line below it, which is what counts
 unfoldable pub computed : ℕ
-unfolding quantity.computed list.computed text.computed measured.computed then daysRefusal starRefusal starRule batchRefusal entriesFrom endingFrom sightsRule
+unfolding quantity.computed list.computed text.computed measured.computed then daysRefusal starRefusal starRule storeRefusal entriesFrom endingFrom sightsRule
     lengthsRefusal floatsRefusal residualsRefusal residualsRule cameTo sheetsReport nightReport reportOf
 computed = 0

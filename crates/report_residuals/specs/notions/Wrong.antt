@@ -9,7 +9,6 @@ use Rattle.quantity.specs.rules.Answer.{Answer, Pair, statusOf}
 use Rattle.edition.specs.declared.Edition.{Edition}
 use Rattle.list.specs.rules.Stars.{mostStars, nth}
 use Rattle.batch.specs.rules.Star.{starRule}
-use Rattle.batch.specs.rules.Batch.{batchRefusal}
 use Rattle.residual_sheet.specs.declared.Sheet.{Sheet}
 use Rattle.text_measured.specs.declared.Sights.{Sights}
 use Rattle.text_measured.specs.declared.Sights.the-variants as sights

@@ -7,8 +7,8 @@ use lib.Ieee.{Float}
 use Rattle.quantity.specs.rules.Answer.{statusOf}
 use Rattle.edition.specs.declared.Edition.{Edition}
 use Rattle.list.specs.rules.Stars.{mostStars}
-use Rattle.batch.specs.rules.Star.{firstBits, secondBits}
-use Rattle.batch.specs.rules.Batch.{batchRefusal}
+use Rattle.star_store.specs.rules.Star.{firstBits, secondBits}
+use Rattle.star_store.specs.rules.Stored.{storeRefusal}
 use Rattle.text_measured.specs.declared.Sights.{Sights}
 use Rattle.text_measured.specs.declared.Sights.the-variants as sights
 use Rattle.text_measured.specs.rules.Sights.{Entry, entriesOf, sightsRule, ascBits, decBits}
@@ -34,7 +34,7 @@ sightsReport sights.Full night = tooMany
 -- the list's refusal first: 1, 2, 8; then the text's; then the sheet's
 unfoldable pub reportOf : Style → Edition → List ℕ → Float → Float → List ℕ → Report
 reportOf style edition s day1 day2 text =
-    let n = batchRefusal s day1 day2 mostStars mostStars mostStars in
+    let n = storeRefusal s day1 day2 mostStars mostStars mostStars in
     cond (eqb n 0) (sightsReport (sightsRule mostStars text) (nightReport style edition s day1 day2 (entriesOf text))) (listRefused n)
 
 -- ---- by the way of the code

@@ -1,7 +1,6 @@
 -- `text_answers::put_edition` meets its contract.
 use borrow.Author.Needs.{needs}
 use mathlib.Core.Path.{sym, ap}
-use native.Mathlib.Nat.{zero-min}
 use Rattle.double.specs.laws.Calls.{asks-nothing}
 use Rattle.lent.specs.laws.Writing.{nothing, same}
 use Rattle.text_answers.specs.rules.Answers.{editionText}
@@ -10,7 +9,7 @@ use Rattle.text_answers.proofs.put_edition.Tie as tie
 
 returns : tie.Need-returns
 unfolding editionText
-returns c = same (ap editionText (sym (c .enum-told .given .1))) (nothing _ 0 0 (sym (zero-min _)))
+returns c = same (ap editionText (sym (c .before .enum-told .given .1))) (nothing _ _ _ (c .within .ensures))
 
 returns-2 : tie.Need-returns-2
 unfolding editionText
@@ -19,4 +18,4 @@ returns-2 c = same (ap editionText (sym (c .before .before .before .before .befo
 pub put-edition-spec : {M : Type 1} → statement M
 put-edition-spec =
     tie.close
-    (tie.spec (λ c. search needs) (λ c. search needs) (λ c. search needs) asks-nothing returns (λ c. search needs) returns-2)
+    (tie.spec (λ c. search needs) asks-nothing (λ c. search needs) (λ c. search needs) asks-nothing returns (λ c. search needs) returns-2)

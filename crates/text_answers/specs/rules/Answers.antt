@@ -95,9 +95,12 @@ abbrev pub lentLine : Style → List ℕ → List ℕ → List ℕ → List ℕ 
 lentLine style s status asc dec i =
     cond (isKept (nth s i)) (starText style (nth s i .number) (getD status i 0) (angleAt asc i) (angleAt dec i)) []
 
+-- of a call that is not refused
+unfoldable pub listText : Style → Edition → List ℕ → List ℕ → List ℕ → List ℕ → Tally → List ℕ
+listText style edition s status asc dec tally =
+    headText style edition ++ (texts (countOf s) (lentLine style s status asc dec) ++ footText style tally)
+
 unfoldable pub answersText : Style → Edition → List ℕ → List ℕ → List ℕ → List ℕ → ℕ → Tally → List ℕ
 answersText style edition s status asc dec refusal tally =
     let stated = refusalIn style refusal in
-    cond (eqb stated 0)
-    (headText style edition ++ (texts (countOf s) (lentLine style s status asc dec) ++ footText style tally))
-    (refusedIn style stated)
+    cond (eqb stated 0) (listText style edition s status asc dec tally) (refusedIn style stated)

@@ -1,0 +1,4 @@
+-- What theorems on the rotation speak of. Definitions only.
+pub mod Entries
+pub mod Star
+pub mod Meeus

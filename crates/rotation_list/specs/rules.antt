@@ -1,0 +1,2 @@
+-- What a reader must believe of a list under one rotation (request xiv). Definitions only.
+pub mod Rotate
