@@ -60,8 +60,9 @@
  * brundelak_find never answers it. Lengths, places and indices are uint64_t, which on x86-64 is the same call. The number of
  * a version is major * 65536 + minor * 256 + patch; of 0.1.0 it was 100.
  *
- * For C99 or later, and C++. The archive, libbrundelak.a, and the shared library, libbrundelak.so, are x86-64 code and need
- * nothing of libm; pkg-config brundelak says how to compile and link.
+ * For C99 or later, and C++. There is an archive, libbrundelak.a, for x86-64, aarch64, riscv64 and armv7 (hard float) with
+ * Linux, for a Cortex-M7 without a system, and for wasm32; for x86-64 a shared library, libbrundelak.so, too. All give the same
+ * bits, and need nothing of libm; pkg-config brundelak says how to compile and link.
  *
  * Floats are assumed to round to nearest and to keep subnormal numbers, as they do where a C program starts; not in one
  * that is linked with -ffast-math, nor after fesetround. Under another rounding, or where subnormals are flushed, answers

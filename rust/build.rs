@@ -12,19 +12,25 @@ fn main() {
 
 fn link() -> Result<(), String> {
     let (arch, os) = (variable("CARGO_CFG_TARGET_ARCH")?, variable("CARGO_CFG_TARGET_OS")?);
-    if (&arch[..], &os[..]) != ("x86_64", "linux") {
-        return Err(format!("the archive is x86-64 code for Linux, and the target is {} {}", arch, os));
-    }
+    let target = match (&arch[..], &os[..]) {
+        ("x86_64", "linux") => "x86-64",
+        ("aarch64", "linux") => "aarch64",
+        ("riscv64", "linux") => "riscv64",
+        ("arm", "linux") => "armv7",
+        ("wasm32", "unknown") => "wasm32",
+        _ => return Err(format!("there is an archive for x86-64, aarch64, riscv64 and armv7 Linux and for wasm32, and the target is {} {}", arch, os)),
+    };
     let named = env::var_os("BRUNDELAK_LIB").map(PathBuf::from);
     let folder = match &named {
         Some(folder) => from_caller(folder)?,
-        None => beside(Path::new(&variable("CARGO_MANIFEST_DIR")?)),
+        None => beside(Path::new(&variable("CARGO_MANIFEST_DIR")?), target),
     };
     let archive = folder.join("libbrundelak.a");
     if !archive.is_file() {
         return Err(format!(
-            "{} is missing: run ./build in the repository, or name the folder of the archive by BRUNDELAK_LIB",
-            archive.display()
+            "{} is missing: run ./build --target {} in the repository, or name the folder of the archive by BRUNDELAK_LIB",
+            archive.display(),
+            target
         ));
     }
     println!("cargo:rerun-if-env-changed=BRUNDELAK_LIB");
@@ -37,13 +43,15 @@ fn link() -> Result<(), String> {
     Ok(())
 }
 
-/// The folder of the archive beside the crate: what `install` wrote into share/brundelak/rust has it in lib, the repository where `./build`
-/// leaves it.
-fn beside(own: &Path) -> PathBuf {
+/// The folder of the archive beside the crate: what `install` wrote into share/brundelak/rust has it in lib, whatever target it was written
+/// for; the repository has it where `./build` leaves it.
+fn beside(own: &Path, target: &str) -> PathBuf {
     if own.ends_with("share/brundelak/rust") {
         own.join("../../../lib")
-    } else {
+    } else if target == "x86-64" {
         own.join("../target/brundelak")
+    } else {
+        own.join("../target/brundelak").join(target)
     }
 }
 

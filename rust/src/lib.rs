@@ -18,6 +18,9 @@
 //! ```
 #![deny(missing_docs, unsafe_code)]
 
+#[macro_use]
+#[allow(unsafe_code)]
+mod raw;
 mod edition;
 #[allow(unsafe_code)]
 mod ffi;

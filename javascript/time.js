@@ -1,0 +1,4 @@
+// Time.
+import { one } from './module.js';
+
+export const julian_cent = one('brundelak_julian_cent');

@@ -1,0 +1,203 @@
+"""The C boundary as the header declares it. Made from include/brundelak.h by tools/declarations: not to be edited."""
+from typing import Dict, Tuple, Union
+
+# what each entry point answers, then its parameters: type, name, and how many elements a pointer leads to
+FUNCTIONS: Dict[str, Tuple[str, Tuple[Tuple[str, str, Union[int, str]], ...]]] = {
+    'brundelak_version': ('uint32_t', ()),
+    'brundelak_sine': ('uint8_t', (('double', 'x', 0), ('double *', 'out', 1))),
+    'brundelak_cosine': ('uint8_t', (('double', 'x', 0), ('double *', 'out', 1))),
+    'brundelak_tangent': ('uint8_t', (('double', 'x', 0), ('double *', 'out', 1))),
+    'brundelak_arctangent': ('uint8_t', (('double', 'y', 0), ('double', 'x', 0), ('double *', 'out', 1))),
+    'brundelak_arcsine': ('uint8_t', (('double', 's', 0), ('double *', 'out', 1))),
+    'brundelak_root': ('uint8_t', (('double', 'x', 0), ('double *', 'out', 1))),
+    'brundelak_deg_frm_dms': ('uint8_t', (('double', 'seconds', 0), ('double *', 'out', 1))),
+    'brundelak_deg_frm_hms': ('uint8_t', (('double', 'seconds', 0), ('double *', 'out', 1))),
+    'brundelak_to_radians': ('uint8_t', (('double', 'x', 0), ('double *', 'out', 1))),
+    'brundelak_limit_to_360': ('uint8_t', (('double', 'x', 0), ('double *', 'out', 1))),
+    'brundelak_limit_to_two_pi': ('uint8_t', (('double', 'x', 0), ('double *', 'out', 1))),
+    'brundelak_julian_cent': ('uint8_t', (('double', 'day', 0), ('double *', 'out', 1))),
+    'brundelak_rho_sin_cos_phi': ('uint8_t', (('double', 'lat', 0), ('double', 'height', 0),
+        ('double *', 'rho_sin', 1), ('double *', 'rho_cos', 1))),
+    'brundelak_hr_angl_frm_observer_long': ('uint8_t', (('double', 'green_sidreal', 0),
+        ('double', 'observer_long', 0), ('double', 'asc', 0), ('double *', 'out', 1))),
+    'brundelak_hr_angl_frm_loc_sidr': ('uint8_t', (('double', 'local_sidreal', 0), ('double', 'asc', 0),
+        ('double *', 'out', 1))),
+    'brundelak_ecl_frm_eq': ('uint8_t', (('double', 'asc', 0), ('double', 'dec', 0), ('double', 'oblq_eclip', 0),
+        ('double *', 'long_', 1), ('double *', 'lat', 1))),
+    'brundelak_asc_frm_ecl': ('uint8_t', (('double', 'ecl_long', 0), ('double', 'ecl_lat', 0),
+        ('double', 'oblq_eclip', 0), ('double *', 'out', 1))),
+    'brundelak_dec_frm_ecl': ('uint8_t', (('double', 'ecl_long', 0), ('double', 'ecl_lat', 0),
+        ('double', 'oblq_eclip', 0), ('double *', 'out', 1))),
+    'brundelak_az_frm_eq': ('uint8_t', (('double', 'hour_angle', 0), ('double', 'dec', 0),
+        ('double', 'observer_lat', 0), ('double *', 'out', 1))),
+    'brundelak_alt_frm_eq': ('uint8_t', (('double', 'hour_angle', 0), ('double', 'dec', 0),
+        ('double', 'observer_lat', 0), ('double *', 'out', 1))),
+    'brundelak_hr_angl_frm_hz': ('uint8_t', (('double', 'az', 0), ('double', 'alt', 0),
+        ('double', 'observer_lat', 0), ('double *', 'out', 1))),
+    'brundelak_dec_frm_hz': ('uint8_t', (('double', 'az', 0), ('double', 'alt', 0), ('double', 'observer_lat', 0),
+        ('double *', 'out', 1))),
+    'brundelak_dec_frm_hz_published': ('uint8_t', (('double', 'az', 0), ('double', 'alt', 0),
+        ('double', 'observer_lat', 0), ('double *', 'out', 1))),
+    'brundelak_gal_long_frm_eq': ('uint8_t', (('double', 'asc', 0), ('double', 'dec', 0), ('double *', 'out', 1))),
+    'brundelak_gal_lat_frm_eq': ('uint8_t', (('double', 'asc', 0), ('double', 'dec', 0), ('double *', 'out', 1))),
+    'brundelak_asc_frm_gal': ('uint8_t', (('double', 'gal_long', 0), ('double', 'gal_lat', 0),
+        ('double *', 'out', 1))),
+    'brundelak_annual_precess': ('uint8_t', (('double', 'asc', 0), ('double', 'dec', 0), ('double', 'day', 0),
+        ('double *', 'precess_in_asc', 1), ('double *', 'precess_in_dec', 1))),
+    'brundelak_precess_eq_coords': ('uint8_t', (('double', 'old_asc', 0), ('double', 'old_dec', 0),
+        ('double', 'day1', 0), ('double', 'day2', 0), ('double *', 'asc', 1), ('double *', 'dec', 1))),
+    'brundelak_precess_eq_coords_published': ('uint8_t', (('double', 'old_asc', 0), ('double', 'old_dec', 0),
+        ('double', 'day1', 0), ('double', 'day2', 0), ('double *', 'asc', 1), ('double *', 'dec', 1))),
+    'brundelak_precess_eq_coords_fk5': ('uint8_t', (('double', 'old_asc', 0), ('double', 'old_dec', 0),
+        ('double', 'day1', 0), ('double', 'day2', 0), ('double *', 'asc', 1), ('double *', 'dec', 1))),
+    'brundelak_precess_eq_coords_fk5_published': ('uint8_t', (('double', 'old_asc', 0), ('double', 'old_dec', 0),
+        ('double', 'day1', 0), ('double', 'day2', 0), ('double *', 'asc', 1), ('double *', 'dec', 1))),
+    'brundelak_precess_ecl_coords': ('uint8_t', (('double', 'old_long', 0), ('double', 'old_lat', 0),
+        ('double', 'day1', 0), ('double', 'day2', 0), ('double *', 'ecl_long', 1), ('double *', 'ecl_lat', 1))),
+    'brundelak_precess_orb_elements': ('uint8_t', (('double', 'old_inc', 0), ('double', 'old_arg_perih', 0),
+        ('double', 'old_long_ascend_node', 0), ('double', 'day1', 0), ('double', 'day2', 0), ('double *', 'inc', 1),
+        ('double *', 'arg_perih', 1), ('double *', 'long_ascend_node', 1))),
+    'brundelak_nutation': ('uint8_t', (('double', 'day', 0), ('double *', 'nut_in_long', 1),
+        ('double *', 'nut_in_oblq', 1))),
+    'brundelak_nutation_ceiling': ('uint8_t', (('double', 'day', 0), ('double *', 'long_ceiling', 1),
+        ('double *', 'oblq_ceiling', 1))),
+    'brundelak_nutation_in_eq_coords': ('uint8_t', (('double', 'asc', 0), ('double', 'dec', 0),
+        ('double', 'nut_in_long', 0), ('double', 'nut_in_oblq', 0), ('double', 'tru_oblq', 0),
+        ('double *', 'nut_in_asc', 1), ('double *', 'nut_in_dec', 1))),
+    'brundelak_sol_aberr': ('uint8_t', (('double', 'dist', 0), ('double *', 'out', 1))),
+    'brundelak_stell_aberr_in_eq_coords': ('uint8_t', (('double', 'asc', 0), ('double', 'dec', 0),
+        ('double', 'day', 0), ('double *', 'aberr_in_asc', 1), ('double *', 'aberr_in_dec', 1))),
+    'brundelak_eq_hz_parallax': ('uint8_t', (('double', 'dist', 0), ('double *', 'out', 1))),
+    'brundelak_topocent_eq_coords': ('uint8_t', (('double', 'asc', 0), ('double', 'dec', 0),
+        ('double', 'parallax', 0), ('double', 'long_', 0), ('double', 'lat', 0), ('double', 'height', 0),
+        ('double', 'sidereal', 0), ('double *', 'topocent_asc', 1), ('double *', 'topocent_dec', 1))),
+    'brundelak_topopcent_ecl_coords': ('uint8_t', (('double', 'ecl_long', 0), ('double', 'ecl_lat', 0),
+        ('double', 'parallax', 0), ('double', 'long_', 0), ('double', 'lat', 0), ('double', 'height', 0),
+        ('double', 'sidereal', 0), ('double', 'oblq', 0), ('double', 'semidiameter', 0),
+        ('double *', 'topocent_long', 1), ('double *', 'topocent_lat', 1), ('double *', 'topocent_semidiameter', 1))),
+    'brundelak_topopcent_ecl_coords_published': ('uint8_t', (('double', 'ecl_long', 0), ('double', 'ecl_lat', 0),
+        ('double', 'parallax', 0), ('double', 'long_', 0), ('double', 'lat', 0), ('double', 'height', 0),
+        ('double', 'sidereal', 0), ('double', 'oblq', 0), ('double', 'semidiameter', 0),
+        ('double *', 'topocent_long', 1), ('double *', 'topocent_lat', 1), ('double *', 'topocent_semidiameter', 1))),
+    'brundelak_rise_culm_set': ('uint8_t', (('double', 'asc', 0), ('double', 'dec', 0), ('double', 'sidereal', 0),
+        ('double', 'long_', 0), ('double', 'lat', 0), ('double', 'alt', 0), ('double *', 'rise', 1),
+        ('double *', 'culmination', 1), ('double *', 'set', 1))),
+    'brundelak_refrac_frm_apprnt_alt': ('uint8_t', (('double', 'apprnt_alt', 0), ('double *', 'out', 1))),
+    'brundelak_refrac_frm_true_alt': ('uint8_t', (('double', 'true_alt', 0), ('double *', 'out', 1))),
+    'brundelak_sight_alt': ('uint8_t', (('double', 'apprnt_alt', 0), ('double *', 'out', 1))),
+    'brundelak_plan_alt': ('uint8_t', (('double', 'true_alt', 0), ('double *', 'out', 1))),
+    'brundelak_chain': ('uint8_t', (('double', 'old_asc', 0), ('double', 'old_dec', 0), ('double', 'day1', 0),
+        ('double', 'day2', 0), ('double *', 'asc', 1), ('double *', 'dec', 1))),
+    'brundelak_chain_published': ('uint8_t', (('double', 'old_asc', 0), ('double', 'old_dec', 0),
+        ('double', 'day1', 0), ('double', 'day2', 0), ('double *', 'asc', 1), ('double *', 'dec', 1))),
+    'brundelak_star': ('uint8_t', (('const uint8_t *', 'bytes', 'slice'), ('uint64_t', 'len', 'length'),
+        ('uint64_t', 'place', 0), ('uint32_t *', 'number', 1), ('uint32_t *', 'asc', 1), ('int32_t *', 'dec', 1),
+        ('int32_t *', 'asc_rate', 1), ('int32_t *', 'dec_rate', 1), ('uint64_t *', 'next', 1))),
+    'brundelak_put_star': ('uint8_t', (('uint8_t *', 'out', 'slice'), ('uint64_t', 'len', 'length'),
+        ('uint64_t', 'place', 0), ('uint32_t', 'number', 0), ('uint32_t', 'asc', 0), ('int32_t', 'dec', 0),
+        ('int32_t', 'asc_rate', 0), ('int32_t', 'dec_rate', 0), ('uint64_t *', 'next', 1))),
+    'brundelak_find': ('uint8_t', (('const uint8_t *', 'bytes', 'slice'), ('uint64_t', 'len', 'length'),
+        ('uint32_t', 'number', 0), ('uint64_t *', 'index', 1), ('uint32_t *', 'asc', 1), ('int32_t *', 'dec', 1),
+        ('int32_t *', 'asc_rate', 1), ('int32_t *', 'dec_rate', 1))),
+    'brundelak_batch': ('uint8_t', (('const uint8_t *', 'bytes', 'slice'), ('uint64_t', 'len', 'length'),
+        ('double', 'day1', 0), ('double', 'day2', 0), ('uint8_t *', 'status', 'slice'),
+        ('uint64_t', 'status_len', 'length'), ('double *', 'asc', 'slice'), ('uint64_t', 'asc_len', 'length'),
+        ('double *', 'dec', 'slice'), ('uint64_t', 'dec_len', 'length'), ('uint32_t *', 'tally', 20))),
+    'brundelak_batch_published': ('uint8_t', (('const uint8_t *', 'bytes', 'slice'), ('uint64_t', 'len', 'length'),
+        ('double', 'day1', 0), ('double', 'day2', 0), ('uint8_t *', 'status', 'slice'),
+        ('uint64_t', 'status_len', 'length'), ('double *', 'asc', 'slice'), ('uint64_t', 'asc_len', 'length'),
+        ('double *', 'dec', 'slice'), ('uint64_t', 'dec_len', 'length'), ('uint32_t *', 'tally', 20))),
+    'brundelak_rotate': ('uint8_t', (('const uint8_t *', 'bytes', 'slice'), ('uint64_t', 'len', 'length'),
+        ('double', 'day1', 0), ('double', 'day2', 0), ('uint8_t *', 'status', 'slice'),
+        ('uint64_t', 'status_len', 'length'), ('double *', 'asc', 'slice'), ('uint64_t', 'asc_len', 'length'),
+        ('double *', 'dec', 'slice'), ('uint64_t', 'dec_len', 'length'), ('uint32_t *', 'tally', 20))),
+    'brundelak_rotate_published': ('uint8_t', (('const uint8_t *', 'bytes', 'slice'), ('uint64_t', 'len', 'length'),
+        ('double', 'day1', 0), ('double', 'day2', 0), ('uint8_t *', 'status', 'slice'),
+        ('uint64_t', 'status_len', 'length'), ('double *', 'asc', 'slice'), ('uint64_t', 'asc_len', 'length'),
+        ('double *', 'dec', 'slice'), ('uint64_t', 'dec_len', 'length'), ('uint32_t *', 'tally', 20))),
+    'brundelak_tally_raise': ('uint8_t', (('uint8_t', 'status', 0), ('uint32_t *', 'tally', 20))),
+    'brundelak_residuals': ('uint8_t', (('const uint8_t *', 'status', 'slice'),
+        ('uint64_t', 'status_len', 'length'), ('const double *', 'asc', 'slice'), ('uint64_t', 'asc_len', 'length'),
+        ('const double *', 'dec', 'slice'), ('uint64_t', 'dec_len', 'length'),
+        ('const double *', 'measured_asc', 'slice'), ('uint64_t', 'measured_asc_len', 'length'),
+        ('const double *', 'measured_dec', 'slice'), ('uint64_t', 'measured_dec_len', 'length'),
+        ('int64_t *', 'asc_sheet', 6), ('int64_t *', 'dec_sheet', 6))),
+    'brundelak_strike': ('uint8_t', (('uint8_t *', 'bytes', 'slice'), ('uint64_t', 'len', 'length'),
+        ('uint32_t', 'number', 0))),
+    'brundelak_add': ('uint8_t', (('uint8_t *', 'bytes', 'slice'), ('uint64_t', 'len', 'length'),
+        ('uint32_t', 'number', 0), ('uint32_t', 'asc', 0), ('int32_t', 'dec', 0), ('int32_t', 'asc_rate', 0),
+        ('int32_t', 'dec_rate', 0))),
+    'brundelak_gather': ('uint8_t', (('uint8_t *', 'bytes', 'slice'), ('uint64_t', 'len', 'length'))),
+    'brundelak_list_12_to_20': ('uint8_t', (('const uint8_t *', 'bytes', 'slice'), ('uint64_t', 'len', 'length'),
+        ('uint8_t *', 'out', 'slice'), ('uint64_t', 'out_len', 'length'), ('uint64_t *', 'written', 1))),
+    'brundelak_list_20_to_12': ('uint8_t', (('const uint8_t *', 'bytes', 'slice'), ('uint64_t', 'len', 'length'),
+        ('uint8_t *', 'out', 'slice'), ('uint64_t', 'out_len', 'length'), ('uint64_t *', 'written', 1))),
+    'brundelak_radio_open': ('uint8_t', (('const uint8_t *', 'bytes', 'slice'), ('uint64_t', 'len', 'length'),
+        ('uint32_t *', 'count', 1), ('uint64_t *', 'place', 1))),
+    'brundelak_radio_star': ('uint8_t', (('const uint8_t *', 'bytes', 'slice'), ('uint64_t', 'len', 'length'),
+        ('uint64_t', 'place', 0), ('uint32_t *', 'number', 1), ('uint32_t *', 'asc', 1), ('int32_t *', 'dec', 1),
+        ('int32_t *', 'asc_rate', 1), ('int32_t *', 'dec_rate', 1), ('uint64_t *', 'next', 1))),
+    'brundelak_radio_accept': ('uint8_t', (('const uint8_t *', 'bytes', 'slice'), ('uint64_t', 'len', 'length'),
+        ('uint32_t *', 'count', 1))),
+    'brundelak_radio_put_head': ('uint8_t', (('uint8_t *', 'out', 'slice'), ('uint64_t', 'len', 'length'),
+        ('uint64_t', 'place', 0), ('uint32_t', 'count', 0), ('uint64_t *', 'next', 1))),
+    'brundelak_radio_put_star': ('uint8_t', (('uint8_t *', 'out', 'slice'), ('uint64_t', 'len', 'length'),
+        ('uint64_t', 'place', 0), ('uint32_t', 'number', 0), ('uint32_t', 'asc', 0), ('int32_t', 'dec', 0),
+        ('int32_t', 'asc_rate', 0), ('int32_t', 'dec_rate', 0), ('uint64_t *', 'next', 1))),
+    'brundelak_radio_to_list': ('uint8_t', (('const uint8_t *', 'bytes', 'slice'), ('uint64_t', 'len', 'length'),
+        ('uint8_t *', 'out', 'slice'), ('uint64_t', 'out_len', 'length'), ('uint64_t *', 'written', 1))),
+    'brundelak_list_to_radio': ('uint8_t', (('const uint8_t *', 'bytes', 'slice'), ('uint64_t', 'len', 'length'),
+        ('uint8_t *', 'out', 'slice'), ('uint64_t', 'out_len', 'length'), ('uint64_t *', 'written', 1))),
+}
+
+# what the header defines
+VERSION = '0.2.0'
+VERSION_MAJOR = 0
+VERSION_MINOR = 2
+VERSION_PATCH = 0
+VERSION_NUMBER = 512
+END = 255
+RECORD_BYTES = 20
+MOST_STARS = 3000
+MOST_BYTES = 60000
+NARROW_RECORD_BYTES = 12
+MOST_NARROW_BYTES = 36000
+MOST_RADIO_BYTES = 63003
+COUNTS = 20
+FULLEST = 60000
+HIGHEST_STATUS = 19
+FIGURES = 6
+FIGURE_COUNT = 0
+FIGURE_SUM = 1
+FIGURE_SQUARES = 2
+FIGURE_LARGEST = 3
+FIGURE_PLACE = 4
+FIGURE_ASIDE = 5
+ENVIRONMENT_ROUNDING = 1
+ENVIRONMENT_SUBNORMALS = 2
+
+# number, name and sentence of each refusal
+REFUSALS: Tuple[Tuple[int, str, str], ...] = (
+    (1, 'NotFinite', 'an argument is NaN or infinite'),
+    (2, 'Day', 'a day is more than 730500 days from 2451545.0'),
+    (3, 'Angle', 'an angle is too large, or a latitude or declination exceeds a quarter turn'),
+    (4, 'Steep', 'an angle that goes into a tangent or divides by its cosine exceeds 1.57'),
+    (5, 'Range', 'a distance, a height or the argument of a root is outside its range'),
+    (6, 'Zero', 'the sine of the new inclination, or the divisor N, is zero'),
+    (7, 'Arcsine', 'the argument of an arcsine exceeds 1 in size'),
+    (8, 'List', 'the list, a place in it or a lent slice has a bad length, or a radio list too many stars'),
+    (9, 'Record', 'a star record is out of range'),
+    (10, 'NoStar', 'no star has the number, or the place is empty'),
+    (11, 'FirstByte', 'the first byte of a radio list is neither 2 nor 3'),
+    (12, 'Spelling', 'a number of a radio list is not in its shortest length or above 32 bits'),
+    (13, 'End', 'a radio list is cut short, an empty one too, or has bytes over'),
+    (14, 'NoDirection', 'there is no direction: both arguments of an arctangent are zero'),
+    (15, 'NeverRises', 'the star never rises: it stays below the standard altitude'),
+    (16, 'NeverSets', 'the star never sets: it stays above the standard altitude'),
+    (17, 'MovingStar', "a star's rate is not zero, and a record of 12 bytes has no rates"),
+    (18, 'NumberPresent', 'a star of the list has the number already'),
+    (19, 'NoEmptyPlace', 'no place of the list is empty'),
+)
+
+# the sentence of a number that has no name
+UNNAMED = 'the call was refused'
