@@ -2,12 +2,11 @@
 // other. Promised: of every list, every two days and every text all bytes of the answer, or why there is none.
 ghost use Prim.Native.Nat.{_≤_};
 ghost use mathlib.Core.Path.{_≡_};
-ghost use lib.ListN.{length, getD};
+ghost use lib.ListN.{length};
 ghost use Rattle.lent.specs.rules.Writing.{Wrote};
-ghost use Rattle.lent.specs.rules.Texts.{texts};
 ghost use Rattle.list.specs.rules.Stars.{mostStars};
 ghost use Rattle.report_residuals.specs.rules.Came.{lentCame};
-ghost use Rattle.report_residuals.specs.rules.Text.{Reported, sightAt, leftAt, placeAt, peopleText, styleText, sheetsReport};
+ghost use Rattle.report_residuals.specs.rules.Text.{Reported, styleText, sheetsReport};
 ghost use Rattle.report_residuals.specs.rules.Report.{reportOf, matchedReport, sightedReport};
 ghost use Rattle.report_residuals.specs.notions.Matched.{Matched};
 use edition::Edition;
@@ -16,7 +15,6 @@ use list::MOST_STARS;
 use residual_sheet::Sheet;
 use residual_sheet::Sheets;
 use text_measured::Sights;
-use text_residuals::Place;
 
 // What is written: the sheet for people with who is left out of it; the figures alone; each sight; or who is left out alone.
 pub enum Style {
@@ -46,28 +44,6 @@ pub struct Came {
 // Bytes of the longest text, at most: so many a sight, and those of the sheet.
 pub const ROOM: usize = text_residuals::SHEET_ROOM + text_residuals::LEFT_ROOM * MOST_STARS;
 
-// ---- values by their places
-
-// Number i of a slice; past its end 0.
-fn number_at(s: &[u64], i: usize) -> u64
-    ensures { λ r. ⌜ r ≡ getD (now (s .entry)) i 0 ⌝ }
-{
-    if i < s.len() {
-        return s[i];
-    }
-    0
-}
-
-// Star i of a slice likewise.
-fn star_at(s: &[u32], i: usize) -> u32
-    ensures { λ r. ⌜ r ≡ getD (now (s .entry)) i 0 ⌝ }
-{
-    if i < s.len() {
-        return s[i];
-    }
-    0
-}
-
 // ---- sights and stars
 
 // What the star with the number came to, of a list whose stars' statuses and angles are lent.
@@ -83,8 +59,8 @@ fn came_to<'a>(
     match list::find(bytes, number) {
         Found::At(i, _) => Came {
             status: text_answers::byte_at(status, i),
-            asc: number_at(asc, i),
-            dec: number_at(dec, i),
+            asc: text_sights::number_at(asc, i),
+            dec: text_sights::number_at(dec, i),
         },
         Found::Refused(n) => Came {
             status: n,
@@ -123,146 +99,7 @@ fn match_sights<'a>(
     }
 }
 
-// ---- the sights one by one
-
-// Each `put_` writes its text from the offset on, and answers the offset after it. This one: sight i, its residuals or its refusal.
-fn put_sight_at<'a>(
-    out: &mut [u8],
-    at: usize,
-    line: &'a [u64],
-    star: &'a [u32],
-    status: &'a [u8],
-    asc: &'a [u64],
-    dec: &'a [u64],
-    measured_asc: &'a [u64],
-    measured_dec: &'a [u64],
-    i: usize,
-) -> usize
-    ensures { λ r. ⌜ Wrote (now (out .entry)) at (sightAt (now (line .entry)) (now (star .entry)) (now (status .entry)) (now (asc .entry))
-        (now (dec .entry)) (now («measured_asc» .entry)) (now («measured_dec» .entry)) i) (now (out .exit)) r ⌝ }
-{
-    let n = text_answers::byte_at(status, i);
-    let on_line = number_at(line, i);
-    let number = star_at(star, i) as u64;
-    if n != 0 {
-        return text_residuals::put_refused_sight(out, at, on_line, number, n);
-    }
-    let a = residual::residual_of(
-        true,
-        text_answers::angle_at(asc, i),
-        text_answers::angle_at(measured_asc, i),
-    );
-    let d = residual::residual_of(
-        false,
-        text_answers::angle_at(dec, i),
-        text_answers::angle_at(measured_dec, i),
-    );
-    text_residuals::put_sight(out, at, on_line, number, a, d)
-}
-
-// The first n of them.
-fn put_sights<'a>(
-    out: &mut [u8],
-    line: &'a [u64],
-    star: &'a [u32],
-    status: &'a [u8],
-    asc: &'a [u64],
-    dec: &'a [u64],
-    measured_asc: &'a [u64],
-    measured_dec: &'a [u64],
-    n: usize,
-) -> usize
-    ensures { λ r. ⌜ Wrote (now (out .entry)) 0 (texts n (sightAt (now (line .entry)) (now (star .entry)) (now (status .entry)) (now (asc .entry))
-        (now (dec .entry)) (now («measured_asc» .entry)) (now («measured_dec» .entry)))) (now (out .exit)) r ⌝ }
-{
-    let mut offset = 0;
-    let mut i: usize = 0;
-    while i < n {
-        offset = put_sight_at(
-            out,
-            offset,
-            line,
-            star,
-            status,
-            asc,
-            dec,
-            measured_asc,
-            measured_dec,
-            i,
-        );
-        i += 1;
-    }
-    offset
-}
-
-// Sight i where it is left out, in words.
-fn put_left_at<'a>(
-    out: &mut [u8],
-    at: usize,
-    line: &'a [u64],
-    star: &'a [u32],
-    status: &'a [u8],
-    i: usize,
-) -> usize
-    ensures { λ r. ⌜ Wrote (now (out .entry)) at (leftAt (now (line .entry)) (now (star .entry)) (now (status .entry)) i) (now (out .exit)) r ⌝ }
-{
-    let n = text_answers::byte_at(status, i);
-    if n == 0 {
-        return lent::within(at, out.len());
-    }
-    text_residuals::put_left(out, at, number_at(line, i), star_at(star, i) as u64, n)
-}
-
-// Of the first n those that are left out.
-fn put_lefts<'a>(
-    out: &mut [u8],
-    at: usize,
-    line: &'a [u64],
-    star: &'a [u32],
-    status: &'a [u8],
-    n: usize,
-) -> usize
-    ensures { λ r. ⌜ Wrote (now (out .entry)) at (texts n (leftAt (now (line .entry)) (now (star .entry)) (now (status .entry)))) (now (out .exit)) r ⌝ }
-{
-    let mut offset = lent::within(at, out.len());
-    let mut i: usize = 0;
-    while i < n {
-        offset = put_left_at(out, offset, line, star, status, i);
-        i += 1;
-    }
-    offset
-}
-
 // ---- all of them
-
-// The line and the star at a place.
-fn place_at<'a>(line: &'a [u64], star: &'a [u32], place: i64) -> Place
-    ensures { λ r. ⌜ r ≡ placeAt (now (line .entry)) (now (star .entry)) place ⌝ }
-{
-    let i = text_residuals::size(place) as usize;
-    let number = star_at(star, i) as u64;
-    Place {
-        line: number_at(line, i),
-        star: number,
-    }
-}
-
-// Both sheets for people, and who is in neither.
-fn put_people<'a>(
-    out: &mut [u8],
-    asc: Sheet,
-    dec: Sheet,
-    line: &'a [u64],
-    star: &'a [u32],
-    status: &'a [u8],
-) -> usize
-    ensures { λ r. ⌜ Wrote (now (out .entry)) 0 (peopleText asc dec (now (line .entry)) (now (star .entry)) (now (status .entry))) (now (out .exit)) r ⌝ }
-{
-    let a = place_at(line, star, asc.place);
-    let d = place_at(line, star, dec.place);
-    let k = text_residuals::put_sheet(out, 0, asc, a, dec, d);
-    put_lefts(out, k, line, star, status, line.len())
-}
 
 // A night with its sheets, in a style.
 fn put_style<'a>(
@@ -282,9 +119,9 @@ fn put_style<'a>(
         (now (dec .entry)) (now («measured_asc» .entry)) (now («measured_dec» .entry))) (now (out .exit)) r ⌝ }
 {
     match style {
-        Style::People => put_people(out, a, d, line, star, status),
+        Style::People => text_sights::put_people(out, a, d, line, star, status),
         Style::Figures => text_residuals::put_figures(out, 0, a, d),
-        Style::Sights => put_sights(
+        Style::Sights => text_sights::put_sights(
             out,
             line,
             star,
@@ -295,7 +132,7 @@ fn put_style<'a>(
             measured_dec,
             line.len(),
         ),
-        Style::Left => put_lefts(out, 0, line, star, status, line.len()),
+        Style::Left => text_sights::put_lefts(out, 0, line, star, status, line.len()),
     }
 }
 

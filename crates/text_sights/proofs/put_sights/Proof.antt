@@ -1,13 +1,13 @@
--- `report_residuals::put_sights` meets its contract.
+-- `text_sights::put_sights` meets its contract.
 use borrow.Author.Needs.{needs}
 use Prim.Native.Nat.{_-_}
 use native.Mathlib.Omega.{arith}
 use Rattle.double.specs.laws.Calls.{asks-nothing}
 use Rattle.lent.specs.notions.Walk.{Walked}
 use Rattle.lent.specs.laws.Walk.{begun, passed, ended, stays}
-use Rattle.report_residuals.specs.rules.Text.{sightAt}
-use Rattle.report_residuals.proofs.put_sights.Statement.{statement}
-use Rattle.report_residuals.proofs.put_sights.Tie as tie
+use Rattle.text_sights.specs.rules.Sights.{sightAt}
+use Rattle.text_sights.proofs.put_sights.Statement.{statement}
+use Rattle.text_sights.proofs.put_sights.Tie as tie
 
 abbrev Inv-loop : tie.InvT-loop
 Inv-loop out₀ line star status asc dec masc mdec n offset₀ i₀ out offset i = Walked out₀ 0 n (sightAt line star status asc dec masc mdec) out offset i

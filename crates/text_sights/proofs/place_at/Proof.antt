@@ -1,4 +1,4 @@
--- `report_residuals::place_at` meets its contract.
+-- `text_sights::place_at` meets its contract.
 use borrow.Author.Needs.{needs}
 use Prim.Native.Nat.{ℕ}
 use mathlib.Core.Path.{_≡_, ap, _∙_}
@@ -6,8 +6,8 @@ use lib.IntN.{natAbs}
 use lib.ListN.{getD}
 use mir.Facts.{toZ-ofZ}
 use Rattle.double.specs.laws.Calls.{asks-nothing}
-use Rattle.report_residuals.proofs.place_at.Statement.{statement}
-use Rattle.report_residuals.proofs.place_at.Tie as tie
+use Rattle.text_sights.proofs.place_at.Statement.{statement}
+use Rattle.text_sights.proofs.place_at.Tie as tie
 
 returns : tie.Need-returns
 returns c =

@@ -1,12 +1,12 @@
--- `report_residuals::put_people` meets its contract.
+-- `text_sights::put_people` meets its contract.
 use borrow.Author.Needs.{needs}
 use mir.Syntax.{w64}
 use mir.Facts.{toZ-ofZ}
 use Rattle.double.specs.laws.Calls.{asks-nothing}
 use Rattle.lent.specs.laws.Writing.{after}
-use Rattle.report_residuals.specs.rules.Text.{peopleText}
-use Rattle.report_residuals.proofs.put_people.Statement.{statement}
-use Rattle.report_residuals.proofs.put_people.Tie as tie
+use Rattle.text_sights.specs.rules.Sights.{peopleText}
+use Rattle.text_sights.proofs.put_people.Statement.{statement}
+use Rattle.text_sights.proofs.put_people.Tie as tie
 
 returns : tie.Need-returns
 unfolding peopleText

@@ -1,12 +1,12 @@
--- `report_residuals::put_lefts` meets its contract.
+-- `text_sights::put_lefts` meets its contract.
 use borrow.Author.Needs.{needs}
 use Prim.Native.Nat.{_-_}
 use Rattle.double.specs.laws.Calls.{asks-nothing}
 use Rattle.lent.specs.notions.Walk.{Walked}
 use Rattle.lent.specs.laws.Walk.{begun, passed, ended, stays}
-use Rattle.report_residuals.specs.rules.Text.{leftAt}
-use Rattle.report_residuals.proofs.put_lefts.Statement.{statement}
-use Rattle.report_residuals.proofs.put_lefts.Tie as tie
+use Rattle.text_sights.specs.rules.Sights.{leftAt}
+use Rattle.text_sights.proofs.put_lefts.Statement.{statement}
+use Rattle.text_sights.proofs.put_lefts.Tie as tie
 
 abbrev Inv-loop : tie.InvT-loop
 Inv-loop out₀ at line star status n offset₀ i₀ out offset i = Walked out₀ at n (leftAt line star status) out offset i

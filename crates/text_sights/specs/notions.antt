@@ -1,0 +1,2 @@
+-- What theorems on the text of a night's sights speak of, and no promise mentions. Definitions only.
+pub mod Wrong

@@ -1,0 +1,2 @@
+-- What a reader must believe of the text of a night's sights. Definitions only.
+pub mod Sights
