@@ -58,7 +58,7 @@ fn came_to<'a>(
 {
     match list::find(bytes, number) {
         Found::At(i, _) => Came {
-            status: text_answers::byte_at(status, i),
+            status: text_sights::status_at(status, i),
             asc: text_sights::number_at(asc, i),
             dec: text_sights::number_at(dec, i),
         },

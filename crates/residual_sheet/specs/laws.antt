@@ -1,4 +1,5 @@
--- What is proved of a residual sheet, for callers to cite. Theorems only.
+-- What is proved of a residual and of a residual sheet, for callers to cite. Theorems only.
+pub mod Residual
 pub mod Parts
 pub mod Place
 pub mod Merge

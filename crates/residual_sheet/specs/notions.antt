@@ -1,4 +1,4 @@
--- What theorems on a residual sheet speak of, and no promise mentions. Definitions only.
+-- What theorems on a residual and on a residual sheet speak of, and no promise mentions. Definitions only.
 pub mod Place
 pub mod Sheet
 pub mod Accepted

@@ -1,4 +1,5 @@
--- What a reader must believe of a residual sheet, in reading order. Definitions only.
+-- What a reader must believe of a residual and of a residual sheet, in reading order. Definitions only.
+pub mod Residual
 pub mod Entry
 pub mod Sheet
 pub mod Residuals

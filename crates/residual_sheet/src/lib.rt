@@ -1,6 +1,7 @@
 // The residual sheet (request (xiii)): what a night's measured places leave of its computed ones, for each coordinate the count, the exact
-// sum, the exact sum of squares, the largest size with its first place, and how many were set aside. Promised: the sheet is the one that is
-// defined over the whole list.
+// sum, the exact sum of squares, the largest size with its first place, and how many were set aside. Promised: of a residual the written
+// operations on every double, of sizes up to 64.0 the nearest whole number of milliarcseconds, halves away from zero, and which residuals
+// are set aside; the sheet is the one that is defined over the whole list.
 ghost use Prim.Native.Nat.{_≤_, max};
 ghost use mathlib.Core.Path.{_≡_};
 ghost use lib.ListN.{length};
@@ -8,12 +9,20 @@ ghost use Rattle.double.specs.rules.Operations.{bits};
 ghost use Rattle.quantity.specs.rules.Angle.{rad};
 ghost use Rattle.quantity.specs.rules.Refusal.{lower, angleRefusal};
 ghost use Rattle.list.specs.rules.Stars.{mostStars};
+ghost use Rattle.residual_sheet.specs.rules.Residual.{difference, acrossTurn, inMilliarcseconds, isAside, residualOf};
 ghost use Rattle.residual_sheet.specs.rules.Entry.{entryOf, entriesOf};
 ghost use Rattle.residual_sheet.specs.rules.Residuals.{sheetIn, lengthsRefusal, floatsRefusal, residualsRefusal, shownSheets, residualsRule};
 ghost use Rattle.residual_sheet.specs.rules.Running.{above, below, placeAfter, onward, runningOf, sheetFrom, AtMost};
+use helpers::angle;
 use list::MOST_STARS;
+use quantity::PI;
 use quantity::Rad;
-use residual::Residual;
+
+// A whole number of milliarcseconds by its size, and whether a minus sign stands before it, as it never does before 0.
+pub struct Residual {
+    pub minus: bool,
+    pub size: u64,
+}
 
 // The six figures of a coordinate. A place is an index in the slices; largest and place are 0 and 0 where nothing is taken in.
 pub struct Sheet {
@@ -40,6 +49,56 @@ pub struct Running {
     pub largest: u64,
     pub place: u64,
     pub aside: u64,
+}
+
+// ---- one residual
+
+// Computed less measured.
+fn difference(computed: Rad, measured: Rad) -> Rad
+    ensures { λ r. ⌜ r ≡ difference computed measured ⌝ }
+{
+    Rad(computed.0 - measured.0)
+}
+
+// A difference folded into one turn, and less a turn where it exceeds half of one.
+fn across_turn(x: Rad) -> Rad
+    ensures { λ r. ⌜ r ≡ acrossTurn x ⌝ }
+{
+    let y = angle::within_two_PI(x);
+    if PI < y.0 {
+        return Rad(y.0 - 6.283185307179586);
+    }
+    y
+}
+
+// An angle in whole milliarcseconds.
+fn in_milliarcseconds(x: Rad) -> Residual
+    ensures { λ r. ⌜ r ≡ inMilliarcseconds x ⌝ }
+{
+    let y = units::milliarcseconds(units::to_degrees(x));
+    let n = units::nearest_whole(double::size(y));
+    Residual {
+        minus: units::has_minus(y, n),
+        size: n,
+    }
+}
+
+// The residual of an angle: of a right ascension, which is taken across the turn, or of a declination, which is not.
+pub fn residual_of(across: bool, computed: Rad, measured: Rad) -> Residual
+    ensures { λ r. ⌜ r ≡ residualOf across computed measured ⌝ }
+{
+    let d = difference(computed, measured);
+    if across {
+        return in_milliarcseconds(across_turn(d));
+    }
+    in_milliarcseconds(d)
+}
+
+// Whether a residual is set aside: above 1000000 in size, once rounded.
+pub fn is_aside(x: Residual) -> bool
+    ensures { λ r. ⌜ r ≡ isAside x ⌝ }
+{
+    1000000 < x.size
 }
 
 // ---- one entry
@@ -84,7 +143,7 @@ fn onward(r: Running, i: u64, status: u8, x: Residual) -> Running
         return r;
     }
     let n = x.size;
-    if residual::is_aside(x) {
+    if is_aside(x) {
         return Running {
             count: r.count,
             above: r.above,
@@ -131,7 +190,7 @@ fn running_of(across: bool, status: &[u8], computed: &[u64], measured: &[u64]) -
     while i < n {
         let c = f64::from_bits(computed[i]);
         let m = f64::from_bits(measured[i]);
-        let x = residual::residual_of(across, Rad(c), Rad(m));
+        let x = residual_of(across, Rad(c), Rad(m));
         r = onward(r, i as u64, status[i], x);
         i += 1;
     }

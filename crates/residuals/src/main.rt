@@ -129,6 +129,11 @@ fn no_sight(line: usize) {
     );
 }
 
+// Says that the text of measured places is too long.
+fn too_long() {
+    io::write_all(2, b"MEASURED has more than 600000 bytes\n");
+}
+
 // Says which argument is not a day.
 fn no_day(name: &[u8]) {
     io::write_all(2, name);
@@ -197,7 +202,7 @@ fn with_measured(style: Style, edition: Edition, bytes: &[u8], day1: f64, day2: 
     let mut text = [0u8; READ];
     let n = io::read_full(3, &mut text);
     if n == READ {
-        io::write_all(2, b"MEASURED has more than 600000 bytes\n");
+        too_long();
         return;
     }
     print_night(style, edition, bytes, day1, day2, &text[..n]);

@@ -1,15 +1,18 @@
 // What `residuals` prints: the six figures of each coordinate in a row, for programs; and a sheet for people, in milliarcseconds. Promised:
 // every byte of both, each figure rounded once.
 ghost use mathlib.Core.Path.{_≡_};
+ghost use mathlib.Core.List.{[], _∷_, _++_};
 ghost use lib.IntN.{natAbs};
 ghost use Rattle.lent.specs.rules.Writing.{Wrote};
 ghost use Rattle.signed.specs.rules.Signed.{negative, reach};
-ghost use Rattle.text_number.specs.rules.Number.{integerText};
-ghost use Rattle.text_residuals.specs.rules.Figures.{residualThen, decimalThen, sightText, refusedSightText, wholeThen};
+ghost use Rattle.text_number.specs.rules.Number.{signedText};
+ghost use Rattle.units.specs.rules.Nearest.{nearestWhole};
+ghost use Rattle.root.specs.rules.Root.{rootOf};
+ghost use Rattle.text_residuals.specs.rules.Figures.{sightText, refusedSightText, wholeThen};
 ghost use Rattle.text_residuals.specs.rules.Figures.{rowText, figuresText};
-ghost use Rattle.text_residuals.specs.rules.Sheet.{quotientOf, meanMinus, meanText, rootText, lineStarText, whereText, labelled};
+ghost use Rattle.text_residuals.specs.rules.Sheet.{quotientOf, meanMinus, lineStarText, whereText};
 ghost use Rattle.text_residuals.specs.rules.Sheet.{takenText, anyTakenText, coordinateText, sheetText, whyLeft, leftText};
-use residual::Residual;
+use residual_sheet::Residual;
 use residual_sheet::Sheet;
 
 // Bytes of each text, at most: of a sight's line, of one that is not taken in, of the figures, of the sheet.
@@ -44,31 +47,22 @@ pub fn size(z: i64) -> u64
     if negative(z) { reach(z) + 1 } else { reach(z) }
 }
 
-// Each `put_` writes its text from the offset on, and answers the offset after it. This one: a number, and a byte after it.
+// Each `put_` writes its text from the offset on, and answers the offset after it. This one: a number by its sign and size, and a byte.
+fn put_signed_then(out: &mut [u8], at: usize, minus: bool, n: u64, end: u8) -> usize
+    ensures { λ r. ⌜ Wrote (now (out .entry)) at (signedText minus n ++ (end ∷ [])) (now (out .exit)) r ⌝ }
+{
+    let a = text_number::put_signed(out, at, minus, n);
+    lent::put_byte(out, a, end)
+}
+
+// A number, and a byte after it.
 fn put_whole_then(out: &mut [u8], at: usize, z: i64, end: u8) -> usize
     ensures { λ r. ⌜ Wrote (now (out .entry)) at (wholeThen z end) (now (out .exit)) r ⌝ }
 {
-    let a = text_number::put_signed(out, at, negative(z), size(z));
-    lent::put_byte(out, a, end)
+    put_signed_then(out, at, negative(z), size(z), end)
 }
 
 // ---- a sight
-
-// A residual, and a byte after it.
-fn put_residual_then(out: &mut [u8], at: usize, x: Residual, end: u8) -> usize
-    ensures { λ r. ⌜ Wrote (now (out .entry)) at (residualThen x end) (now (out .exit)) r ⌝ }
-{
-    let a = text_number::put_signed(out, at, x.minus, x.size);
-    lent::put_byte(out, a, end)
-}
-
-// A number without a sign, and a blank.
-fn put_decimal_then(out: &mut [u8], at: usize, n: u64) -> usize
-    ensures { λ r. ⌜ Wrote (now (out .entry)) at (decimalThen n) (now (out .exit)) r ⌝ }
-{
-    let a = text_number::put_decimal(out, at, n);
-    lent::put_byte(out, a, b' ')
-}
 
 // A sight's line: its line in the text of measured places, its star, and both residuals.
 pub fn put_sight(
@@ -81,18 +75,18 @@ pub fn put_sight(
 ) -> usize
     ensures { λ r. ⌜ Wrote (now (out .entry)) at (sightText line star asc dec) (now (out .exit)) r ⌝ }
 {
-    let a = put_decimal_then(out, at, line);
-    let b = put_decimal_then(out, a, star);
-    let c = put_residual_then(out, b, asc, b' ');
-    put_residual_then(out, c, dec, b'\n')
+    let a = put_signed_then(out, at, false, line, b' ');
+    let b = put_signed_then(out, a, false, star, b' ');
+    let c = put_signed_then(out, b, asc.minus, asc.size, b' ');
+    put_signed_then(out, c, dec.minus, dec.size, b'\n')
 }
 
 // The line of a sight whose star is refused, or is not on the list.
 pub fn put_refused_sight(out: &mut [u8], at: usize, line: u64, star: u64, n: u8) -> usize
     ensures { λ r. ⌜ Wrote (now (out .entry)) at (refusedSightText line star n) (now (out .exit)) r ⌝ }
 {
-    let a = put_decimal_then(out, at, line);
-    let b = put_decimal_then(out, a, star);
+    let a = put_signed_then(out, at, false, line, b' ');
+    let b = put_signed_then(out, a, false, star, b' ');
     text_number::put_refused(out, b, n)
 }
 
@@ -127,6 +121,13 @@ fn quotient_of(n: i64, count: i64) -> f64
     double::from_whole(size(n)) / double::from_whole(size(count))
 }
 
+// The size of a mean.
+fn mean_size(sum: i64, count: i64) -> u64
+    ensures { λ r. ⌜ r ≡ nearestWhole (quotientOf sum count) ⌝ }
+{
+    units::nearest_whole(quotient_of(sum, count))
+}
+
 // Whether a minus sign stands before a mean of size n.
 fn mean_minus(sum: i64, n: u64) -> bool
     ensures { λ r. ⌜ r ≡ meanMinus sum n ⌝ }
@@ -134,32 +135,27 @@ fn mean_minus(sum: i64, n: u64) -> bool
     if negative(sum) { 0 < n } else { false }
 }
 
-// The mean, and the line's end.
-fn put_mean(out: &mut [u8], at: usize, sum: i64, count: i64) -> usize
-    ensures { λ r. ⌜ Wrote (now (out .entry)) at (meanText sum count) (now (out .exit)) r ⌝ }
+// A root mean square.
+fn root_size(squares: i64, count: i64) -> u64
+    ensures { λ r. ⌜ r ≡ nearestWhole (rootOf (quotientOf squares count)) ⌝ }
 {
-    let n = units::nearest_whole(quotient_of(sum, count));
-    let a = text_number::put_signed(out, at, mean_minus(sum, n), n);
-    lent::put_byte(out, a, b'\n')
+    units::nearest_whole(root::root_of(quotient_of(squares, count)))
 }
 
-// The root mean square, and the line's end.
-fn put_root(out: &mut [u8], at: usize, squares: i64, count: i64) -> usize
-    ensures { λ r. ⌜ Wrote (now (out .entry)) at (rootText squares count) (now (out .exit)) r ⌝ }
+// A label, a number by its sign and size, and a byte.
+fn put_labelled(out: &mut [u8], at: usize, label: &[u8], minus: bool, n: u64, end: u8) -> usize
+    ensures { λ r. ⌜ Wrote (now (out .entry)) at (now (label .entry) ++ (signedText minus n ++ (end ∷ []))) (now (out .exit)) r ⌝ }
 {
-    let n = units::nearest_whole(root::root_of(quotient_of(squares, count)));
-    let a = text_number::put_decimal(out, at, n);
-    lent::put_byte(out, a, b'\n')
+    let a = lent::put(out, at, label);
+    put_signed_then(out, a, minus, n, end)
 }
 
-// A sight's line and its star.
-fn put_line_star(out: &mut [u8], at: usize, line: u64, star: u64) -> usize
-    ensures { λ r. ⌜ Wrote (now (out .entry)) at (lineStarText line star) (now (out .exit)) r ⌝ }
+// A sight's line and its star, and a byte after them.
+fn put_line_star(out: &mut [u8], at: usize, line: u64, star: u64, end: u8) -> usize
+    ensures { λ r. ⌜ Wrote (now (out .entry)) at (lineStarText line star ++ (end ∷ [])) (now (out .exit)) r ⌝ }
 {
-    let a = lent::put(out, at, b"line ");
-    let b = text_number::put_decimal(out, a, line);
-    let c = lent::put(out, b, b", star ");
-    text_number::put_decimal(out, c, star)
+    let a = put_labelled(out, at, b"line ", false, line, b',');
+    put_labelled(out, a, b" star ", false, star, end)
 }
 
 // Those of the largest, and the line's end.
@@ -167,28 +163,29 @@ fn put_where(out: &mut [u8], at: usize, line: u64, star: u64) -> usize
     ensures { λ r. ⌜ Wrote (now (out .entry)) at (whereText line star) (now (out .exit)) r ⌝ }
 {
     let a = lent::put_byte(out, at, b'(');
-    let b = put_line_star(out, a, line, star);
-    lent::put(out, b, b")\n")
-}
-
-// A label, a number and a byte.
-fn put_labelled(out: &mut [u8], at: usize, label: &[u8], z: i64, end: u8) -> usize
-    ensures { λ r. ⌜ Wrote (now (out .entry)) at (labelled (now (label .entry)) z end) (now (out .exit)) r ⌝ }
-{
-    let a = lent::put(out, at, label);
-    put_whole_then(out, a, z, end)
+    let b = put_line_star(out, a, line, star, b')');
+    lent::put_byte(out, b, b'\n')
 }
 
 // Mean, root mean square and largest of what is taken in.
 fn put_taken(out: &mut [u8], at: usize, sheet: Sheet, line: u64, star: u64) -> usize
     ensures { λ r. ⌜ Wrote (now (out .entry)) at (takenText sheet line star) (now (out .exit)) r ⌝ }
 {
-    let a = lent::put(out, at, b"  mean              ");
-    let b = put_mean(out, a, sheet.sum, sheet.count);
-    let c = lent::put(out, b, b"  root mean square  ");
-    let d = put_root(out, c, sheet.squares, sheet.count);
-    let e = put_labelled(out, d, b"  largest           ", sheet.largest, b' ');
-    put_where(out, e, line, star)
+    let largest = sheet.largest;
+    let mean = mean_size(sheet.sum, sheet.count);
+    let minus = mean_minus(sheet.sum, mean);
+    let root = root_size(sheet.squares, sheet.count);
+    let a = put_labelled(out, at, b"  mean              ", minus, mean, b'\n');
+    let b = put_labelled(out, a, b"  root mean square  ", false, root, b'\n');
+    let c = put_labelled(
+        out,
+        b,
+        b"  largest           ",
+        negative(largest),
+        size(largest),
+        b' ',
+    );
+    put_where(out, c, line, star)
 }
 
 // The same, where anything is.
@@ -205,9 +202,25 @@ fn put_any_taken(out: &mut [u8], at: usize, sheet: Sheet, line: u64, star: u64) 
 fn put_coordinate(out: &mut [u8], at: usize, sheet: Sheet, line: u64, star: u64) -> usize
     ensures { λ r. ⌜ Wrote (now (out .entry)) at (coordinateText sheet line star) (now (out .exit)) r ⌝ }
 {
-    let a = put_labelled(out, at, b"  taken in          ", sheet.count, b'\n');
+    let count = sheet.count;
+    let aside = sheet.aside;
+    let a = put_labelled(
+        out,
+        at,
+        b"  taken in          ",
+        negative(count),
+        size(count),
+        b'\n',
+    );
     let b = put_any_taken(out, a, sheet, line, star);
-    put_labelled(out, b, b"  set aside         ", sheet.aside, b'\n')
+    put_labelled(
+        out,
+        b,
+        b"  set aside         ",
+        negative(aside),
+        size(aside),
+        b'\n',
+    )
 }
 
 // Where the largest of a coordinate stands: its line, and its star.
@@ -255,7 +268,7 @@ fn put_why_left(out: &mut [u8], at: usize, n: u8) -> usize
 pub fn put_left(out: &mut [u8], at: usize, line: u64, star: u64, n: u8) -> usize
     ensures { λ r. ⌜ Wrote (now (out .entry)) at (leftText line star n) (now (out .exit)) r ⌝ }
 {
-    let a = put_line_star(out, at, line, star);
-    let b = lent::put(out, a, b": ");
+    let a = put_line_star(out, at, line, star, b':');
+    let b = lent::put_byte(out, a, b' ');
     put_why_left(out, b, n)
 }

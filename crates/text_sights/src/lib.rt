@@ -4,7 +4,10 @@ ghost use mathlib.Core.Path.{_≡_};
 ghost use lib.ListN.{getD};
 ghost use Rattle.lent.specs.rules.Writing.{Wrote};
 ghost use Rattle.lent.specs.rules.Texts.{texts};
-ghost use Rattle.text_sights.specs.rules.Sights.{sightAt, leftAt, placeAt, peopleText};
+ghost use Rattle.residual_sheet.specs.rules.Residual.{residualOf};
+ghost use Rattle.text_sights.specs.rules.Sights.{angleAt, sightAt, leftAt, placeAt, peopleText};
+use quantity::Rad;
+use residual_sheet::Residual;
 use residual_sheet::Sheet;
 use text_residuals::Place;
 
@@ -12,6 +15,16 @@ use text_residuals::Place;
 
 // Number i of a slice; past its end 0.
 pub fn number_at(s: &[u64], i: usize) -> u64
+    ensures { λ r. ⌜ r ≡ getD (now (s .entry)) i 0 ⌝ }
+{
+    if i < s.len() {
+        return s[i];
+    }
+    0
+}
+
+// Status i of a slice likewise.
+pub fn status_at(s: &[u8], i: usize) -> u8
     ensures { λ r. ⌜ r ≡ getD (now (s .entry)) i 0 ⌝ }
 {
     if i < s.len() {
@@ -28,6 +41,15 @@ fn star_at(s: &[u32], i: usize) -> u32
         return s[i];
     }
     0
+}
+
+// The residual of angle i of two slices of radians, each lent as its bits; past an end 0.0.
+fn residual_at(across: bool, computed: &[u64], measured: &[u64], i: usize) -> Residual
+    ensures { λ r. ⌜ r ≡ residualOf across (angleAt (now (computed .entry)) i) (angleAt (now (measured .entry)) i) ⌝ }
+{
+    let c = double::of_pattern(number_at(computed, i));
+    let m = double::of_pattern(number_at(measured, i));
+    residual_sheet::residual_of(across, Rad(c), Rad(m))
 }
 
 // ---- the sights one by one
@@ -48,22 +70,14 @@ fn put_sight_at<'a>(
     ensures { λ r. ⌜ Wrote (now (out .entry)) at (sightAt (now (line .entry)) (now (star .entry)) (now (status .entry)) (now (asc .entry))
         (now (dec .entry)) (now («measured_asc» .entry)) (now («measured_dec» .entry)) i) (now (out .exit)) r ⌝ }
 {
-    let n = text_answers::byte_at(status, i);
+    let n = status_at(status, i);
     let on_line = number_at(line, i);
     let number = star_at(star, i) as u64;
     if n != 0 {
         return text_residuals::put_refused_sight(out, at, on_line, number, n);
     }
-    let a = residual::residual_of(
-        true,
-        text_answers::angle_at(asc, i),
-        text_answers::angle_at(measured_asc, i),
-    );
-    let d = residual::residual_of(
-        false,
-        text_answers::angle_at(dec, i),
-        text_answers::angle_at(measured_dec, i),
-    );
+    let a = residual_at(true, asc, measured_asc, i);
+    let d = residual_at(false, dec, measured_dec, i);
     text_residuals::put_sight(out, at, on_line, number, a, d)
 }
 
@@ -113,7 +127,7 @@ fn put_left_at<'a>(
 ) -> usize
     ensures { λ r. ⌜ Wrote (now (out .entry)) at (leftAt (now (line .entry)) (now (star .entry)) (now (status .entry)) i) (now (out .exit)) r ⌝ }
 {
-    let n = text_answers::byte_at(status, i);
+    let n = status_at(status, i);
     if n == 0 {
         return lent::within(at, out.len());
     }

@@ -8,7 +8,7 @@ use lib.Dec.{nltb→le}
 use borrow.Author.Tests.{eq-eqb, ne-eqb}
 use Rattle.double.specs.laws.Calls.{asks-nothing}
 use Rattle.double.specs.laws.Tests.{fails}
-use Rattle.residual.specs.rules.Residual.{farthestTaken, isAside}
+use Rattle.residual_sheet.specs.rules.Residual.{farthestTaken, isAside}
 use Rattle.residual_sheet.specs.rules.Running.{AtMost}
 use Rattle.residual_sheet.specs.laws.Running.{above-within, below-within}
 use Rattle.residual_sheet.proofs.onward.Statement.{statement}

@@ -14,8 +14,8 @@ use Rattle.lent.specs.rules.Rows.{upto}
 use Rattle.lent.specs.laws.Upto.{length-upto}
 use Rattle.list.specs.rules.Stars.{mostStars}
 use Rattle.list_tally.specs.rules.Tally.{times}
-use Rattle.residual.specs.declared.Residual.{Residual}
-use Rattle.residual.specs.rules.Residual.{residualOf, isAside, farthestTaken}
+use Rattle.residual_sheet.specs.declared.Residual.{Residual}
+use Rattle.residual_sheet.specs.rules.Residual.{residualOf, isAside, farthestTaken}
 use Rattle.residual_sheet.specs.rules.Entry.{Entry, other, aside, taken, entryOf, entryAt, entriesOf}
 use Rattle.residual_sheet.specs.rules.Sheet.{takenIn, asideOf, Figures, figuresOf, movedOn, merged}
 use Rattle.residual_sheet.specs.rules.Running.{aboveOf, belowOf, AtMost, runningOf}

@@ -8,8 +8,8 @@ use lib.Dec.{eqb}
 use lib.IntN.{ℤ, _+ℤ_, +ℤ-idl, +ℤ-assoc}
 use lib.ListN.{length, length-append}
 use borrow.Author.Tests.{eq-eqb, ne-eqb, lt-ltb, le-ltb}
-use Rattle.residual.specs.declared.Residual.{Residual}
-use Rattle.residual.specs.rules.Residual.{wholeOf}
+use Rattle.residual_sheet.specs.declared.Residual.{Residual}
+use Rattle.residual_sheet.specs.rules.Residual.{wholeOf}
 use Rattle.residual_sheet.specs.rules.Entry.{Entry, other, aside, taken}
 use Rattle.residual_sheet.specs.rules.Sheet.{takenIn, asideOf, sumOf, squaresOf, largestOf, hasSize, firstPlace, placeOf}
 use Rattle.residual_sheet.specs.rules.Sheet.{figuresOf, movedOn, mergedPlace, merged}

@@ -6,7 +6,7 @@ use Prim.Native.Nat.{ℕ, zero, suc, _≤_, _<_}
 use native.Mathlib.Nat.{le-of-suc-le-suc}
 use native.Mathlib.Omega.{arith}
 use lib.ListN.{getD}
-use Rattle.residual.specs.declared.Residual.{Residual}
+use Rattle.residual_sheet.specs.declared.Residual.{Residual}
 use Rattle.residual_sheet.specs.rules.Entry.{Entry, other, aside, taken}
 use Rattle.residual_sheet.specs.rules.Sheet.{takenIn, largestOf, hasSize, firstPlace, figuresOf}
 use Rattle.residual_sheet.specs.notions.Place.{isThere, IsFirst}

@@ -24,8 +24,8 @@ use Rattle.quantity.specs.laws.Refusal.{finite-farthest, past-none}
 use Rattle.units.specs.notions.Nearest.{IsNearest}
 use Rattle.elementary.specs.laws.Accepted.{lower-none, angle-accepted}
 use Rattle.list.specs.rules.Stars.{mostStars}
-use Rattle.residual.specs.rules.Residual.{difference, acrossTurn, unrounded, residualOf}
-use Rattle.residual.specs.laws.Residual.{asc-nearest, dec-nearest}
+use Rattle.residual_sheet.specs.rules.Residual.{difference, acrossTurn, unrounded, residualOf}
+use Rattle.residual_sheet.specs.laws.Residual.{asc-nearest, dec-nearest}
 use Rattle.residual_sheet.specs.declared.Sheets.{Sheets}
 use Rattle.residual_sheet.specs.declared.Sheets.the-variants.{Are, Refused}
 use Rattle.residual_sheet.specs.rules.Residuals.{lengthsRefusal, floatsRefusal, residualsRefusal, shownSheets}

@@ -19,8 +19,8 @@ use Rattle.quantity.specs.rules.Angle.{rad}
 use Rattle.lent.specs.rules.Rows.{upto}
 use Rattle.lent.specs.laws.Upto.{length-upto}
 use Rattle.list.specs.rules.Stars.{mostStars}
-use Rattle.residual.specs.declared.Residual.{Residual}
-use Rattle.residual.specs.rules.Residual.{residualOf, wholeOf, farthestTaken, isAside}
+use Rattle.residual_sheet.specs.declared.Residual.{Residual}
+use Rattle.residual_sheet.specs.rules.Residual.{residualOf, wholeOf, farthestTaken, isAside}
 use Rattle.residual_sheet.specs.rules.Entry.{Entry, other, aside, taken, entryOf, entryAt, entriesOf}
 use Rattle.residual_sheet.specs.rules.Sheet.{takenIn, asideOf, sumOf, squaresOf, largestOf, firstPlace, placeOf, figuresOf, sheetOf}
 use Rattle.residual_sheet.specs.rules.Sheet.{movedOn, mergedPlace}

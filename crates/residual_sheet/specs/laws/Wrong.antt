@@ -2,26 +2,90 @@
 -- meets it.
 use Prim.Native.Nat.{ℕ}
 use mathlib.Core.Path.{refl}
-use mathlib.Core.Bool.{false}
+use mathlib.Core.Bool.{false, true}
 use mathlib.Core.List.{[], _∷_}
 use std.Logic.{_≢_}
 use lib.IntN.{natAbs}
-use Rattle.double.specs.notions.Code.{ofNumber}
+use Rattle.double.specs.notions.Code.{ofNumber, ofFlag}
 use Rattle.double.specs.laws.Apart.{apart}
 use Rattle.quantity.specs.rules.Angle.{rad}
 use Rattle.quantity.specs.rules.Answer.{Answer}
 use Rattle.quantity.specs.notions.Varies.{Varies}
 use Rattle.quantity.specs.notions.Code.{ofAnswer}
 use Rattle.double.specs.rules.Operations.{bits}
-use Rattle.residual.specs.declared.Residual.{Residual}
-use Rattle.residual.specs.rules.Residual.{inMilliarcseconds}
+use Rattle.residual_sheet.specs.declared.Residual.{Residual}
+use Rattle.residual_sheet.specs.rules.Residual.{inMilliarcseconds, residualOf, isAside}
 use Rattle.residual_sheet.specs.rules.Entry.{other, aside, taken, entryOf}
 use Rattle.residual_sheet.specs.rules.Sheet.{figuresOf, mergedPlace}
 use Rattle.residual_sheet.specs.rules.Residuals.{lengthsRefusal, floatsRefusal, TwoSheets, two, residualsRule}
 use Rattle.residual_sheet.specs.notions.Computed.{computed}
 use Rattle.residual_sheet.specs.notions.Wrong.{refusedStarTakenIn, asideOfBothForOne, ofEntry, asideCountedIn, lastOfTheLargest}
-use Rattle.residual_sheet.specs.notions.Wrong.{placeAmongTaken, noPlaceWhereAllAreZero, squaresRounded, squareOfAFloat}
-use Rattle.residual_sheet.specs.notions.Wrong.{firstSheetWins, placesNotMovedOn, threeBeforeOne, statusZeroAloneTested, oneEntryMore}
+use Rattle.residual_sheet.specs.notions.Wrong.{placeAmongTaken, noPlaceWhereAllAreZero, squaresRounded, squareOfAFloat, firstSheetWins}
+use Rattle.residual_sheet.specs.notions.Wrong.{placesNotMovedOn, threeBeforeOne, statusZeroAloneTested, oneEntryMore, ofResidual, halvesToEven}
+use Rattle.residual_sheet.specs.notions.Wrong.{halvesUp, signLost, otherWay, foldLeftOut, halfATurnNotTakenBack, foldOnTheDeclination}
+use Rattle.residual_sheet.specs.notions.Wrong.{asideBeforeRounding, asideAtTheLimit}
+use lib.Ieee.{neg}
+use Rattle.quantity.specs.declared.Rad.{Rad}
+use Rattle.quantity.specs.notions.Stated.{r0, r1}
+use Rattle.helpers.specs.rules.Angle.{turnInRadians}
+
+pub residual-varies : residualOf false r1 r0 ≢ residualOf false r0 r0
+unfolding computed
+residual-varies = apart ofResidual refl
+
+-- ---- the nearest
+
+-- 1.21203420277384e-08, which is 2.5 milliarcseconds
+abbrev twoAndAHalf : Rad
+twoAndAHalf = rad (bits 0x3e4a073a7eb7c211)
+
+abbrev minusTwoAndAHalf : Rad
+minusTwoAndAHalf = rad (neg (bits 0x3e4a073a7eb7c211))
+
+pub halves-to-even-excluded : halvesToEven twoAndAHalf ≢ inMilliarcseconds twoAndAHalf
+unfolding computed
+halves-to-even-excluded = apart ofResidual refl
+
+pub halves-up-excluded : halvesUp minusTwoAndAHalf ≢ inMilliarcseconds minusTwoAndAHalf
+unfolding computed
+halves-up-excluded = apart ofResidual refl
+
+pub sign-lost-excluded : signLost minusTwoAndAHalf ≢ ofResidual (inMilliarcseconds minusTwoAndAHalf)
+unfolding computed
+sign-lost-excluded = apart ofNumber refl
+
+-- ---- the difference
+
+pub other-way-excluded : otherWay false r1 r0 ≢ residualOf false r1 r0
+unfolding computed
+other-way-excluded = apart ofResidual refl
+
+-- none from 2·PI
+pub fold-left-out-excluded : foldLeftOut r0 (rad turnInRadians) ≢ residualOf true r0 (rad turnInRadians)
+unfolding computed
+fold-left-out-excluded = apart ofResidual refl
+
+pub half-a-turn-not-taken-back-excluded : halfATurnNotTakenBack r0 r1 ≢ residualOf true r0 r1
+unfolding computed
+half-a-turn-not-taken-back-excluded = apart ofResidual refl
+
+pub fold-on-the-declination-excluded : foldOnTheDeclination r0 (rad turnInRadians) ≢ residualOf false r0 (rad turnInRadians)
+unfolding computed
+fold-on-the-declination-excluded = apart ofResidual refl
+
+-- ---- what is set aside
+
+-- 0.004848138023129563, which is 1000000.25 milliarcseconds
+abbrev nearTheLimit : Rad
+nearTheLimit = rad (bits 0x3f73dba42417e708)
+
+pub aside-before-rounding-excluded : asideBeforeRounding nearTheLimit ≢ isAside (inMilliarcseconds nearTheLimit)
+unfolding computed
+aside-before-rounding-excluded = apart ofFlag refl
+
+pub aside-at-the-limit-excluded : asideAtTheLimit (inMilliarcseconds nearTheLimit) ≢ isAside (inMilliarcseconds nearTheLimit)
+unfolding computed
+aside-at-the-limit-excluded = apart ofFlag refl
 
 -- 0, 7, 4097 and 1000001
 abbrev none : Residual

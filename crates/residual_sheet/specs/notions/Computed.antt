@@ -1,12 +1,18 @@
--- What a theorem opens that works rules out at stated inputs: the sheets of slices, over a residual.
+-- What a theorem opens that works rules out at stated inputs: a residual, over units and the helpers; the sheets of slices, over it.
 use Prim.Native.Nat.{ℕ}
 use Rattle.quantity.specs.notions.Computed as quantity
-use Rattle.residual.specs.notions.Computed as residual
+use Rattle.units.specs.notions.Computed as units
+use Rattle.helpers.specs.rules.Angle.{limited}
+use Rattle.residual_sheet.specs.rules.Residual.{takenBack, acrossTurn, inMilliarcseconds, residualOf}
 use Rattle.residual_sheet.specs.rules.Entry.{entryAt}
 use Rattle.residual_sheet.specs.rules.Sheet.{figuresOf, sheetOf, movedOn, merged}
 use Rattle.residual_sheet.specs.rules.Residuals.{lengthsRefusal, floatsRefusal, residualsRefusal, residualsRule}
 
--- a name for the line below it, which is what counts
+-- names for the lines below them, which are what counts: of a residual, and of sheets
+unfoldable pub residual : ℕ
+unfolding units.computed limited takenBack acrossTurn inMilliarcseconds residualOf
+residual = 0
+
 unfoldable pub computed : ℕ
-unfolding quantity.computed residual.computed entryAt figuresOf sheetOf movedOn merged lengthsRefusal floatsRefusal residualsRefusal residualsRule
+unfolding quantity.computed residual entryAt figuresOf sheetOf movedOn merged lengthsRefusal floatsRefusal residualsRefusal residualsRule
 computed = 0

@@ -7,8 +7,8 @@ use lib.ListN.{length, getD}
 use Rattle.double.specs.rules.Operations.{bits}
 use Rattle.quantity.specs.rules.Angle.{rad}
 use Rattle.lent.specs.rules.Rows.{upto}
-use Rattle.residual.specs.declared.Residual.{Residual}
-use Rattle.residual.specs.rules.Residual.{residualOf, isAside}
+use Rattle.residual_sheet.specs.declared.Residual.{Residual}
+use Rattle.residual_sheet.specs.rules.Residual.{residualOf, isAside}
 
 -- of a status that is not 0; set aside; or taken in
 pub data Entry : Type 0 where

@@ -6,8 +6,8 @@ use lib.Dec.{eqb, ltb}
 use lib.IntN.{pos, _-ℤ_}
 use lib.ListN.{length}
 use Rattle.list.specs.rules.Stars.{mostStars}
-use Rattle.residual.specs.declared.Residual.{Residual}
-use Rattle.residual.specs.rules.Residual.{farthestTaken}
+use Rattle.residual_sheet.specs.declared.Residual.{Residual}
+use Rattle.residual_sheet.specs.rules.Residual.{farthestTaken}
 use Rattle.residual_sheet.specs.declared.Running.{Running}
 use Rattle.residual_sheet.specs.declared.Sheet.{Sheet}
 use Rattle.residual_sheet.specs.rules.Entry.{Entry, other, aside, taken}

@@ -5,8 +5,8 @@ use mathlib.Core.List.{List, [], _∷_}
 use lib.Dec.{eqb, ltb}
 use lib.IntN.{ℤ, pos, _+ℤ_}
 use lib.ListN.{length}
-use Rattle.residual.specs.declared.Residual.{Residual}
-use Rattle.residual.specs.rules.Residual.{wholeOf}
+use Rattle.residual_sheet.specs.declared.Residual.{Residual}
+use Rattle.residual_sheet.specs.rules.Residual.{wholeOf}
 use Rattle.residual_sheet.specs.declared.Sheet.{Sheet}
 use Rattle.residual_sheet.specs.rules.Entry.{Entry, other, aside, taken}
 

@@ -1,5 +1,5 @@
 -- `residuals::with_measured` meets its contract: what is read are bytes of the text's slice.
-use mathlib.Core.Path.{refl, sym}
+use mathlib.Core.Path.{sym}
 use Prim.Native.Nat.{ℕ}
 use lib.ListN.{length-replicate}
 use Rattle.double.specs.laws.Calls.{asks-nothing}
@@ -12,7 +12,6 @@ with-measured-spec =
     (tie.spec
     (λ c. sym (length-replicate {A = ℕ} 600001 0))
     asks-nothing
-    (λ c. refl)
     asks-nothing
     (λ c. tt)
     (λ c. c .before .before .read-full .ensures .0)

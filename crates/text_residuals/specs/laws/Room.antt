@@ -7,7 +7,7 @@ use lib.Dec.{eqb}
 use lib.IntN.{ℤ, natAbs}
 use lib.ListN.{length, length-append}
 use Rattle.signed.specs.rules.Signed.{negative}
-use Rattle.residual.specs.declared.Residual.{Residual}
+use Rattle.residual_sheet.specs.declared.Residual.{Residual}
 use Rattle.residual_sheet.specs.declared.Sheet.{Sheet}
 use Rattle.units.specs.rules.Nearest.{nearestWhole}
 use Rattle.root.specs.rules.Root.{rootOf}

@@ -3,7 +3,7 @@
 use Prim.Native.Nat.{ℕ}
 use mathlib.Core.List.{List, [], _∷_, _++_}
 use lib.IntN.{ℤ}
-use Rattle.residual.specs.declared.Residual.{Residual}
+use Rattle.residual_sheet.specs.declared.Residual.{Residual}
 use Rattle.residual_sheet.specs.declared.Sheet.{Sheet}
 use Rattle.text_number.specs.rules.Bytes.{space, lineEnd}
 use Rattle.text_number.specs.rules.Number.{decimalText, signedText, integerText}

@@ -11,14 +11,14 @@ use Rattle.text_sights.proofs.put_left_at.Tie as tie
 returns : tie.Need-returns
 unfolding leftAt
 returns c =
-    same (rw (eq-eqb _ 0 (sym (c .before .before .byte-at .ensures) ∙ c .before .if1 .taken))) (nothing _ _ _ (c .within .ensures))
+    same (rw (eq-eqb _ 0 (sym (c .before .before .status-at .ensures) ∙ c .before .if1 .taken))) (nothing _ _ _ (c .within .ensures))
 
 returns-2 : tie.Need-returns-2
 unfolding leftAt
 returns-2 c =
     let at-put = c .before .before in
     let else = at-put .before .before .before .before in
-    let status = else .before .byte-at .ensures in
+    let status = else .before .status-at .ensures in
     same (rw (ne-eqb _ 0 (λ e. else .if1 .left (status ∙ e))))
     (rw (status, at-put .before .star-at .ensures, at-put .before .before .number-at .ensures) at (at-put .put-left .ensures))
 

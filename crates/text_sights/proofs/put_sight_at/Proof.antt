@@ -14,7 +14,7 @@ returns c =
     let at-put = c .before .before in
     let then = at-put .before .before in
     let at-star = then .before in
-    let status = at-star .before .before .byte-at .ensures in
+    let status = at-star .before .before .status-at .ensures in
     same (rw (ne-eqb _ 0 (λ e. then .if1 .taken (status ∙ e))))
     (rw (status, at-star .star-at .ensures, at-star .before .number-at .ensures) at (at-put .put-refused-sight .ensures))
 
@@ -23,25 +23,16 @@ unfolding sightAt
 returns-2 c =
     let at-put = c .before .before in
     let at-dec = at-put .before .before in
-    let at-asc = at-dec .before .before .before in
-    let else = at-asc .before .before .before in
+    let at-asc = at-dec .before in
+    let else = at-asc .before in
     let at-star = else .before in
-    let status = at-star .before .before .byte-at .ensures in
+    let status = at-star .before .before .status-at .ensures in
     same (rw (eq-eqb _ 0 (sym status ∙ else .if1 .left)))
-    (rw (
-      at-dec .residual-of2 .ensures,
-      at-dec .before .angle-at4 .ensures,
-      at-dec .before .before .angle-at3 .ensures,
-      at-asc .residual-of .ensures,
-      at-asc .before .angle-at2 .ensures,
-      at-asc .before .before .angle-at .ensures,
-      at-star .star-at .ensures,
-      at-star .before .number-at .ensures,
-    )
+    (rw (at-dec .residual-at2 .ensures, at-asc .residual-at .ensures, at-star .star-at .ensures, at-star .before .number-at .ensures)
     at (at-put .put-sight .ensures))
 
 pub put-sight-at-spec : {M : Type 1} → statement M
 put-sight-at-spec =
     tie.close
-    (tie.spec asks-nothing asks-nothing asks-nothing (λ c. search needs) asks-nothing (λ c. search needs) returns asks-nothing asks-nothing
-    asks-nothing asks-nothing asks-nothing asks-nothing asks-nothing (λ c. search needs) returns-2)
+    (tie.spec asks-nothing asks-nothing asks-nothing (λ c. search needs) asks-nothing (λ c. search needs) returns asks-nothing asks-nothing asks-nothing
+    (λ c. search needs) returns-2)

@@ -5,13 +5,19 @@ use mathlib.Core.List.{List, [], _++_}
 use lib.Dec.{eqb}
 use lib.IntN.{ℤ, natAbs}
 use lib.ListN.{length, getD}
+use Rattle.double.specs.rules.Operations.{bits}
+use Rattle.quantity.specs.declared.Rad.{Rad}
+use Rattle.quantity.specs.rules.Angle.{rad}
 use Rattle.lent.specs.rules.Texts.{texts}
-use Rattle.residual.specs.rules.Residual.{residualOf}
+use Rattle.residual_sheet.specs.rules.Residual.{residualOf}
 use Rattle.residual_sheet.specs.declared.Sheet.{Sheet}
-use Rattle.text_answers.specs.rules.Answers.{angleAt}
 use Rattle.text_residuals.specs.declared.Place.{Place}
 use Rattle.text_residuals.specs.rules.Figures.{sightText, refusedSightText}
 use Rattle.text_residuals.specs.rules.Sheet.{sheetText, leftText}
+
+-- angle i of a slice of radians, each as its bits
+abbrev pub angleAt : List ℕ → ℕ → Rad
+angleAt s i = rad (bits (getD s i 0))
 
 -- sight i among all: its residuals, or its refusal
 unfoldable pub sightAt : List ℕ → List ℕ → List ℕ → List ℕ → List ℕ → List ℕ → List ℕ → ℕ → List ℕ

@@ -1,4 +1,4 @@
--- `residual::across_turn` meets its contract.
+-- `residual_sheet::across_turn` meets its contract.
 use mathlib.Core.Path.{_≡_, ap, _∙_}
 use mathlib.Core.Bool.{true, false}
 use lib.Ieee.{lt}
@@ -7,9 +7,9 @@ use Rattle.double.specs.laws.Calls.{asks-nothing}
 use Rattle.quantity.specs.declared.Rad.{Rad}
 use Rattle.quantity.specs.rules.Angle.{PI, rad}
 use Rattle.helpers.specs.rules.Angle.{turnInRadians}
-use Rattle.residual.specs.rules.Residual.{takenBack, acrossTurn}
-use Rattle.residual.proofs.across_turn.Statement.{statement}
-use Rattle.residual.proofs.across_turn.Tie as tie
+use Rattle.residual_sheet.specs.rules.Residual.{takenBack, acrossTurn}
+use Rattle.residual_sheet.proofs.across_turn.Statement.{statement}
+use Rattle.residual_sheet.proofs.across_turn.Tie as tie
 
 goes-back : (y : Rad) → lt PI (y .0) ≡ true → rad (y .0 ⊖ turnInRadians) ≡ takenBack y
 unfolding takenBack

@@ -31,7 +31,7 @@ use Rattle.units.specs.laws.Nearest.{nearest-true}
 use Rattle.remainder.specs.laws.Tests.{size-from-zero}
 use Rattle.helpers.specs.rules.Angle.{turnInRadians, withinTwoPI, limitToTwoPIRule}
 use Rattle.helpers.specs.laws.Limit.{limited-radians}
-use Rattle.residual.specs.rules.Residual.{difference, takenBack, acrossTurn, unrounded, inMilliarcseconds, residualOf}
+use Rattle.residual_sheet.specs.rules.Residual.{difference, takenBack, acrossTurn, unrounded, inMilliarcseconds, residualOf}
 
 -- 128.0
 abbrev widest : Float

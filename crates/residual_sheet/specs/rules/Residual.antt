@@ -11,7 +11,7 @@ use Rattle.quantity.specs.rules.Angle.{PI, rad}
 use Rattle.units.specs.rules.Degrees.{toDegrees, milliarcseconds}
 use Rattle.units.specs.rules.Nearest.{nearestWhole, hasMinus}
 use Rattle.helpers.specs.rules.Angle.{turnInRadians, withinTwoPI}
-use Rattle.residual.specs.declared.Residual.{Residual}
+use Rattle.residual_sheet.specs.declared.Residual.{Residual}
 
 -- computed less measured angle
 abbrev pub difference : Rad → Rad → Rad

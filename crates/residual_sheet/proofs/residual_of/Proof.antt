@@ -1,8 +1,8 @@
--- `residual::residual_of` meets its contract.
+-- `residual_sheet::residual_of` meets its contract.
 use Rattle.double.specs.laws.Calls.{asks-nothing}
-use Rattle.residual.specs.rules.Residual.{residualOf}
-use Rattle.residual.proofs.residual_of.Statement.{statement}
-use Rattle.residual.proofs.residual_of.Tie as tie
+use Rattle.residual_sheet.specs.rules.Residual.{residualOf}
+use Rattle.residual_sheet.proofs.residual_of.Statement.{statement}
+use Rattle.residual_sheet.proofs.residual_of.Tie as tie
 
 returns : tie.Need-returns
 unfolding residualOf

@@ -1,8 +1,8 @@
--- `residual::in_milliarcseconds` meets its contract.
+-- `residual_sheet::in_milliarcseconds` meets its contract.
 use Rattle.double.specs.laws.Calls.{asks-nothing}
-use Rattle.residual.specs.rules.Residual.{inMilliarcseconds}
-use Rattle.residual.proofs.in_milliarcseconds.Statement.{statement}
-use Rattle.residual.proofs.in_milliarcseconds.Tie as tie
+use Rattle.residual_sheet.specs.rules.Residual.{inMilliarcseconds}
+use Rattle.residual_sheet.proofs.in_milliarcseconds.Statement.{statement}
+use Rattle.residual_sheet.proofs.in_milliarcseconds.Tie as tie
 
 returns : tie.Need-returns
 unfolding inMilliarcseconds

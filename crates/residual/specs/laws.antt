@@ -1,3 +1,0 @@
--- What is proved of a residual, for callers to cite. Theorems only.
-pub mod Residual
-pub mod Wrong

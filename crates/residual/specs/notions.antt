@@ -1,3 +1,0 @@
--- What theorems on a residual speak of, and no promise mentions. Definitions only.
-pub mod Computed
-pub mod Wrong

@@ -1,2 +1,0 @@
--- What a reader must believe of a residual, in reading order. Definitions only.
-pub mod Residual
