@@ -51,6 +51,21 @@ fn count_after(status: u8, n: u32) -> u32
     if n < FULLEST { n + 1 } else { n }
 }
 
+// The counts where they stand, with that of one status raised, as `raise` has them: a tally that goes by value is copied whole.
+pub fn raise_in(counts: &mut [u32; 20], status: u8)
+    ensures { λ _. ⌜ now (counts .exit) ≡ raiseRule (record { counts = now (counts .entry) }) status .tally .counts ⌝ }
+{
+    if status > HIGHEST_STATUS {
+        return;
+    }
+    let k = status as usize;
+    let n = counts[k];
+    if n >= FULLEST {
+        return;
+    }
+    counts[k] = n + 1;
+}
+
 impl Tally {
     // The tally of no status.
     pub fn new() -> Self

@@ -4,7 +4,7 @@
 ghost use mathlib.Core.Path.{_≡_};
 ghost use Rattle.rotation.specs.rules.Matrix.{rowWith, rowTimes, product, applied};
 ghost use Rattle.rotation.specs.rules.Turns.{aboutY, aboutZ, rotationBy, rotationOf};
-ghost use Rattle.rotation.specs.rules.Place.{vectorOf, rotatedTwo};
+ghost use Rattle.rotation.specs.rules.Place.{vectorOf, vectorUnder, rotatedTwo};
 use edition::Edition;
 use elementary::Direction;
 use precess_angles::EqAngles;
@@ -105,13 +105,20 @@ fn vector_of(d: Direction) -> [f64; 3]
     [cd * ca, cd * sa, sd]
 }
 
+// A direction's vector under a rotation.
+pub fn vector_under(m: [[f64; 3]; 3], d: Direction) -> [f64; 3]
+    ensures { λ r. ⌜ r ≡ vectorUnder m d ⌝ }
+{
+    applied(m, vector_of(d))
+}
+
 // Two places under a rotation, side by side, from the directions of both. Refusals of each: 14; 7. They are tested before the roots
 // are taken, so that no sum is put off until after them.
 pub fn rotated_two(m: [[f64; 3]; 3], d: Direction, e: Direction) -> Places
     ensures { λ r. ⌜ r ≡ rotatedTwo m d e ⌝ }
 {
-    let v = applied(m, vector_of(d));
-    let w = applied(m, vector_of(e));
+    let v = vector_under(m, d);
+    let w = vector_under(m, e);
     let up = v[1];
     let across = v[0];
     let height = v[2];

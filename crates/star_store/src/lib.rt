@@ -14,7 +14,7 @@ ghost use Rattle.list.specs.rules.Record.{inRange};
 ghost use Rattle.list.specs.rules.Stars.{mostStars, isKept};
 ghost use Rattle.star_store.specs.rules.Star.{earlier};
 ghost use Rattle.star_store.specs.rules.Stored.{storeRefusal};
-ghost use Rattle.star_store.specs.notions.StarStored.{StarStored};
+ghost use Rattle.star_store.specs.notions.StarStored.{Placed, StarStored};
 use list::Star;
 use list_tally::Tally;
 use quantity::HALF;
@@ -59,7 +59,29 @@ fn stored_bits(refusal: u8, x: f64) -> u64
     if refusal == 0 { double::pattern(x) } else { 0 }
 }
 
-// One star's status and angles at its place in what is lent, and the tally raised by the status.
+// One star's status and the bits of its angles at its place in what is lent.
+fn put_star(
+    status: &mut [u8],
+    asc: &mut [u64],
+    dec: &mut [u64],
+    i: usize,
+    refusal: u8,
+    a: f64,
+    d: f64,
+)
+    requires { ⌜ i < mostStars ⌝ }
+    requires { ⌜ i < length (now status) ⌝ }
+    requires { ⌜ i < length (now asc) ⌝ }
+    requires { ⌜ i < length (now dec) ⌝ }
+    ensures { λ _. ⌜ Placed i (unless refusal (answered (pair a d))) (now (status .entry)) (now (asc .entry)) (now (dec .entry))
+        (now (status .exit)) (now (asc .exit)) (now (dec .exit)) ⌝ }
+{
+    status[i] = refusal;
+    asc[i] = stored_bits(refusal, a);
+    dec[i] = stored_bits(refusal, d);
+}
+
+// The same, and the tally raised by the status.
 pub fn store_star(
     status: &mut [u8],
     asc: &mut [u64],
@@ -77,11 +99,31 @@ pub fn store_star(
     ensures { λ r. ⌜ StarStored i (unless refusal (answered (pair a d))) tally (now (status .entry)) (now (asc .entry)) (now (dec .entry)) r
         (now (status .exit)) (now (asc .exit)) (now (dec .exit)) ⌝ }
 {
-    status[i] = refusal;
-    asc[i] = stored_bits(refusal, a);
-    dec[i] = stored_bits(refusal, d);
+    put_star(status, asc, dec, i, refusal, a, d);
     let raised = tally.raise(refusal);
     raised.tally
+}
+
+// The same with the counts of a tally that are raised where they stand: one that goes by value is copied whole, and waited for.
+pub fn store_star_in(
+    status: &mut [u8],
+    asc: &mut [u64],
+    dec: &mut [u64],
+    counts: &mut [u32; 20],
+    i: usize,
+    refusal: u8,
+    a: f64,
+    d: f64,
+)
+    requires { ⌜ i < mostStars ⌝ }
+    requires { ⌜ i < length (now status) ⌝ }
+    requires { ⌜ i < length (now asc) ⌝ }
+    requires { ⌜ i < length (now dec) ⌝ }
+    ensures { λ _. ⌜ StarStored i (unless refusal (answered (pair a d))) (record { counts = now (counts .entry) }) (now (status .entry))
+        (now (asc .entry)) (now (dec .entry)) (record { counts = now (counts .exit) }) (now (status .exit)) (now (asc .exit)) (now (dec .exit)) ⌝ }
+{
+    put_star(status, asc, dec, i, refusal, a, d);
+    list_tally::raise_in(counts, refusal);
 }
 
 // ---- the call

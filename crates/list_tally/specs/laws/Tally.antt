@@ -3,11 +3,11 @@ use mathlib.Core.Path.{_≡_, refl, sym, ap, _∙_}
 use mathlib.Core.Bool.{Bool, true, false, cond}
 use mathlib.Core.List.{List, [], _∷_, _++_, append-assoc, append-nil}
 use Prim.Native.Nat.{ℕ, zero, suc, _+_, _≤_, _<_}
-use native.Mathlib.Nat.{add-zero, add-assoc, le-of-suc-le-suc, not-suc-le-zero}
+use native.Mathlib.Nat.{add-zero, add-assoc}
 use native.Mathlib.Omega.{arith}
 use lib.Dec.{leb, ltb, eqb}
 use lib.ListN.{length, getD, set, length-append}
-use borrow.Author.Tests.{le-leb, leb-true, lt-ltb, eq-eqb, ne-eqb}
+use borrow.Author.Tests.{le-leb, lt-leb, leb-true, lt-ltb, le-ltb, eq-eqb, ne-eqb}
 use Rattle.lent.specs.rules.Rows.{upto}
 use Rattle.lent.specs.laws.Flags.{at-most-one}
 use Rattle.lent.specs.laws.Upto.{getD-upto, set-upto}
@@ -24,29 +24,43 @@ count-below status = by-case (leb status highestStatus) refl
     by-case true e = omega (arith, leb-true status highestStatus e)
     by-case false e = omega arith
 
-set-getD : (l : List ℕ) (k d : ℕ) → k < length l → set l k (getD l k d) ≡ l
-set-getD [] k d h = absurd (not-suc-le-zero h)
-set-getD (x ∷ l) zero d h = refl
-set-getD (x ∷ l) (suc k) d h = ap (λ (m : List ℕ). x ∷ m) (set-getD l k d (le-of-suc-le-suc h))
+set-getD : (l : List ℕ) (k d : ℕ) → set l k (getD l k d) ≡ l
+set-getD [] k d = refl
+set-getD (x ∷ l) zero d = refl
+set-getD (x ∷ l) (suc k) d = ap (λ (m : List ℕ). x ∷ m) (set-getD l k d)
 
 -- one store raises the count, or leaves all as it is
-pub stored-raises : (t : Tally) (status : ℕ) → length (t .counts) ≡ countsInAll → storedTo t status ≡ raiseRule t status
+pub stored-raises : (t : Tally) (status : ℕ) → storedTo t status ≡ raiseRule t status
 unfolding raiseRule raiseRefusal
-stored-raises t status long = by-case (leb status highestStatus) refl
+stored-raises t status = by-case (leb status highestStatus) refl
   where
     counts : List ℕ
     counts = t .counts
 
-    same : (k : ℕ) → k < countsInAll → set counts k (getD counts k 0 + 0) ≡ counts
-    same k h = ap (set counts k) (add-zero (getD counts k 0)) ∙ set-getD counts k 0 (omega (arith, long))
+    same : (k : ℕ) → set counts k (getD counts k 0 + 0) ≡ counts
+    same k = ap (set counts k) (add-zero (getD counts k 0)) ∙ set-getD counts k 0
 
     full : leb status highestStatus ≡ true → (b : Bool) → ltb (getD counts status 0) fullest ≡ b → storedTo t status ≡ raiseRule t status
     full e true f = simp (e, f)
-    full e false f = simp (e, f) (ap (λ (l : List ℕ). record { tally = record { counts = l }; refusal = 8 }) (same status (omega (arith, leb-true status highestStatus e))))
+    full e false f = simp (e, f) (ap (λ (l : List ℕ). record { tally = record { counts = l }; refusal = 8 }) (same status))
 
     by-case : (b : Bool) → leb status highestStatus ≡ b → storedTo t status ≡ raiseRule t status
     by-case true e = full e (ltb (getD counts status 0) fullest) refl
-    by-case false e = simp e (ap (λ (l : List ℕ). record { tally = record { counts = l }; refusal = 9 }) (same 0 (omega arith)))
+    by-case false e = simp e (ap (λ (l : List ℕ). record { tally = record { counts = l }; refusal = 9 }) (same 0))
+
+-- what raising leaves, case by case
+module _ (t : Tally) (status : ℕ) where
+  pub unknown-stays : highestStatus < status → t ≡ raiseRule t status .tally
+  unfolding raiseRule raiseRefusal
+  unknown-stays h = simp (lt-leb status highestStatus h)
+
+  pub full-stays : status ≤ highestStatus → fullest ≤ getD (t .counts) status 0 → t ≡ raiseRule t status .tally
+  unfolding raiseRule raiseRefusal
+  full-stays h f = simp (le-leb status highestStatus h, le-ltb (getD (t .counts) status 0) fullest f)
+
+  pub known-raises : status ≤ highestStatus → getD (t .counts) status 0 < fullest → raised t status ≡ raiseRule t status .tally
+  unfolding raiseRule raiseRefusal
+  known-raises h f = simp (le-leb status highestStatus h, lt-ltb (getD (t .counts) status 0) fullest f)
 
 -- no status stands more often than there are statuses
 pub times-most : (k : ℕ) (xs : List ℕ) → times k xs ≤ length xs

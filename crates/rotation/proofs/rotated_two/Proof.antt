@@ -14,16 +14,12 @@ returns c =
     let c4 = c3 .before in
     let c5 = c4 .before in
     let c6 = c5 .before in
-    let c7 = c6 .before in
-    let c8 = c7 .before in
-    rw (c .arcs-two .ensures, c1 .arcsine-root2 .ensures, c2 .arcsine-root .ensures, c3 .arcs-refusal2 .ensures, c4 .arcs-refusal .ensures, c5 .applied2 .ensures, c6 .vector-of2 .ensures, c7 .applied .ensures, c8 .vector-of .ensures)
+    rw (c .arcs-two .ensures, c1 .arcsine-root2 .ensures, c2 .arcsine-root .ensures, c3 .arcs-refusal2 .ensures, c4 .arcs-refusal .ensures, c5 .vector-under2 .ensures, c6 .vector-under .ensures)
 
 pub rotated-two-spec : {M : Type 1} → statement M
 rotated-two-spec =
     tie.close
     (tie.spec
-    asks-nothing
-    asks-nothing
     asks-nothing
     asks-nothing
     (λ c. search needs)

@@ -22,6 +22,10 @@ vectorOf d =
     let cd = d .«cos_dec» in
     cd ⊗ ca ∷ cd ⊗ sa ∷ sd ∷ []
 
+-- where it comes to lie
+abbrev pub vectorUnder : Matrix → Direction → Vector
+vectorUnder m d = applied m (vectorOf d)
+
 -- right ascension is the arctangent of (y, x), not folded, declination the arcsine of z. Refusals: 14; 7
 unfoldable pub placeAlong : Vector → Answer Pair
 placeAlong v = both (arctangentIn (part v 1) (part v 0)) (arcsineIn (part v 2))
@@ -31,7 +35,7 @@ toward asc dec = directionOf (record { asc = asc .0; dec = dec .0 })
 
 -- where a place's vector comes to lie
 abbrev pub turned : Matrix → Rad → Rad → Vector
-turned m asc dec = applied m (vectorOf (toward asc dec))
+turned m asc dec = vectorUnder m (toward asc dec)
 
 unfoldable pub rotatedIn : Matrix → Rad → Rad → Answer Pair
 rotatedIn m asc dec = placeAlong (turned m asc dec)
@@ -39,8 +43,8 @@ rotatedIn m asc dec = placeAlong (turned m asc dec)
 -- two places side by side, from their directions, every float of both fixed whatever is refused
 unfoldable pub rotatedTwo : Matrix → Direction → Direction → Places
 rotatedTwo m d e =
-    let v = applied m (vectorOf d) in
-    let w = applied m (vectorOf e) in
+    let v = vectorUnder m d in
+    let w = vectorUnder m e in
     let arcs = arcsTwo (part v 1) (part v 0) (part v 2) (rootOf (square (part v 2))) (part w 1) (part w 0) (part w 2) (rootOf (square (part w 2))) in
     record {
       «first_asc» = arcs .«first_asc»;

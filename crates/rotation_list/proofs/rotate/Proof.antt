@@ -1,27 +1,31 @@
--- `rotation_list::rotate` meets its contract: before each pass the stars so far are stored and counted, and a pass does two more.
+-- `rotation_list::rotate` meets its contract: before each pass the stars so far are stored and counted, and the sines and cosines of the
+-- next two are ready; a pass does two more.
 use borrow.Author.Needs.{needs}
 use borrow.Author.Tests.{ne-eqb}
-use mathlib.Core.Path.{_≡_, sym, ap, _∙_}
+use mathlib.Core.Path.{_≡_, sym, _∙_}
 use Prim.Native.Nat.{_+_, _-_, _≤_, _<_}
 use native.Mathlib.Omega.{arith}
 use Rattle.double.specs.laws.Calls.{asks-nothing}
-use Rattle.quantity.specs.rules.Answer.{Answer, Pair, firstPlace, secondPlace}
+use Rattle.quantity.specs.rules.Answer.{Answer, Pair}
 use Rattle.list.specs.declared.Star.{Star}
-use Rattle.list.specs.rules.Stars.{countOf}
+use Rattle.list.specs.rules.Stars.{countOf, nth}
 use Rattle.star_store.specs.rules.Stored.{answersBy}
 use Rattle.star_store.specs.notions.StarStored.{Begun, Upto}
 use Rattle.star_store.specs.laws.StarStored.{few-stars, no-star-stored, places-there, one-star-stored, all-stars-stored}
 use Rattle.rotation_list.specs.rules.Rotate.{rotatedStar, rotatedOn}
-use Rattle.rotation_list.specs.laws.Star.{first-star, second-star, known-rotated}
+use Rattle.rotation_list.specs.notions.Aimed.{Aimed}
+use Rattle.rotation_list.specs.laws.Star.{known-rotated}
+use Rattle.rotation_list.specs.laws.Turned.{next-aimed, first-turned, second-turned}
 use Rattle.rotation_list.proofs.rotate.Statement.{statement}
 use Rattle.rotation_list.proofs.rotate.Tie as tie
 
 abbrev Inv-loop : tie.InvT-loop
-Inv-loop bytes day1 day2 status₀ asc₀ dec₀ why tally₀ m years n i₀ status asc dec tally i =
-    (i ≤ n) × ((n ≡ countOf bytes) × Upto (rotatedStar m years) bytes status₀ asc₀ dec₀ i tally status asc dec)
+Inv-loop bytes day1 day2 status₀ asc₀ dec₀ why m years n counts₀ t₀ i₀ status asc dec counts t i =
+    (i ≤ n) × ((n ≡ countOf bytes) × (Upto (rotatedStar m years) bytes status₀ asc₀ dec₀ i (record { counts = counts }) status asc dec
+    × Aimed years (nth bytes i) (nth bytes (i + 1)) t))
 
 abbrev μ-loop : tie.MeasureT-loop
-μ-loop bytes day1 day2 status₀ asc₀ dec₀ why tally₀ m years n i₀ status asc dec tally i = n - i
+μ-loop bytes day1 day2 status₀ asc₀ dec₀ why m years n counts₀ t₀ i₀ status asc dec counts t i = n - i
 
 returns : tie.Need-returns Inv-loop μ-loop
 returns c =
@@ -55,92 +59,115 @@ module _ (c : tie.After-count Inv-loop μ-loop) where
   promised : answersBy rule (begin .args .bytes .now) ≡ answersBy (rotatedOn (begin .args .edition) (begin .args .day1) (begin .args .day2)) (begin .args .bytes .now)
   promised = λ j. answersBy (rotatedStar (c .before .before .rotation-of .ensures j) (c .before .years-between .ensures j)) (begin .args .bytes .now)
 
+-- before the first turn
+abbrev before-turns : tie.After-two-turned Inv-loop μ-loop → tie.After-count Inv-loop μ-loop
+before-turns c = c .before .before .before .before .before .before .before
+
 loop-holds : tie.Need-loop-holds Inv-loop μ-loop
-loop-holds c = (search needs, (c .count .ensures, no-star-stored (begun c) _ (c .before .before .before .before .new .ensures)))
+loop-holds c =
+    let counted = before-turns c in (
+      search needs,
+      (
+        counted .count .ensures,
+        (
+          no-star-stored (begun counted) _ (counted .before .before .before .before .new .ensures),
+          next-aimed _ _ _ _ (c .two-turned .ensures) (c .before .before .nth .ensures) (c .before .nth2 .ensures),
+        ),
+      ),
+    )
 
 add-loop : tie.Need-add-loop Inv-loop μ-loop
-add-loop c = omega (arith, c .loop .inv .0, c .loop .inv .1 .0, few-stars (begun (c .before)))
+add-loop c = omega (arith, c .loop .inv .0, c .loop .inv .1 .0, few-stars (begun (before-turns (c .before))))
 
 -- in a pass both stars are there
 module _ (c : tie.In-loop Inv-loop μ-loop) where
-  both-there : c .before .loop .i + 1 < countOf (begin (c .before .before) .args .bytes .now)
+  both-there : c .before .loop .i + 1 < countOf (begin (before-turns (c .before .before)) .args .bytes .now)
   both-there = omega (arith, c .loop-test .taken, c .before .loop .inv .1 .0)
 
-add-j : tie.Need-add-j Inv-loop μ-loop
-add-j c = omega (arith, both-there c, few-stars (begun (c .before .before)))
+  few-there : c .before .loop .i + 1 < 3000
+  few-there = omega (arith, both-there, few-stars (begun (before-turns (c .before .before))))
 
-store-star-requires : tie.Need-store-star-requires Inv-loop μ-loop
-store-star-requires c κs =
-    let pass = c .before .before .before .before .before .before .before in
-    places-there (begun (pass .before .before)) (pass .before .loop .inv .1 .1) _ (omega (arith, both-there pass))
+add-j : tie.Need-add-j Inv-loop μ-loop
+add-j c = omega (arith, few-there c)
+
+add-k : tie.Need-add-k Inv-loop μ-loop
+add-k c = omega (arith, few-there c)
+
+add-nth : tie.Need-add-nth Inv-loop μ-loop
+add-nth c = omega (arith, few-there (c .before .before))
+
+store-star-in-requires : tie.Need-store-star-in-requires Inv-loop μ-loop
+store-star-in-requires c κs =
+    let pass = c .before .before .before .before .before .before .before .before .before .before in
+    places-there (begun (before-turns (pass .before .before))) (pass .before .loop .inv .1 .1 .0) _ (omega (arith, both-there pass))
 
 -- the first of the two is stored
-module _ (c : tie.After-store-star Inv-loop μ-loop) where
+module _ (c : tie.After-store-star-in Inv-loop μ-loop) where
   abbrev in-pass : tie.In-loop Inv-loop μ-loop
-  in-pass = c .before .before .before .before .before .before .before .before
+  in-pass = c .before .before .before .before .before .before .before .before .before .before .before
 
   abbrev before-pass : tie.After-count Inv-loop μ-loop
-  before-pass = in-pass .before .before
+  before-pass = before-turns (in-pass .before .before)
 
-  first-stored : Upto (rule before-pass) (begin before-pass .args .bytes .now) (begin before-pass .args .status .now) (begin before-pass .args .asc .now) (begin before-pass .args .dec .now) (in-pass .before .loop .i + 1) (c .store-star .result) (c .store-star .last .0) (c .store-star .last .1 .0) (c .store-star .last .1 .1 .0)
+  first-stored : Upto (rule before-pass) (begin before-pass .args .bytes .now) (begin before-pass .args .status .now) (begin before-pass .args .asc .now) (begin before-pass .args .dec .now) (in-pass .before .loop .i + 1) (record { counts = c .store-star-in .last .1 .1 .1 .0 }) (c .store-star-in .last .0) (c .store-star-in .last .1 .0) (c .store-star-in .last .1 .1 .0)
   first-stored =
-      let at-two = c .before .before .before .before in
-      one-star-stored (begun before-pass) (in-pass .before .loop .inv .1 .1) (omega (arith, both-there in-pass))
-      (ap firstPlace (at-two .two-stars-rotated .ensures) ∙ first-star _ _ _ _ ∙ ap (rule before-pass) (at-two .before .before .before .nth .ensures))
-      (c .store-star .ensures)
+      one-star-stored (begun before-pass) (in-pass .before .loop .inv .1 .1 .0) (omega (arith, both-there in-pass))
+      (first-turned _ (in-pass .before .loop .inv .1 .1 .1) _ _ (c .before .before .before .before .before .before .before .two-turned2 .ensures) (c .before .earlier .ensures))
+      (c .store-star-in .ensures)
 
-store-star-requires-2 : tie.Need-store-star-requires-2 Inv-loop μ-loop
-store-star-requires-2 c κs =
-    let at-first = c .before .before .before .before .before .before .before .before .before in
+store-star-in-requires-2 : tie.Need-store-star-in-requires-2 Inv-loop μ-loop
+store-star-in-requires-2 c κs =
+    let at-first = c .before .before .before .before .before .before .before .before .before .before .before in
     places-there (begun (before-pass at-first)) (first-stored at-first) _ (both-there (in-pass at-first))
 
-add-i : tie.Need-add-i Inv-loop μ-loop
-add-i c =
-    let at-second = c .before .before .before .before .before .before in
-    let at-first = at-second .before .before .before .before .before .before .before .before .before .before in
-    omega (arith, both-there (in-pass at-first), few-stars (begun (before-pass at-first)))
-
 loop-less : tie.Need-loop-less Inv-loop μ-loop
-loop-less c = search needs
+loop-less c =
+    let at-second = c .before .before .before .before .before .before in
+    let at-first = at-second .before .before .before .before .before .before .before .before .before .before .before .before in
+    omega (arith, in-pass at-first .loop-test .taken)
 
 loop-again : tie.Need-loop-again Inv-loop μ-loop
 loop-again c =
     let at-second = c .before .before .before .before .before .before in
-    let at-first = at-second .before .before .before .before .before .before .before .before .before .before in
-    let at-two = at-first .before .before .before .before in (
+    let at-first = at-second .before .before .before .before .before .before .before .before .before .before .before .before in
+    let at-two = at-first .before .before .before .before .before .before .before in
+    let inv = in-pass at-first .before .loop .inv in (
       search needs,
       (
-        in-pass at-first .before .loop .inv .1 .0,
-        one-star-stored (begun (before-pass at-first)) (first-stored at-first) (both-there (in-pass at-first))
-            (ap secondPlace (at-two .two-stars-rotated .ensures) ∙ second-star _ _ _ _ ∙ ap (rule (before-pass at-first)) (at-two .before .before .nth2 .ensures))
-            (at-second .store-star2 .ensures),
+        inv .1 .0,
+        (
+          one-star-stored (begun (before-pass at-first)) (first-stored at-first) (both-there (in-pass at-first))
+              (second-turned _ (inv .1 .1 .1) _ _ (at-two .two-turned2 .ensures) (at-second .before .earlier2 .ensures))
+              (at-second .store-star-in2 .ensures),
+          next-aimed _ _ _ _ (at-two .two-turned2 .ensures) (at-two .before .before .nth3 .ensures) (at-two .before .nth4 .ensures),
+        ),
       ),
     )
 
 -- one star is left
 module _ (c : tie.Then2 Inv-loop μ-loop) where
-  last-there : c .before .before .loop .i < countOf (begin (c .before .before .before) .args .bytes .now)
+  last-there : c .before .before .loop .i < countOf (begin (before-turns (c .before .before .before)) .args .bytes .now)
   last-there = omega (arith, c .if2 .taken, c .before .before .loop .inv .1 .0)
 
-store-star-requires-3 : tie.Need-store-star-requires-3 Inv-loop μ-loop
-store-star-requires-3 c κs =
-    let left = c .before .before .before .before .before .before in
-    places-there (begun (left .before .before .before)) (left .before .before .loop .inv .1 .1) _ (last-there left)
+store-star-in-requires-3 : tie.Need-store-star-in-requires-3 Inv-loop μ-loop
+store-star-in-requires-3 c κs =
+    let left = c .before .before .before .before .before .before .before .before .before in
+    places-there (begun (before-turns (left .before .before .before))) (left .before .before .loop .inv .1 .1 .0) _ (last-there left)
 
 -- and then stored
-module _ (c : tie.After-store-star3 Inv-loop μ-loop) where
+module _ (c : tie.After-store-star-in3 Inv-loop μ-loop) where
   abbrev with-one-left : tie.Then2 Inv-loop μ-loop
-  with-one-left = c .before .before .before .before .before .before .before
+  with-one-left = c .before .before .before .before .before .before .before .before .before .before
 
   abbrev before-last : tie.After-count Inv-loop μ-loop
-  before-last = with-one-left .before .before .before
+  before-last = before-turns (with-one-left .before .before .before)
 
-  last-stored : Upto (rule before-last) (begin before-last .args .bytes .now) (begin before-last .args .status .now) (begin before-last .args .asc .now) (begin before-last .args .dec .now) (with-one-left .before .before .loop .i + 1) (c .store-star3 .result) (c .store-star3 .last .0) (c .store-star3 .last .1 .0) (c .store-star3 .last .1 .1 .0)
+  last-stored : Upto (rule before-last) (begin before-last .args .bytes .now) (begin before-last .args .status .now) (begin before-last .args .asc .now) (begin before-last .args .dec .now) (with-one-left .before .before .loop .i + 1) (record { counts = c .store-star-in3 .last .1 .1 .1 .0 }) (c .store-star-in3 .last .0) (c .store-star-in3 .last .1 .0) (c .store-star-in3 .last .1 .1 .0)
   last-stored =
-      let at-two = c .before .before .before .before in
-      one-star-stored (begun before-last) (with-one-left .before .before .loop .inv .1 .1) (last-there with-one-left)
-      (ap firstPlace (at-two .two-stars-rotated2 .ensures) ∙ first-star _ _ _ _ ∙ ap (rule before-last) (at-two .before .before .nth3 .ensures))
-      (c .store-star3 .ensures)
+      let inv = with-one-left .before .before .loop .inv in
+      one-star-stored (begun before-last) (inv .1 .1 .0) (last-there with-one-left)
+      (first-turned _ (inv .1 .1 .1) _ _ (c .before .before .before .before .before .before .before .two-turned3 .ensures) (c .before .earlier3 .ensures))
+      (c .store-star-in3 .ensures)
 
 same-length : tie.Need-same-length Inv-loop μ-loop
 same-length c = last-stored (c .before .before .before .before .before .before) .statuses .long
@@ -159,18 +186,19 @@ returns-2 c =
     (omega (arith, left .before .loop-test .left, last-there left, left .before .before .loop .inv .1 .0))
 
 same-length-4 : tie.Need-same-length-4 Inv-loop μ-loop
-same-length-4 c = c .before .before .loop .inv .1 .1 .statuses .long
+same-length-4 c = c .before .before .loop .inv .1 .1 .0 .statuses .long
 
 same-length-5 : tie.Need-same-length-5 Inv-loop μ-loop
-same-length-5 c = c .before .before .loop .inv .1 .1 .ascs .long
+same-length-5 c = c .before .before .loop .inv .1 .1 .0 .ascs .long
 
 same-length-6 : tie.Need-same-length-6 Inv-loop μ-loop
-same-length-6 c = c .before .before .loop .inv .1 .1 .decs .long
+same-length-6 c = c .before .before .loop .inv .1 .1 .0 .decs .long
 
 returns-3 : tie.Need-returns-3 Inv-loop μ-loop
 returns-3 c =
     let inv = c .before .before .loop .inv in
-    all-stars-stored (begun (c .before .before .before)) (inv .1 .1) (promised (c .before .before .before)) (omega (arith, c .if2 .left, inv .0, inv .1 .0))
+    let counted = before-turns (c .before .before .before) in
+    all-stars-stored (begun counted) (inv .1 .1 .0) (promised counted) (omega (arith, c .if2 .left, inv .0, inv .1 .0))
 
 pub rotate-spec : {M : Type 1} → statement M
 rotate-spec =
@@ -184,20 +212,29 @@ rotate-spec =
     asks-nothing
     asks-nothing
     asks-nothing
+    asks-nothing
+    asks-nothing
+    asks-nothing
+    asks-nothing
+    asks-nothing
     loop-holds
     add-loop
     add-j
+    add-k
+    asks-nothing
+    add-nth
     asks-nothing
     asks-nothing
     asks-nothing
-    store-star-requires
-    store-star-requires-2
-    add-i
+    store-star-in-requires
+    asks-nothing
+    store-star-in-requires-2
     loop-less
     loop-again
     asks-nothing
     asks-nothing
-    store-star-requires-3
+    asks-nothing
+    store-star-in-requires-3
     same-length
     same-length-2
     same-length-3

@@ -1,66 +1,23 @@
 -- `star_store::store_star` meets its contract.
 use borrow.Author.Needs.{needs}
 use mathlib.Core.Path.{_≡_, ap, _∙_}
-use lib.ListN.{set}
 use Rattle.double.specs.laws.Calls.{asks-nothing}
 use Rattle.list_tally.specs.declared.Raised.{Raised}
 use Rattle.list_tally.specs.rules.Tally.{raiseRule}
-use Rattle.star_store.specs.laws.StarStored.{status-is, first-star-stored, second-star-stored}
+use Rattle.star_store.specs.laws.StarStored.{status-is}
 use Rattle.star_store.proofs.store_star.Statement.{statement}
 use Rattle.star_store.proofs.store_star.Tie as tie
-
-slice-write-status : tie.Need-slice-write-status
-slice-write-status c = search needs
-
-mul-asc : tie.Need-mul-asc
-mul-asc c = search needs
-
-slice-write-asc : tie.Need-slice-write-asc
-slice-write-asc c = search needs
-
-mul-dec : tie.Need-mul-dec
-mul-dec c = search needs
-
-slice-write-dec : tie.Need-slice-write-dec
-slice-write-dec c = search needs
-
-same-length : tie.Need-same-length
-same-length c = search needs
-
-same-length-2 : tie.Need-same-length-2
-same-length-2 c = search needs
-
-same-length-3 : tie.Need-same-length-3
-same-length-3 c = search needs
 
 returns : tie.Need-returns
 returns c =
     let at-raise = c .before in
-    let at-dec = at-raise .before in
-    let at-asc = at-dec .before in
-    let begin = at-asc .before .before .before .before .args in
+    let at-put = at-raise .before .before .before .before .before .before .before in
+    let begin = at-put .before .before .before .before .before .before .before .args in
+    let placed = at-put .put-star .ensures in
     let status = status-is (begin .refusal) (begin .a) (begin .d) in
     let raised : at-raise .raise .result ≡ raiseRule (begin .tally) (begin .refusal) = at-raise .raise .ensures in
-    record {
-      raised = ap (λ (q : Raised). q .tally) (raised ∙ ap (raiseRule (begin .tally)) status);
-      status-set = ap (set (begin .status .now) (begin .i)) status;
-      asc-set = ap (set (begin .asc .now) (begin .i)) (at-asc .stored-bits .ensures ∙ first-star-stored (begin .refusal) (begin .a) (begin .d));
-      dec-set = ap (set (begin .dec .now) (begin .i)) (at-dec .stored-bits2 .ensures ∙ second-star-stored (begin .refusal) (begin .a) (begin .d));
-    }
+    record { raised = ap (λ (q : Raised). q .tally) (raised ∙ ap (raiseRule (begin .tally)) status); status-set = placed .status-set; asc-set = placed .asc-set; dec-set = placed .dec-set }
 
 pub store-star-spec : {M : Type 1} → statement M
 store-star-spec =
-    tie.close
-    (tie.spec
-    slice-write-status
-    asks-nothing
-    mul-asc
-    slice-write-asc
-    asks-nothing
-    mul-dec
-    slice-write-dec
-    asks-nothing
-    same-length
-    same-length-2
-    same-length-3
-    returns)
+    tie.close (tie.spec (λ c κs. search needs) asks-nothing (λ c. search needs) (λ c. search needs) (λ c. search needs) returns)

@@ -14,7 +14,13 @@ use Rattle.list_tally.specs.rules.Tally.{raiseRule, tallyOf}
 use Rattle.star_store.specs.rules.Star.{firstBits, secondBits}
 use Rattle.star_store.specs.rules.Stored.{storeRefusal, answersBy, statusesBy}
 
--- an answer is stored at place i, and its status raises the tally
+-- an answer is stored at place i
+pub record Placed (i : ℕ) (a : Answer Pair) (status asc dec status′ asc′ dec′ : List ℕ) : Type 0 where
+  pub status-set : status′ ≡ set status i (statusOf a)
+  pub asc-set : asc′ ≡ set asc i (firstBits a)
+  pub dec-set : dec′ ≡ set dec i (secondBits a)
+
+-- and its status raises the tally
 pub record StarStored (i : ℕ) (a : Answer Pair) (tally : Tally) (status asc dec : List ℕ) (tally′ : Tally) (status′ asc′ dec′ : List ℕ) : Type 0 where
   pub raised : tally′ ≡ raiseRule tally (statusOf a) .tally
   pub status-set : status′ ≡ set status i (statusOf a)

@@ -27,7 +27,7 @@ returns : tie.Need-returns
 returns c =
     let counted = c .before .before .before in
     rw (c .count-after .ensures, c .before .refusal-at .ensures, counted .count-of .ensures)
-    (stored-raises (counted .before .args .self) (counted .before .args .status) (search needs))
+    (stored-raises (counted .before .args .self) (counted .before .args .status))
 
 pub raise-spec : {M : Type 1} → statement M
 raise-spec =
