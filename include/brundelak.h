@@ -322,6 +322,19 @@ uint8_t brundelak_limit_to_two_pi(double x, double *out);
  * Refusals:  1, 2 */
 uint8_t brundelak_julian_cent(double day, double *out);
 
+/* Mean sidereal time at Greenwich (Meeus, 12.4).
+ * Given:     day    Julian day, of universal time
+ * Returned:  out    radians, from 0 to a turn
+ * Refusals:  1, 2 */
+uint8_t brundelak_mean_sidereal(double day, double *out);
+
+/* Apparent sidereal time at Greenwich: the mean one with nutation's share, that in longitude times the cosine of the
+ * true obliquity. The same day serves nutation, of universal time for dynamical time.
+ * Given:     day    Julian day, of universal time
+ * Returned:  out    radians, from 0 to a turn, and a turn itself just before 0
+ * Refusals:  1, 2 */
+uint8_t brundelak_apparent_sidereal(double day, double *out);
+
 /* The observer's place from the Earth's centre (Meeus, chapter 11).
  * Given:     lat       observer's latitude, size at most 1.57
  *            height    metres above sea level

@@ -51,6 +51,9 @@ export namespace angle {
 
 export namespace time {
   function julian_cent(day: number): number;
+  /** Sidereal time at Greenwich in radians, 0 to a turn, on a day of universal time. */
+  function mean_sidereal(day: number): number;
+  function apparent_sidereal(day: number): number;
 }
 
 export namespace earth {

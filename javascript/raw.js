@@ -15,6 +15,8 @@ export const functions = {
   brundelak_limit_to_360: ['uint8_t', [['double', 'x', 0], ['double *', 'out', 1]]],
   brundelak_limit_to_two_pi: ['uint8_t', [['double', 'x', 0], ['double *', 'out', 1]]],
   brundelak_julian_cent: ['uint8_t', [['double', 'day', 0], ['double *', 'out', 1]]],
+  brundelak_mean_sidereal: ['uint8_t', [['double', 'day', 0], ['double *', 'out', 1]]],
+  brundelak_apparent_sidereal: ['uint8_t', [['double', 'day', 0], ['double *', 'out', 1]]],
   brundelak_rho_sin_cos_phi: ['uint8_t', [['double', 'lat', 0], ['double', 'height', 0], ['double *', 'rho_sin', 1],
       ['double *', 'rho_cos', 1]]],
   brundelak_hr_angl_frm_observer_long: ['uint8_t', [['double', 'green_sidreal', 0], ['double', 'observer_long', 0],

@@ -18,7 +18,8 @@ typedef uint8_t call(const double *a, double *const *o);
 #define FUNCTIONS(F) \
     F(sine, A1, O1) F(cosine, A1, O1) F(tangent, A1, O1) F(arctangent, A2, O1) F(arcsine, A1, O1) F(root, A1, O1) \
     F(deg_frm_dms, A1, O1) F(deg_frm_hms, A1, O1) F(to_radians, A1, O1) F(limit_to_360, A1, O1) \
-    F(limit_to_two_pi, A1, O1) F(julian_cent, A1, O1) F(rho_sin_cos_phi, A2, O2) \
+    F(limit_to_two_pi, A1, O1) F(julian_cent, A1, O1) F(mean_sidereal, A1, O1) \
+    F(apparent_sidereal, A1, O1) F(rho_sin_cos_phi, A2, O2) \
     F(hr_angl_frm_observer_long, A3, O1) F(hr_angl_frm_loc_sidr, A2, O1) F(ecl_frm_eq, A3, O2) \
     F(asc_frm_ecl, A3, O1) F(dec_frm_ecl, A3, O1) F(az_frm_eq, A3, O1) \
     F(alt_frm_eq, A3, O1) F(hr_angl_frm_hz, A3, O1) F(dec_frm_hz, A3, O1) F(gal_long_frm_eq, A2, O1) \

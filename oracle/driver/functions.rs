@@ -7,6 +7,7 @@ use port::{self, Lent};
 use published::{self, OWN, WRITTEN};
 use routed::library::{first_refusal, forget, last_sine};
 use routed::{aberr, coords, nutation, parallax, precess};
+use sidereal;
 use table::Sort::{self, *};
 use table::first_of;
 use transit;
@@ -156,6 +157,9 @@ pub fn all() -> Vec<Function> {
         function!(rule brundelak_limit_to_two_pi [Number] (1)
             |a| Answer(vec![written::folded(a[0], 2.0 * ::std::f64::consts::PI)]), vec![own::angle::limit_to_two_PI(a[0])]),
         function!(rule brundelak_julian_cent [Day] (1, 2) |a| Answer(vec![written::century(a[0])]), vec![own::time::julian_cent(a[0])]),
+        function!(rule brundelak_mean_sidereal [Day] (1, 2) |a| Answer(vec![sidereal::mean(a[0])]), vec![sidereal::mean(a[0])]),
+        function!(rule brundelak_apparent_sidereal [Day] (1, 2) |a| Answer(vec![sidereal::apparent(a[0], nutation::nutation(a[0]), written::cosine)]),
+            vec![sidereal::apparent(a[0], own::nutation::nutation(a[0]), f64::cos)]),
         function!(rule brundelak_rho_sin_cos_phi [Steep, Height] (1, 3, 4, 5) |a| Answer(pair(written::earth(a[0], a[1]))), pair(own::planet::earth::rho_sin_cos_phi(a[0], a[1]))),
 
         function!(rust brundelak_hr_angl_frm_observer_long [Angle, Angle, Angle] (1, 3)

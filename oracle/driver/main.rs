@@ -20,6 +20,7 @@ mod put;
 mod radio;
 mod residuals;
 mod rotation;
+mod sidereal;
 mod table;
 mod transit;
 mod widths;

@@ -33,6 +33,8 @@ exported! {
     brundelak_limit_to_360(x)(a);
     brundelak_limit_to_two_pi(x)(a);
     brundelak_julian_cent(x)(a);
+    brundelak_mean_sidereal(x)(a);
+    brundelak_apparent_sidereal(x)(a);
     brundelak_rho_sin_cos_phi(x, y)(a, b);
     brundelak_hr_angl_frm_observer_long(x, y, z)(a);
     brundelak_hr_angl_frm_loc_sidr(x, y)(a);

@@ -13,6 +13,8 @@ extern "C" {
     pub fn brundelak_limit_to_360(x: f64, out: *mut f64) -> u8;
     pub fn brundelak_limit_to_two_pi(x: f64, out: *mut f64) -> u8;
     pub fn brundelak_julian_cent(day: f64, out: *mut f64) -> u8;
+    pub fn brundelak_mean_sidereal(day: f64, out: *mut f64) -> u8;
+    pub fn brundelak_apparent_sidereal(day: f64, out: *mut f64) -> u8;
     pub fn brundelak_rho_sin_cos_phi(lat: f64, height: f64, rho_sin: *mut f64, rho_cos: *mut f64) -> u8;
     pub fn brundelak_hr_angl_frm_observer_long(green_sidreal: f64, observer_long: f64, asc: f64, out: *mut f64) -> u8;
     pub fn brundelak_hr_angl_frm_loc_sidr(local_sidreal: f64, asc: f64, out: *mut f64) -> u8;
@@ -316,6 +318,8 @@ macro_rules! of_numbers {
             brundelak_limit_to_360 limit_to_360(x) -> (out);
             brundelak_limit_to_two_pi limit_to_two_pi(x) -> (out);
             brundelak_julian_cent julian_cent(day) -> (out);
+            brundelak_mean_sidereal mean_sidereal(day) -> (out);
+            brundelak_apparent_sidereal apparent_sidereal(day) -> (out);
             brundelak_rho_sin_cos_phi rho_sin_cos_phi(lat, height) -> (rho_sin, rho_cos);
             brundelak_hr_angl_frm_observer_long hr_angl_frm_observer_long(green_sidreal, observer_long, asc) -> (out);
             brundelak_hr_angl_frm_loc_sidr hr_angl_frm_loc_sidr(local_sidreal, asc) -> (out);

@@ -5,6 +5,7 @@ pub mod functions; // section 2
 pub mod angles; // section 3
 pub mod frames; // changes of frame
 pub mod reduction; // precession, nutation, aberration, the chain
+pub mod time; // sidereal time
 pub mod observer; // parallax; rise, culmination and set
 pub mod refraction; // refraction at the sight
 pub mod stored; // the stored list and the batch

@@ -32,6 +32,7 @@ pub mod AtmosAngle
 pub mod Atmos
 pub mod Chain
 pub mod MeanObliquity
+pub mod Sidereal
 pub mod Star
 pub mod Fourteen
 pub mod Wrong

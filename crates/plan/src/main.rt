@@ -1,12 +1,14 @@
 // Prints the plan of the star list that stands on standard input. Arguments: the day of its places and the night's at 0h; then, in degrees,
-// the sidereal time at Greenwich there, the observer's longitude, west positive, and latitude, and the standard altitude; then the
-// edition, the crate's where there is none. Where `--table` stands before them it is a table for people.
+// the observer's longitude, west positive, and latitude, and the standard altitude; then the edition, the crate's where there is none. Where
+// `--table` stands before them it is a table for people; behind that `--sidereal` and degrees are the sidereal time at Greenwich on that day
+// from an almanac, which is worked out else.
 ghost use Prim.Native.Nat.{_≤_};
 use edition::Edition;
+use quantity::Deg;
 use text_answers::Style;
-use text_decimal::Decimal;
+use text_date::Moment;
+use text_date::Reason;
 use text_degrees::ReadDegrees;
-use transit::Observer;
 
 // An edition, or that the text names none.
 enum Named {
@@ -15,13 +17,13 @@ enum Named {
 }
 
 // The day that argument i says. A missing one, and one of more than 64 bytes, is none.
-fn day_of(i: usize) -> Decimal {
+fn day_of(i: usize) -> Moment {
     let mut text = [0u8; 64];
     let n = os::arg(i, &mut text);
     if os::errno() != 0 {
-        return Decimal::Unclear;
+        return Moment::Not(Reason::NoDate);
     }
-    text_decimal::read(&text[..n])
+    text_day::read(&text[..n], 0)
 }
 
 // The angle that argument i says, likewise.
@@ -55,13 +57,13 @@ fn edition_of(i: usize) -> Named {
     Named::Unclear
 }
 
-// Says which argument is not a day.
-fn no_day(name: &[u8]) {
-    io::write_all(2, name);
-    io::write_all(
-        2,
-        b": a day is digits with at most one point, no more than 2^53 without it\n",
-    );
+// Says which argument, i, is not a day, and why.
+fn no_day(name: &[u8], i: usize, reason: Reason) {
+    let mut text = [0u8; 64];
+    let n = os::arg(i, &mut text);
+    let mut out = [0u8; 256];
+    let k = text_day::put_complaint(&mut out, name, &text[..n], reason);
+    io::write_all(2, &out[..k]);
 }
 
 // Says which argument is not an angle.
@@ -81,11 +83,6 @@ fn no_edition() {
     );
 }
 
-// Whether the first argument asks for a table.
-fn table_asked() -> bool {
-    is_argument(1, b"--table")
-}
-
 // Writes the text, or says that it could not.
 fn write(text: &[u8]) {
     if !io::write_all(1, text) {
@@ -93,73 +90,152 @@ fn write(text: &[u8]) {
     }
 }
 
-// The text of a list in its style.
+// The plan of a list at its day's own sidereal time.
+fn print_plan(
+    table: bool,
+    edition: Edition,
+    bytes: &[u8],
+    day1: f64,
+    day2: f64,
+    long: Deg,
+    lat: Deg,
+    alt: Deg,
+) {
+    let mut out = [0u8; report::ROOM];
+    let k = report::put_plan(&mut out, table, edition, bytes, day1, day2, long, lat, alt);
+    write(&out[..k]);
+}
+
+// The plan of a list for an observer.
 fn print_list(style: Style, edition: Edition, bytes: &[u8], day1: f64, day2: f64) {
     let mut out = [0u8; report::ROOM];
     let k = report::put_report(&mut out, style, edition, bytes, day1, day2);
     write(&out[..k]);
 }
 
-// The list on standard input, with the days and the edition read.
-fn print(style: Style, edition: Edition, day1: f64, day2: f64) {
-    let mut input = [0u8; list::READ];
-    let n = io::read_full(0, &mut input);
-    print_list(style, edition, &input[..n], day1, day2);
-}
-
-// A table, or lines.
-fn style_of(table: bool, o: Observer) -> Style {
-    if table {
-        Style::PlanTable(o)
-    } else {
-        Style::Plan(o)
+// The plan of a list with a sidereal time, where one is given, or without.
+fn print_either(
+    table: bool,
+    given: ReadDegrees,
+    edition: Edition,
+    bytes: &[u8],
+    day1: f64,
+    day2: f64,
+    long: Deg,
+    lat: Deg,
+    alt: Deg,
+) {
+    match given {
+        ReadDegrees::Are(sidereal) => {
+            let o = transit::observer_in_degrees(sidereal, long, lat, alt);
+            print_list(report::plan_style(table, o), edition, bytes, day1, day2);
+        }
+        ReadDegrees::Unclear => {
+            print_plan(table, edition, bytes, day1, day2, long, lat, alt);
+        }
     }
 }
 
-// How many arguments stand before the days.
-fn before_days(table: bool) -> usize
-    ensures { λ r. ⌜ r ≤ 1 ⌝ }
-{
-    if table { 1 } else { 0 }
+// The list on standard input, with all else read.
+fn print(
+    table: bool,
+    given: ReadDegrees,
+    edition: Edition,
+    day1: f64,
+    day2: f64,
+    long: Deg,
+    lat: Deg,
+    alt: Deg,
+) {
+    let mut input = [0u8; list::READ];
+    let n = io::read_full(0, &mut input);
+    print_either(
+        table,
+        given,
+        edition,
+        &input[..n],
+        day1,
+        day2,
+        long,
+        lat,
+        alt,
+    );
 }
 
-// With the days and the edition read.
-fn on_days(table: bool, edition: Edition, day1: f64, day2: f64) {
-    let before = before_days(table);
-    let ReadDegrees::Are(sidereal) = degrees_of(before + 3) else {
-        no_angle(b"SIDEREAL");
-        return;
-    };
-    let ReadDegrees::Are(long) = degrees_of(before + 4) else {
+// How many arguments stand before the days.
+fn before_days(table: bool, almanac: bool) -> usize
+    ensures { λ r. ⌜ r ≤ 3 ⌝ }
+{
+    if table {
+        if almanac {
+            return 3;
+        }
+        return 1;
+    }
+    if almanac { 2 } else { 0 }
+}
+
+// The argument behind `--sidereal`.
+fn sidereal_at(table: bool) -> usize
+    ensures { λ r. ⌜ (2 ≤ r) × (r ≤ 3) ⌝ }
+{
+    if table { 3 } else { 2 }
+}
+
+// With the days and the edition read, and a sidereal time where one is given.
+fn on_days(table: bool, before: usize, given: ReadDegrees, edition: Edition, day1: f64, day2: f64)
+    requires { ⌜ before ≤ 3 ⌝ }
+{
+    let ReadDegrees::Are(long) = degrees_of(before + 3) else {
         no_angle(b"LONGITUDE");
         return;
     };
-    let ReadDegrees::Are(lat) = degrees_of(before + 5) else {
+    let ReadDegrees::Are(lat) = degrees_of(before + 4) else {
         no_angle(b"LATITUDE");
         return;
     };
-    let ReadDegrees::Are(alt) = degrees_of(before + 6) else {
+    let ReadDegrees::Are(alt) = degrees_of(before + 5) else {
         no_angle(b"ALTITUDE");
         return;
     };
-    let o = transit::observer_in_degrees(sidereal, long, lat, alt);
-    print(style_of(table, o), edition, day1, day2);
+    print(table, given, edition, day1, day2, long, lat, alt);
+}
+
+// With what stands before the days read.
+fn read_days(table: bool, before: usize, given: ReadDegrees)
+    requires { ⌜ before ≤ 3 ⌝ }
+{
+    match day_of(before + 1) {
+        Moment::Is(day1) => match day_of(before + 2) {
+            Moment::Is(day2) => {
+                let Named::Is(edition) = edition_of(before + 6) else {
+                    no_edition();
+                    return;
+                };
+                on_days(table, before, given, edition, day1, day2);
+            }
+            Moment::Not(reason) => {
+                no_day(b"DATE", before + 2, reason);
+            }
+        },
+        Moment::Not(reason) => {
+            no_day(b"JD1", before + 1, reason);
+        }
+    }
 }
 
 fn main() {
-    let table = table_asked();
-    let before = before_days(table);
-    let Decimal::Is(day1) = day_of(before + 1) else {
-        no_day(b"JD1");
+    let table = is_argument(1, b"--table");
+    let at = sidereal_at(table);
+    let almanac = is_argument(at - 1, b"--sidereal");
+    let before = before_days(table, almanac);
+    if !almanac {
+        read_days(table, before, ReadDegrees::Unclear);
+        return;
+    }
+    let ReadDegrees::Are(sidereal) = degrees_of(at) else {
+        no_angle(b"SIDEREAL");
         return;
     };
-    let Decimal::Is(day2) = day_of(before + 2) else {
-        no_day(b"JD2");
-        return;
-    };
-    let Named::Is(edition) = edition_of(before + 7) else {
-        no_edition();
-        return;
-    };
-    on_days(table, edition, day1, day2);
+    read_days(table, before, ReadDegrees::Are(sidereal));
 }

@@ -3,7 +3,8 @@
 ghost use Prim.Native.Nat.{_≤_};
 use edition::Edition;
 use text_answers::Style;
-use text_decimal::Decimal;
+use text_date::Moment;
+use text_date::Reason;
 
 // An edition, or that the text names none.
 enum Named {
@@ -12,13 +13,13 @@ enum Named {
 }
 
 // The day that argument i says. A missing one, and one of more than 64 bytes, is none.
-fn day_of(i: usize) -> Decimal {
+fn day_of(i: usize) -> Moment {
     let mut text = [0u8; 64];
     let n = os::arg(i, &mut text);
     if os::errno() != 0 {
-        return Decimal::Unclear;
+        return Moment::Not(Reason::NoDate);
     }
-    text_decimal::read(&text[..n])
+    text_day::read(&text[..n], 0)
 }
 
 // Whether argument i is the word. A missing one, and one of more than 64 bytes, is not.
@@ -42,13 +43,13 @@ fn edition_of(i: usize) -> Named {
     Named::Unclear
 }
 
-// Says which argument is not a day.
-fn complain(which: &[u8]) {
-    io::write_all(2, which);
-    io::write_all(
-        2,
-        b" argument: a day is digits with at most one point, no more than 2^53 without it\n",
-    );
+// Says which argument, i, is not a day, and why.
+fn no_day(name: &[u8], i: usize, reason: Reason) {
+    let mut text = [0u8; 64];
+    let n = os::arg(i, &mut text);
+    let mut out = [0u8; 256];
+    let k = text_day::put_complaint(&mut out, name, &text[..n], reason);
+    io::write_all(2, &out[..k]);
 }
 
 // Whether the first argument asks for a table.
@@ -89,18 +90,9 @@ fn before_days(table: bool) -> usize
     if table { 1 } else { 0 }
 }
 
-fn main() {
-    let table = table_asked();
-    let before = before_days(table);
-    let Decimal::Is(day1) = day_of(before + 1) else {
-        complain(b"first");
-        return;
-    };
-    let Decimal::Is(day2) = day_of(before + 2) else {
-        complain(b"second");
-        return;
-    };
-    let Named::Is(edition) = edition_of(before + 3) else {
+// With the days read.
+fn on_days(table: bool, day1: f64, day2: f64) {
+    let Named::Is(edition) = edition_of(before_days(table) + 3) else {
         io::write_all(
             2,
             b"third argument: the edition is published, or not named\n",
@@ -108,4 +100,22 @@ fn main() {
         return;
     };
     print(style_of(table), edition, day1, day2);
+}
+
+fn main() {
+    let table = table_asked();
+    let before = before_days(table);
+    match day_of(before + 1) {
+        Moment::Is(day1) => match day_of(before + 2) {
+            Moment::Is(day2) => {
+                on_days(table, day1, day2);
+            }
+            Moment::Not(reason) => {
+                no_day(b"JD2", before + 2, reason);
+            }
+        },
+        Moment::Not(reason) => {
+            no_day(b"JD1", before + 1, reason);
+        }
+    }
 }

@@ -1,9 +1,12 @@
 // A list reduced from one day to another, and its text in a style: what `reduce` and `plan` print; and one under the rotation of two days,
 // which `rotate` prints. Promised: every byte, of every list and every two days, in the room that it names.
+ghost use mathlib.Core.Path.{_≡_};
 ghost use Rattle.lent.specs.rules.Writing.{Wrote};
-ghost use Rattle.report.specs.rules.Report.{reportOf, rotatedOf};
+ghost use Rattle.report.specs.rules.Report.{reportOf, planStyle, planOf, rotatedOf};
 use edition::Edition;
+use quantity::Deg;
 use text_answers::Style;
+use transit::Observer;
 
 // Bytes of the longest text, at most: so many a star, and those of a head and a foot.
 pub const ROOM: usize = 461 + 145 * list::MOST_STARS;
@@ -36,6 +39,36 @@ pub fn put_report(
         refusal,
         tally,
     )
+}
+
+// The style of a plan, a table or lines.
+pub fn plan_style(table: bool, o: Observer) -> Style
+    ensures { λ r. ⌜ r ≡ planStyle table o ⌝ }
+{
+    if table {
+        return Style::PlanTable(o);
+    }
+    Style::Plan(o)
+}
+
+// The list's plan on the second day, for a site and a standard altitude in degrees, as text from the slice's start on; and the offset after
+// it. The sidereal time is the apparent one at Greenwich on that day.
+pub fn put_plan(
+    out: &mut [u8],
+    table: bool,
+    edition: Edition,
+    bytes: &[u8],
+    day1: f64,
+    day2: f64,
+    long: Deg,
+    lat: Deg,
+    alt: Deg,
+) -> usize
+    ensures { λ r. ⌜ Wrote (now (out .entry)) 0 (planOf table edition (now (bytes .entry)) day1 day2 long lat alt) (now (out .exit)) r ⌝ }
+{
+    let o = transit::observer_at(sidereal::apparent_on(day2), long, lat, alt);
+    let style = plan_style(table, o);
+    put_report(out, style, edition, bytes, day1, day2)
 }
 
 // The list under the rotation from the first day to the second, as lines under one that says so, from the slice's start on; and the offset

@@ -7,7 +7,8 @@ ghost use Rattle.report_residuals.specs.rules.Text.{lengthOf};
 use edition::Edition;
 use report_residuals::Style;
 use report_residuals::Told;
-use text_decimal::Decimal;
+use text_date::Moment;
+use text_date::Reason;
 
 // An edition, or that the text names none.
 enum Named {
@@ -21,13 +22,13 @@ const READ: usize = 600001;
 // ---- what the arguments say
 
 // The day that argument i says. A missing one, and one of more than 64 bytes, is none.
-fn day_of(i: usize) -> Decimal {
+fn day_of(i: usize) -> Moment {
     let mut text = [0u8; 64];
     let n = os::arg(i, &mut text);
     if os::errno() != 0 {
-        return Decimal::Unclear;
+        return Moment::Not(Reason::NoDate);
     }
-    text_decimal::read(&text[..n])
+    text_day::read(&text[..n], 0)
 }
 
 // Whether argument i is the word. A missing one, and one of more than 64 bytes, is not.
@@ -134,13 +135,13 @@ fn too_long() {
     io::write_all(2, b"MEASURED has more than 600000 bytes\n");
 }
 
-// Says which argument is not a day.
-fn no_day(name: &[u8]) {
-    io::write_all(2, name);
-    io::write_all(
-        2,
-        b": a day is digits with at most one point, no more than 2^53 without it\n",
-    );
+// Says which argument, i, is not a day, and why.
+fn no_day(name: &[u8], i: usize, reason: Reason) {
+    let mut text = [0u8; 64];
+    let n = os::arg(i, &mut text);
+    let mut out = [0u8; 256];
+    let k = text_day::put_complaint(&mut out, name, &text[..n], reason);
+    io::write_all(2, &out[..k]);
 }
 
 // ---- the night
@@ -215,20 +216,29 @@ fn print(style: Style, edition: Edition, day1: f64, day2: f64) {
     with_measured(style, edition, &input[..n], day1, day2);
 }
 
-fn main() {
-    let style = style_of();
-    let before = before_days(for_people(style));
-    let Decimal::Is(day1) = day_of(before + 1) else {
-        no_day(b"JD1");
-        return;
-    };
-    let Decimal::Is(day2) = day_of(before + 2) else {
-        no_day(b"JD2");
-        return;
-    };
-    let Named::Is(edition) = edition_of(before + 3) else {
+// With the days read.
+fn on_days(style: Style, day1: f64, day2: f64) {
+    let Named::Is(edition) = edition_of(before_days(for_people(style)) + 3) else {
         io::write_all(2, b"after JD2: the edition is published, or not named\n");
         return;
     };
     print(style, edition, day1, day2);
+}
+
+fn main() {
+    let style = style_of();
+    let before = before_days(for_people(style));
+    match day_of(before + 1) {
+        Moment::Is(day1) => match day_of(before + 2) {
+            Moment::Is(day2) => {
+                on_days(style, day1, day2);
+            }
+            Moment::Not(reason) => {
+                no_day(b"JD2", before + 2, reason);
+            }
+        },
+        Moment::Not(reason) => {
+            no_day(b"JD1", before + 1, reason);
+        }
+    }
 }

@@ -1,7 +1,8 @@
 // Prints the star list that stands on standard input, under the rotation from the day of the first argument to that of the second, in the
 // edition that the third names: the crate's where there is none. It is precession alone, and the first line says so.
 use edition::Edition;
-use text_decimal::Decimal;
+use text_date::Moment;
+use text_date::Reason;
 
 // An edition, or that the text names none.
 enum Named {
@@ -10,13 +11,13 @@ enum Named {
 }
 
 // The day that argument i says. A missing one, and one of more than 64 bytes, is none.
-fn day_of(i: usize) -> Decimal {
+fn day_of(i: usize) -> Moment {
     let mut text = [0u8; 64];
     let n = os::arg(i, &mut text);
     if os::errno() != 0 {
-        return Decimal::Unclear;
+        return Moment::Not(Reason::NoDate);
     }
-    text_decimal::read(&text[..n])
+    text_day::read(&text[..n], 0)
 }
 
 // Whether argument i is the word. A missing one, and one of more than 64 bytes, is not.
@@ -40,13 +41,13 @@ fn edition_of(i: usize) -> Named {
     Named::Unclear
 }
 
-// Says which argument is not a day.
-fn complain(which: &[u8]) {
-    io::write_all(2, which);
-    io::write_all(
-        2,
-        b" argument: a day is digits with at most one point, no more than 2^53 without it\n",
-    );
+// Says which argument, i, is not a day, and why.
+fn no_day(name: &[u8], i: usize, reason: Reason) {
+    let mut text = [0u8; 64];
+    let n = os::arg(i, &mut text);
+    let mut out = [0u8; 256];
+    let k = text_day::put_complaint(&mut out, name, &text[..n], reason);
+    io::write_all(2, &out[..k]);
 }
 
 // Writes the text, or says that it could not.
@@ -70,15 +71,8 @@ fn print(edition: Edition, day1: f64, day2: f64) {
     print_list(edition, &input[..n], day1, day2);
 }
 
-fn main() {
-    let Decimal::Is(day1) = day_of(1) else {
-        complain(b"first");
-        return;
-    };
-    let Decimal::Is(day2) = day_of(2) else {
-        complain(b"second");
-        return;
-    };
+// With the days read.
+fn on_days(day1: f64, day2: f64) {
     let Named::Is(edition) = edition_of(3) else {
         io::write_all(
             2,
@@ -87,4 +81,20 @@ fn main() {
         return;
     };
     print(edition, day1, day2);
+}
+
+fn main() {
+    match day_of(1) {
+        Moment::Is(day1) => match day_of(2) {
+            Moment::Is(day2) => {
+                on_days(day1, day2);
+            }
+            Moment::Not(reason) => {
+                no_day(b"JD2", 2, reason);
+            }
+        },
+        Moment::Not(reason) => {
+            no_day(b"JD1", 1, reason);
+        }
+    }
 }

@@ -387,6 +387,13 @@ fn editions() {
     exercise(Edition::Published);
 }
 
+// Sidereal time at Greenwich: 1987 April 10 at 0h, mean and apparent, and at 19h21m.
+fn sidereal_times() {
+    radians(sidereal::mean_sidereal(2446895.5));
+    radians(sidereal::apparent_sidereal(2446895.5));
+    radians(sidereal::mean_sidereal(2446896.30625));
+}
+
 fn main() {
     limits();
     earth_and_ecliptic();
@@ -399,4 +406,5 @@ fn main() {
     reductions();
     parallaxes();
     editions();
+    sidereal_times();
 }

@@ -62,18 +62,14 @@ fn put_star(
     match style {
         Style::Lines => text_line::put_line(out, at, number, status, asc, dec),
         Style::Table => text_row::put_row(out, at, number, status, asc, dec),
-        Style::Plan(o) => text_time::put_line(
-            out,
-            at,
-            number,
-            transit::planned(status, asc, dec, o),
-        ),
-        Style::PlanTable(o) => text_row::put_plan_row(
-            out,
-            at,
-            number,
-            transit::planned(status, asc, dec, o),
-        ),
+        Style::Plan(o) => {
+            let plan = transit::planned(status, asc, dec, o);
+            text_time::put_line(out, at, number, plan, transit::again(plan))
+        }
+        Style::PlanTable(o) => {
+            let plan = transit::planned(status, asc, dec, o);
+            text_row::put_plan_row(out, at, number, plan, transit::again(plan))
+        }
     }
 }
 

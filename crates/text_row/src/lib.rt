@@ -41,7 +41,7 @@ fn put_three(out: &mut [u8], at: usize, n: u64) -> usize
 }
 
 // A right ascension in hours, minutes and seconds.
-fn put_hours(out: &mut [u8], at: usize, x: Rad) -> usize
+pub fn put_hours(out: &mut [u8], at: usize, x: Rad) -> usize
     ensures { λ r. ⌜ Wrote (now (out .entry)) at (hoursText x) (now (out .exit)) r ⌝ }
 {
     let n = milliseconds_of(x);
@@ -129,16 +129,24 @@ pub fn put_row(out: &mut [u8], at: usize, number: u32, status: u8, asc: Rad, dec
 
 // ---- a star in a plan
 
-// The three times.
-fn put_times_row(out: &mut [u8], at: usize, rise: f64, culmination: f64, set: f64) -> usize
-    ensures { λ r. ⌜ Wrote (now (out .entry)) at (timesRow rise culmination set) (now (out .exit)) r ⌝ }
+// The three times, and the culmination after that of the plan.
+fn put_times_row(
+    out: &mut [u8],
+    at: usize,
+    rise: f64,
+    culmination: f64,
+    set: f64,
+    again: f64,
+) -> usize
+    ensures { λ r. ⌜ Wrote (now (out .entry)) at (timesRow rise culmination set again) (now (out .exit)) r ⌝ }
 {
     let a = text_time::put_time(out, at, rise);
     let b = lent::put(out, a, b"  ");
     let c = text_time::put_time(out, b, culmination);
     let d = lent::put(out, c, b"     ");
     let e = text_time::put_time(out, d, set);
-    lent::put_byte(out, e, b'\n')
+    let f = text_time::put_again(out, e, again);
+    lent::put_byte(out, f, b'\n')
 }
 
 // Why there are none.
@@ -152,20 +160,20 @@ fn put_why_row(out: &mut [u8], at: usize, n: u8) -> usize
 }
 
 // What a plan's row says of a star.
-fn put_outcome_row(out: &mut [u8], at: usize, a: Three) -> usize
-    ensures { λ r. ⌜ Wrote (now (out .entry)) at (outcomeRow (shownThree a)) (now (out .exit)) r ⌝ }
+fn put_outcome_row(out: &mut [u8], at: usize, a: Three, again: f64) -> usize
+    ensures { λ r. ⌜ Wrote (now (out .entry)) at (outcomeRow (shownThree a) again) (now (out .exit)) r ⌝ }
 {
     match a {
-        Three::Are(rise, culmination, set) => put_times_row(out, at, rise, culmination, set),
+        Three::Are(rise, culmination, set) => put_times_row(out, at, rise, culmination, set, again),
         Three::Refused(n) => put_why_row(out, at, n),
     }
 }
 
-// A star's row in a plan.
-pub fn put_plan_row(out: &mut [u8], at: usize, number: u32, a: Three) -> usize
-    ensures { λ r. ⌜ Wrote (now (out .entry)) at (planRow number (shownThree a)) (now (out .exit)) r ⌝ }
+// A star's row in a plan, with the culmination after that of the plan.
+pub fn put_plan_row(out: &mut [u8], at: usize, number: u32, a: Three, again: f64) -> usize
+    ensures { λ r. ⌜ Wrote (now (out .entry)) at (planRow number (shownThree a) again) (now (out .exit)) r ⌝ }
 {
     let b = put_column(out, at, number);
     let c = lent::put(out, b, b"  ");
-    put_outcome_row(out, c, a)
+    put_outcome_row(out, c, a, again)
 }

@@ -1,10 +1,10 @@
-// A star's line of the text that `plan` prints: its number, then its rise, culmination and set in hours, minutes and seconds, or why
-// there are none. Promised: every byte of it, each time the nearest second.
+// A star's line of the text that `plan` prints: its number, then its rise, culmination and set in hours, minutes and seconds, and a second
+// culmination on the day, or why there are none. Promised: every byte of it, each time the nearest second.
 ghost use mathlib.Core.Path.{_≡_};
 ghost use Rattle.lent.specs.rules.Writing.{Wrote};
 ghost use Rattle.quantity.specs.rules.Answer.{shownThree};
 ghost use Rattle.text_time.specs.rules.Time.{secondsOf, twoDigits, clockText, timeText};
-ghost use Rattle.text_time.specs.rules.Line.{timeThen, timesText, whyText, outcomeText, planLine};
+ghost use Rattle.text_time.specs.rules.Line.{timeThen, againText, timesText, whyText, outcomeText, planLine};
 use quantity::Three;
 
 // ---- a time
@@ -55,13 +55,26 @@ fn put_time_then(out: &mut [u8], at: usize, x: f64, end: u8) -> usize
     lent::put_byte(out, a, end)
 }
 
-// The three times.
-fn put_times(out: &mut [u8], at: usize, rise: f64, culmination: f64, set: f64) -> usize
-    ensures { λ r. ⌜ Wrote (now (out .entry)) at (timesText rise culmination set) (now (out .exit)) r ⌝ }
+// The culmination after that of the plan, where it is within the day.
+pub fn put_again(out: &mut [u8], at: usize, again: f64) -> usize
+    ensures { λ r. ⌜ Wrote (now (out .entry)) at (againText again) (now (out .exit)) r ⌝ }
+{
+    if again < 1.0 {
+        let a = lent::put(out, at, b" again ");
+        return put_time(out, a, again);
+    }
+    lent::within(at, out.len())
+}
+
+// The three times, and that one.
+fn put_times(out: &mut [u8], at: usize, rise: f64, culmination: f64, set: f64, again: f64) -> usize
+    ensures { λ r. ⌜ Wrote (now (out .entry)) at (timesText rise culmination set again) (now (out .exit)) r ⌝ }
 {
     let a = put_time_then(out, at, rise, b' ');
     let b = put_time_then(out, a, culmination, b' ');
-    put_time_then(out, b, set, b'\n')
+    let c = put_time(out, b, set);
+    let d = put_again(out, c, again);
+    lent::put_byte(out, d, b'\n')
 }
 
 // Why there are none.
@@ -78,20 +91,20 @@ pub fn put_why(out: &mut [u8], at: usize, n: u8) -> usize
 }
 
 // What a star's line says of it.
-fn put_outcome(out: &mut [u8], at: usize, a: Three) -> usize
-    ensures { λ r. ⌜ Wrote (now (out .entry)) at (outcomeText (shownThree a)) (now (out .exit)) r ⌝ }
+fn put_outcome(out: &mut [u8], at: usize, a: Three, again: f64) -> usize
+    ensures { λ r. ⌜ Wrote (now (out .entry)) at (outcomeText (shownThree a) again) (now (out .exit)) r ⌝ }
 {
     match a {
-        Three::Are(rise, culmination, set) => put_times(out, at, rise, culmination, set),
+        Three::Are(rise, culmination, set) => put_times(out, at, rise, culmination, set, again),
         Three::Refused(n) => put_why(out, at, n),
     }
 }
 
-// A star's line.
-pub fn put_line(out: &mut [u8], at: usize, number: u32, a: Three) -> usize
-    ensures { λ r. ⌜ Wrote (now (out .entry)) at (planLine number (shownThree a)) (now (out .exit)) r ⌝ }
+// A star's line, with the culmination after that of its plan.
+pub fn put_line(out: &mut [u8], at: usize, number: u32, a: Three, again: f64) -> usize
+    ensures { λ r. ⌜ Wrote (now (out .entry)) at (planLine number (shownThree a) again) (now (out .exit)) r ⌝ }
 {
     let b = text_number::put_decimal(out, at, number as u64);
     let c = lent::put_byte(out, b, b' ');
-    put_outcome(out, c, a)
+    put_outcome(out, c, a, again)
 }

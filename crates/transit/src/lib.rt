@@ -1,12 +1,13 @@
-// Rise, culmination and set (document 02, request (v); Meeus, chapter 15, before interpolation), and an observer's plan. Angles are in
-// radians, a longitude is positive west of Greenwich, and a time is a fraction of the sidereal day since 0h. Promised: bit for bit the
-// request's formulas; 15 exactly where the star never rises, 16 exactly where it never sets.
+// Rise, culmination and set (document 02, request (v); Meeus, chapter 15, before interpolation), and an observer's plan by the clock. Angles
+// are in radians, a longitude is positive west of Greenwich, and a time is a fraction of the sidereal day since 0h, in a plan one of the
+// clock's day. Promised: bit for bit the request's formulas; 15 exactly where the star never rises, 16 exactly where it never sets.
 ghost use mathlib.Core.Path.{_≡_};
 ghost use Rattle.quantity.specs.rules.Answer.{shownRadians, shownThree};
 ghost use Rattle.transit.specs.rules.Arc.{arcCosine, arcIn};
 ghost use Rattle.transit.specs.rules.RiseCulmSet.{withinADay, culminationOf, fractions, riseCulmSetIn};
 ghost use Rattle.transit.specs.rules.RiseCulmSet.{observerRefusal, riseCulmSetRefusal, riseCulmSetRule};
-ghost use Rattle.transit.specs.rules.Observer.{planRefusal, plannedOf, siteInDegrees, observerInDegrees};
+ghost use Rattle.transit.specs.rules.Clock.{clockOf, byClock, againIn};
+ghost use Rattle.transit.specs.rules.Observer.{planRefusal, plannedOf, siteInDegrees, observerAt, observerInDegrees};
 use helpers::angle;
 use quantity::Deg;
 use quantity::EqPoint;
@@ -129,6 +130,44 @@ pub fn rise_culm_set(
     rise_culm_set_in(eq_point, greenw_sidr, geograph_point, alt)
 }
 
+// ---- by the clock
+
+// Sidereal days in a day by the clock.
+const SIDEREAL_DAYS: f64 = 1.00273790935;
+
+// A sidereal day, in days by the clock.
+const SIDEREAL_DAY: f64 = 1.0 / 1.00273790935;
+
+// The clock's time of a fraction of the sidereal day since 0h.
+fn clock_of(fraction: f64) -> f64
+    ensures { λ r. ⌜ r ≡ clockOf fraction ⌝ }
+{
+    fraction / SIDEREAL_DAYS
+}
+
+// Three times by the clock.
+fn by_clock(a: Three) -> Three
+    ensures { λ r. ⌜ shownThree r ≡ byClock (shownThree a) ⌝ }
+{
+    match a {
+        Three::Are(rise, culmination, set) => {
+            Three::Are(clock_of(rise), clock_of(culmination), clock_of(set))
+        }
+        Three::Refused(n) => Three::Refused(n),
+    }
+}
+
+// The clock's time of the culmination after that of a plan, a sidereal day later: below 1.0 where the star culminates twice on the day.
+// 1.0 where there is no plan.
+pub fn again(a: Three) -> f64
+    ensures { λ r. ⌜ r ≡ againIn (shownThree a) ⌝ }
+{
+    match a {
+        Three::Are(_, culmination, _) => culmination + SIDEREAL_DAY,
+        Three::Refused(_) => 1.0,
+    }
+}
+
 // ---- an observer's plan
 
 // An observer and his night: the sidereal time at Greenwich at 0h, his site, and the standard altitude.
@@ -148,7 +187,8 @@ pub fn plan_refusal(o: Observer) -> u8
     observer_refusal(sidereal, site, alt)
 }
 
-// The rise, culmination and set of a star that was given a status and two angles. Refusals: the status; then those of `rise_culm_set`.
+// The rise, culmination and set by the clock of a star that was given a status and two angles. Refusals: the status; then those of
+// `rise_culm_set`.
 pub fn planned(status: u8, asc: Rad, dec: Rad, o: Observer) -> Three
     ensures { λ r. ⌜ shownThree r ≡ plannedOf status asc dec o ⌝ }
 {
@@ -162,7 +202,7 @@ pub fn planned(status: u8, asc: Rad, dec: Rad, o: Observer) -> Three
         asc: asc.0,
         dec: dec.0,
     };
-    rise_culm_set(point, sidereal, site, alt)
+    by_clock(rise_culm_set(point, sidereal, site, alt))
 }
 
 // A site from its longitude, west positive, and latitude in degrees.
@@ -175,16 +215,22 @@ fn site_in_degrees(long: Deg, lat: Deg) -> GeographPoint
     }
 }
 
-// An observer from degrees.
-pub fn observer_in_degrees(sidereal: Deg, long: Deg, lat: Deg, alt: Deg) -> Observer
-    ensures { λ r. ⌜ r ≡ observerInDegrees sidereal long lat alt ⌝ }
+// An observer from the sidereal time, and from degrees.
+pub fn observer_at(sidereal: Rad, long: Deg, lat: Deg, alt: Deg) -> Observer
+    ensures { λ r. ⌜ r ≡ observerAt sidereal long lat alt ⌝ }
 {
-    let theta = angle::radians(sidereal);
     let site = site_in_degrees(long, lat);
     let height = angle::radians(alt);
     Observer {
-        sidereal: theta,
+        sidereal,
         site,
         alt: height,
     }
+}
+
+// An observer from degrees, the sidereal time too.
+pub fn observer_in_degrees(sidereal: Deg, long: Deg, lat: Deg, alt: Deg) -> Observer
+    ensures { λ r. ⌜ r ≡ observerInDegrees sidereal long lat alt ⌝ }
+{
+    observer_at(angle::radians(sidereal), long, lat, alt)
 }

@@ -8,6 +8,7 @@ use lib.Dec.{eqb}
 use lib.Ieee.{Float}
 use lib.ListN.{length, length-append}
 use borrow.Author.Tests.{eqb-true}
+use Rattle.quantity.specs.declared.Deg.{Deg}
 use Rattle.quantity.specs.declared.Rad.{Rad}
 use Rattle.quantity.specs.rules.Answer.{Answer, Pair}
 use Rattle.edition.specs.declared.Edition.{Edition}
@@ -23,7 +24,9 @@ use Rattle.star_store.specs.rules.Stored.{storeRefusal, statusesBy}
 use Rattle.batch.specs.rules.Batch.{starsOn}
 use Rattle.rotation_list.specs.rules.Rotate.{rotatedOn}
 use Rattle.star_store.specs.laws.Stored.{accepted}
-use Rattle.transit.specs.rules.Observer.{plannedOf}
+use Rattle.transit.specs.rules.Clock.{againIn}
+use Rattle.transit.specs.rules.Observer.{plannedOf, observerAt}
+use Rattle.sidereal.specs.rules.Apparent.{apparentOf}
 use Rattle.text_number.specs.rules.Bytes.{ascii, lineEnd}
 use Rattle.text_number.specs.rules.Refused.{refusedText}
 use Rattle.text_number.specs.laws.Number.{any-decimal-short, refused-short}
@@ -35,7 +38,7 @@ use Rattle.text_answers.specs.declared.Style.{Style}
 use Rattle.text_answers.specs.declared.Style.the-variants.{Lines, Table, Plan, PlanTable}
 use Rattle.text_answers.specs.rules.Answers.{starText, headingText, planHeadingText, editionText, headText, countText, countAt, tallyText}
 use Rattle.text_answers.specs.rules.Answers.{footText, refusedIn}
-use Rattle.report.specs.rules.Report.{lineBy, textBy, starsText, reportRefusal, reportOf, aloneText, rotatedOf, room}
+use Rattle.report.specs.rules.Report.{lineBy, textBy, starsText, reportRefusal, reportOf, planStyle, planOf, aloneText, rotatedOf, room}
 use Rattle.report.specs.laws.Report.{not-refused}
 
 -- ---- what differs by the style
@@ -43,8 +46,8 @@ use Rattle.report.specs.laws.Report.{not-refused}
 star-short : (style : Style) (number status : ℕ) (asc dec : Rad) → length (starText style number status asc dec) ≤ 145
 star-short Lines number status asc dec = omega (arith, line-short number status asc dec)
 star-short Table number status asc dec = row-short number status asc dec
-star-short (Plan o) number status asc dec = omega (arith, time.line-short number (plannedOf status asc dec o))
-star-short (PlanTable o) number status asc dec = plan-row-short number (plannedOf status asc dec o)
+star-short (Plan o) number status asc dec = omega (arith, time.line-short number (plannedOf status asc dec o) (againIn (plannedOf status asc dec o)))
+star-short (PlanTable o) number status asc dec = plan-row-short number (plannedOf status asc dec o) (againIn (plannedOf status asc dec o))
 
 edition-short : (edition : Edition) → length (editionText edition) ≤ 18
 unfolding editionText
@@ -125,3 +128,10 @@ rotated-has-room edition s day1 day2 = by-case (eqb no 0) refl
         let few = accepted s day1 day2 mostStars mostStars mostStars (eqb-true no 0 e) .statuses in
         omega (arith, length-append aloneText (textBy Lines edition rule s), by-short Lines edition rule s few)
     by-case false e = omega (arith, refused-short no)
+
+-- a plan at its own sidereal time
+pub plan-has-room : (table : Bool) (edition : Edition) (s : List ℕ) (day1 day2 : Float) (long lat alt : Deg)
+    → length (planOf table edition s day1 day2 long lat alt) ≤ room
+unfolding planOf
+plan-has-room table edition s day1 day2 long lat alt =
+    has-room (planStyle table (observerAt (apparentOf day2) long lat alt)) edition s day1 day2

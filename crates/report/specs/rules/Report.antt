@@ -1,13 +1,17 @@
--- The text of a list that is reduced from one day to another, in a style, and of one under the rotation of two days; of a refused call its
--- refusal alone.
+-- The text of a list that is reduced from one day to another, in a style, of its plan for a site, and of one under the rotation of two
+-- days; of a refused call its refusal alone.
 use Prim.Native.Nat.{ℕ, _+_, _*_}
-use mathlib.Core.Bool.{cond}
+use mathlib.Core.Bool.{Bool, cond}
 use mathlib.Core.List.{List, [], _++_}
 use lib.Dec.{eqb}
 use lib.Ieee.{Float}
+use Rattle.quantity.specs.declared.Deg.{Deg}
 use Rattle.quantity.specs.rules.Angle.{rad}
 use Rattle.quantity.specs.rules.Answer.{Answer, Pair, statusOf}
 use Rattle.edition.specs.declared.Edition.{Edition}
+use Rattle.transit.specs.declared.Observer.{Observer}
+use Rattle.transit.specs.rules.Observer.{observerAt}
+use Rattle.sidereal.specs.rules.Apparent.{apparentOf}
 use Rattle.lent.specs.rules.Texts.{texts}
 use Rattle.list.specs.declared.Star.{Star}
 use Rattle.list.specs.rules.Stars.{mostStars, countOf, isKept, nth}
@@ -19,7 +23,7 @@ use Rattle.rotation_list.specs.rules.Rotate.{rotatedOn}
 use Rattle.text_number.specs.rules.Bytes.{ascii}
 use Rattle.text_number.specs.rules.Refused.{refusedText}
 use Rattle.text_answers.specs.declared.Style.{Style}
-use Rattle.text_answers.specs.declared.Style.the-variants.{Lines}
+use Rattle.text_answers.specs.declared.Style.the-variants.{Lines, Plan, PlanTable}
 use Rattle.text_answers.specs.rules.Answers.{starText, headText, footText, refusalIn, refusedIn}
 
 -- star i of the list by a rule of a star; an empty place has no line
@@ -48,6 +52,15 @@ unfoldable pub reportOf : Style → Edition → List ℕ → Float → Float →
 reportOf style edition s day1 day2 =
     let no = reportRefusal style s day1 day2 in
     cond (eqb no 0) (starsText style edition s day1 day2) (refusedIn style no)
+
+-- ---- a plan: the sidereal time at Greenwich is the apparent one on the night's day
+
+abbrev pub planStyle : Bool → Observer → Style
+planStyle table o = cond table (PlanTable o) (Plan o)
+
+unfoldable pub planOf : Bool → Edition → List ℕ → Float → Float → Deg → Deg → Deg → List ℕ
+planOf table edition s day1 day2 long lat alt =
+    reportOf (planStyle table (observerAt (apparentOf day2) long lat alt)) edition s day1 day2
 
 -- ---- under one rotation
 

@@ -10,6 +10,7 @@ use Rattle.quantity.specs.rules.Angle.{rad}
 use Rattle.quantity.specs.rules.Refusal.{lower}
 use Rattle.edition.specs.declared.Edition.{Edition}
 use Rattle.edition.specs.rules.Edition.{byEdition}
+use Rattle.transit.specs.rules.Clock.{againIn}
 use Rattle.transit.specs.rules.Observer.{planRefusal, plannedOf}
 use Rattle.lent.specs.rules.Texts.{texts}
 use Rattle.list.specs.rules.Stars.{countOf, isKept, nth}
@@ -32,8 +33,8 @@ use Rattle.text_answers.specs.declared.Style.the-variants.{Lines, Table,
 abbrev pub starText : Style → ℕ → ℕ → Rad → Rad → List ℕ
 starText Lines number status asc dec = lineOf number status asc dec
 starText Table number status asc dec = rowOf number status asc dec
-starText (Plan o) number status asc dec = planLine number (plannedOf status asc dec o)
-starText (PlanTable o) number status asc dec = planRow number (plannedOf status asc dec o)
+starText (Plan o) number status asc dec = planLine number (plannedOf status asc dec o) (againIn (plannedOf status asc dec o))
+starText (PlanTable o) number status asc dec = planRow number (plannedOf status asc dec o) (againIn (plannedOf status asc dec o))
 
 -- each unit stands over the last digit of its part
 abbrev pub headingText : List ℕ

@@ -12,14 +12,16 @@ returns c =
     let c2 = c .before .before in
     let c6 = c2 .before .before .before .before in
     let c10 = c6 .before .before .before .before in
-    let c15 = c10 .before .before .before .before .before in
-    let c19 = c15 .before .before .before .before in
-    let c24 = c19 .before .before .before .before .before in
-    after (c24 .put-time .ensures)
-    (after (c19 .put .ensures) (after (c15 .put-time2 .ensures) (after (c10 .put2 .ensures) (after (c6 .put-time3 .ensures) (c2 .put-byte .ensures)))))
+    let c14 = c10 .before .before .before .before in
+    let c19 = c14 .before .before .before .before .before in
+    let c23 = c19 .before .before .before .before in
+    let c28 = c23 .before .before .before .before .before in
+    after (c28 .put-time .ensures)
+    (after (c23 .put .ensures) (after (c19 .put-time2 .ensures) (after (c14 .put2 .ensures)
+    (after (c10 .put-time3 .ensures) (after (c6 .put-again .ensures) (c2 .put-byte .ensures))))))
 
 pub put-times-row-spec : {M : Type 1} → statement M
 put-times-row-spec =
     tie.close
     (tie.spec asks-nothing (λ c. search needs) asks-nothing asks-nothing (λ c. search needs) asks-nothing asks-nothing asks-nothing
-    (λ c. search needs) returns)
+    asks-nothing (λ c. search needs) returns)

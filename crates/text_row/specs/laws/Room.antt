@@ -5,6 +5,7 @@ use mathlib.Core.Bool.{Bool}
 use mathlib.Core.List.{List, [], _∷_, _++_}
 use native.Mathlib.Omega.{arith}
 use lib.Dec.{eqb, ltb}
+use lib.Ieee.{Float}
 use lib.ListN.{length, length-append, take}
 use lib.Seq.{length-take-le}
 use Rattle.double.specs.rules.Sign.{size}
@@ -17,7 +18,7 @@ use Rattle.text_number.specs.rules.Number.{decimalText}
 use Rattle.text_number.specs.laws.Number.{decimal-short, any-decimal-short}
 use Rattle.text_time.specs.rules.Time.{secondsOf, twoDigits, clockText}
 use Rattle.text_time.specs.laws.Clock.{two-digits}
-use Rattle.text_time.specs.laws.Room.{clock-short, why-short}
+use Rattle.text_time.specs.laws.Room.{clock-short, again-short, why-short}
 use Rattle.text_refusal.specs.laws.Room.{either-short, refusal-short}
 use Rattle.text_row.specs.rules.Place.{hoursText, hundredths, arcText, degreesText}
 use Rattle.text_row.specs.rules.Row.{columnText, placeText, rowOf}
@@ -72,15 +73,16 @@ row-short number status asc dec =
     in-row number _
     (either-short 123 (eqb status 0) _ _ (omega (arith, place-text-short asc dec)) (refusal-short status))
 
-outcome-short : (a : Answer Triple) → length (outcomeRow a) ≤ 123
+outcome-short : (a : Answer Triple) (again : Float) → length (outcomeRow a again) ≤ 123
 unfolding timesRow whyRow
-outcome-short (answered (triple x y z)) =
+outcome-short (answered (triple x y z)) again =
     let a = clock-short (secondsOf x) in
     let b = clock-short (secondsOf y) in
     let c = clock-short (secondsOf z) in
+    let d = again-short again in
     simp length-append (omega arith)
-outcome-short (refused n) = either-short 123 (ltb n 15) _ _ (refusal-short n) (omega (arith, why-short n))
+outcome-short (refused n) again = either-short 123 (ltb n 15) _ _ (refusal-short n) (omega (arith, why-short n))
 
-pub plan-row-short : (number : ℕ) (a : Answer Triple) → length (planRow number a) ≤ 145
+pub plan-row-short : (number : ℕ) (a : Answer Triple) (again : Float) → length (planRow number a again) ≤ 145
 unfolding planRow
-plan-row-short number a = in-row number (outcomeRow a) (outcome-short a)
+plan-row-short number a again = in-row number (outcomeRow a again) (outcome-short a again)

@@ -14,7 +14,7 @@ use Rattle.text_row.specs.rules.PlanRow.{planRow}
 use Rattle.text_row.specs.notions.Computed.{computed}
 use Rattle.text_row.specs.notions.Wrong.{secondsNotCarried, cutNotRounded, degreesForHours, wholeTurnPrinted, notFolded}
 use Rattle.text_row.specs.notions.Wrong.{signLost, minusBeforeZero, numberAtTheLeft, refusedStarAsGood}
-use Rattle.text_row.specs.notions.Wrong.{riseAndSetTraded, lineInRow, neverRisesAsRefused}
+use Rattle.text_row.specs.notions.Wrong.{riseAndSetTraded, lineInRow, neverRisesAsRefused, againLeftOut}
 
 -- 0.0, 1.0 and −1.0
 abbrev origin : Rad
@@ -81,14 +81,19 @@ refused-star-as-good-excluded = apart ofText refl
 abbrev wholeDay : Answer Triple
 wholeDay = answered (triple zero zero one)
 
-pub rise-and-set-traded-excluded : riseAndSetTraded 1 wholeDay ≢ planRow 1 wholeDay
+pub rise-and-set-traded-excluded : riseAndSetTraded 1 wholeDay one ≢ planRow 1 wholeDay one
 unfolding computed
 rise-and-set-traded-excluded = apart ofText refl
 
-pub line-in-row-excluded : lineInRow 1 (refused 9) ≢ planRow 1 (refused 9)
+pub line-in-row-excluded : lineInRow 1 (refused 9) one ≢ planRow 1 (refused 9) one
 unfolding computed
 line-in-row-excluded = apart ofText refl
 
-pub never-rises-as-refused-excluded : neverRisesAsRefused 1 15 ≢ planRow 1 (refused 15)
+pub never-rises-as-refused-excluded : neverRisesAsRefused 1 15 ≢ planRow 1 (refused 15) one
 unfolding computed
 never-rises-as-refused-excluded = apart ofText refl
+
+-- at the day's beginning
+pub again-left-out-excluded : againLeftOut 1 wholeDay zero ≢ planRow 1 wholeDay zero
+unfolding computed
+again-left-out-excluded = apart ofText refl

@@ -5,7 +5,7 @@ use mathlib.Core.List.{List, _∷_, _++_}
 use lib.Dec.{eqb, ltb}
 use lib.Ieee.{Float, lt}
 use lib.ListN.{length, take}
-use Rattle.double.specs.rules.Operations.{zero, _⊖_}
+use Rattle.double.specs.rules.Operations.{zero, one, _⊖_}
 use Rattle.double.specs.rules.Sign.{size}
 use Rattle.double.specs.rules.Whole.{wholePart, fromWhole}
 use Rattle.quantity.specs.declared.Rad.{Rad}
@@ -20,7 +20,7 @@ use Rattle.text_time.specs.rules.Line.{outcomeText}
 use Rattle.text_refusal.specs.rules.Refusal.{refusalText}
 use Rattle.text_row.specs.rules.Place.{milliseconds, threeDigits, hundredths, arcText}
 use Rattle.text_row.specs.rules.Row.{columnText, placeText}
-use Rattle.text_row.specs.rules.PlanRow.{timesRow}
+use Rattle.text_row.specs.rules.PlanRow.{timesRow, planRow}
 
 -- ---- a right ascension
 
@@ -82,21 +82,25 @@ refusedStarAsGood number status asc dec =
 -- ---- a row in a plan
 
 -- with another text of what was found
-abbrev rowBy : (Answer Triple → List ℕ) → ℕ → Answer Triple → List ℕ
-rowBy text number a = columnText number ++ (ascii "  " ++ text a)
+abbrev rowBy : (Answer Triple → Float → List ℕ) → ℕ → Answer Triple → Float → List ℕ
+rowBy text number a again = columnText number ++ (ascii "  " ++ text a again)
 
 -- the set under rise, and the rise under set
-abbrev pub riseAndSetTraded : ℕ → Answer Triple → List ℕ
+abbrev pub riseAndSetTraded : ℕ → Answer Triple → Float → List ℕ
 riseAndSetTraded = rowBy traded
   where
-    traded : Answer Triple → List ℕ
-    traded (answered (triple rise culmination set)) = timesRow set culmination rise
-    traded (refused n) = refusalText n
+    traded : Answer Triple → Float → List ℕ
+    traded (answered (triple rise culmination set)) again = timesRow set culmination rise again
+    traded (refused n) again = refusalText n
 
 -- what the line says after the number, so that a refusal has no words
-abbrev pub lineInRow : ℕ → Answer Triple → List ℕ
+abbrev pub lineInRow : ℕ → Answer Triple → Float → List ℕ
 lineInRow = rowBy outcomeText
 
 -- a star that never rises as one that is refused
 abbrev pub neverRisesAsRefused : ℕ → ℕ → List ℕ
 neverRisesAsRefused number n = columnText number ++ (ascii "  " ++ refusalText n)
+
+-- a second culmination left unsaid
+abbrev pub againLeftOut : ℕ → Answer Triple → Float → List ℕ
+againLeftOut number a again = planRow number a one

@@ -4,15 +4,16 @@ use mathlib.Core.Bool.{Bool, true, false, cond}
 use mathlib.Core.List.{[], _∷_, _++_}
 use native.Mathlib.Omega.{arith}
 use lib.Dec.{eqb, ltb}
-use lib.Ieee.{Float}
+use lib.Ieee.{Float, lt}
 use lib.ListN.{length, length-append}
 use Rattle.quantity.specs.rules.Answer.{Answer, answered, refused, Triple, triple}
 use Rattle.text_number.specs.rules.Bytes.{ascii, space, lineEnd, colon, digit0}
 use Rattle.text_number.specs.rules.Number.{decimalText}
 use Rattle.text_number.specs.rules.Refused.{refusedText}
 use Rattle.text_number.specs.laws.Number.{any-decimal-short, refused-short}
-use Rattle.text_time.specs.rules.Time.{secondsOf, twoDigits, clockText}
-use Rattle.text_time.specs.rules.Line.{timeThen, timesText, whyText, outcomeText, planLine}
+use Rattle.double.specs.rules.Operations.{one}
+use Rattle.text_time.specs.rules.Time.{secondsOf, twoDigits, clockText, timeText}
+use Rattle.text_time.specs.rules.Line.{timeThen, againText, timesText, whyText, outcomeText, planLine}
 use Rattle.text_time.specs.laws.Clock.{two-digits}
 
 any-two-short : (n : ℕ) → length (twoDigits n) ≤ 21
@@ -53,16 +54,25 @@ why-short n = by-case (eqb n 15) (eqb n 16)
     by-case false true = omega arith
     by-case false false = refused-short n
 
-outcome-short : (a : Answer Triple) → length (outcomeText a) ≤ 84
+pub again-short : (x : Float) → length (againText x) ≤ 34
+unfolding againText
+again-short x = by-case (lt x one)
+  where
+    by-case : (b : Bool) → length (cond b (ascii " again " ++ timeText x) []) ≤ 34
+    by-case true = omega (arith, length-append (ascii " again ") (timeText x), clock-short (secondsOf x))
+    by-case false = omega arith
+
+outcome-short : (a : Answer Triple) (again : Float) → length (outcomeText a again) ≤ 118
 unfolding timesText
-outcome-short (answered (triple x y z)) =
+outcome-short (answered (triple x y z)) again =
     let a = time-short x space in
     let b = time-short y space in
-    let c = time-short z lineEnd in
+    let c = clock-short (secondsOf z) in
+    let d = again-short again in
     simp length-append (omega arith)
-outcome-short (refused n) = omega (arith, why-short n)
+outcome-short (refused n) again = omega (arith, why-short n)
 
-pub line-short : (number : ℕ) (a : Answer Triple) → length (planLine number a) ≤ 105
+pub line-short : (number : ℕ) (a : Answer Triple) (again : Float) → length (planLine number a again) ≤ 139
 unfolding planLine
-line-short number a =
-    omega (arith, length-append (decimalText number) (space ∷ outcomeText a), any-decimal-short number, outcome-short a)
+line-short number a again =
+    omega (arith, length-append (decimalText number) (space ∷ outcomeText a again), any-decimal-short number, outcome-short a again)

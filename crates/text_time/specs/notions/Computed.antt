@@ -3,9 +3,9 @@ use Prim.Native.Nat.{ℕ}
 use Rattle.double.specs.notions.Computed as double
 use Rattle.text_number.specs.notions.Computed as text
 use Rattle.text_time.specs.rules.Time.{twoDigits, clockText}
-use Rattle.text_time.specs.rules.Line.{timeThen, timesText, whyText, planLine}
+use Rattle.text_time.specs.rules.Line.{timeThen, againText, timesText, whyText, planLine}
 
 -- a name for the line below it, which is what counts
 unfoldable pub computed : ℕ
-unfolding double.computed text.computed twoDigits clockText timeThen timesText whyText planLine
+unfolding double.computed text.computed twoDigits clockText timeThen againText timesText whyText planLine
 computed = 0

@@ -4,7 +4,7 @@ use Rattle.transit.proofs.observer_in_degrees.Statement.{statement}
 use Rattle.transit.proofs.observer_in_degrees.Tie as tie
 
 returns : tie.Need-returns
-returns c = rw (c .radians2 .ensures, c .before .site-in-degrees .ensures, c .before .before .radians .ensures)
+returns c = rw (c .before .radians .ensures) at (c .observer-at .ensures)
 
 pub observer-in-degrees-spec : {M : Type 1} → statement M
-observer-in-degrees-spec = tie.close (tie.spec asks-nothing asks-nothing asks-nothing returns)
+observer-in-degrees-spec = tie.close (tie.spec asks-nothing asks-nothing returns)

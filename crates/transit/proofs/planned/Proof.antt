@@ -12,7 +12,7 @@ returns c = refuses _ refl (c .if1 .taken)
 
 returns-2 : tie.Need-returns-2
 unfolding plannedOf
-returns-2 c = goes-on refl (c .before .before .before .before .if1 .left) (c .rise-culm-set .ensures)
+returns-2 c = goes-on refl (c .before .before .before .before .before .if1 .left) (rw (c .before .rise-culm-set .ensures) at (c .by-clock .ensures))
 
 pub planned-spec : {M : Type 1} → statement M
-planned-spec = tie.close (tie.spec returns asks-nothing returns-2)
+planned-spec = tie.close (tie.spec returns asks-nothing asks-nothing returns-2)

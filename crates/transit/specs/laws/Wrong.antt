@@ -2,7 +2,7 @@
 -- answers a constant, does not meet it.
 use mathlib.Core.Path.{refl}
 use std.Logic.{_≢_}
-use Rattle.double.specs.rules.Operations.{bits, zero}
+use Rattle.double.specs.rules.Operations.{bits, zero, one}
 use Rattle.double.specs.laws.Apart.{apart}
 use Rattle.quantity.specs.declared.Deg.{Deg}
 use Rattle.quantity.specs.declared.EqPoint.{EqPoint}
@@ -12,6 +12,7 @@ use Rattle.quantity.specs.notions.Code.{ofRad, ofFloat, ofTriple, ofAnswer, unr
 use Rattle.quantity.specs.notions.Varies.{Varies}
 use Rattle.quantity.specs.notions.Stated.{r0, r½, r1, origin, northPole}
 use Rattle.transit.specs.rules.RiseCulmSet.{riseCulmSetRule}
+use Rattle.transit.specs.rules.Clock.{clockOf, againOf}
 use Rattle.transit.specs.rules.Observer.{plannedOf, observerInDegrees}
 use Rattle.transit.specs.declared.Observer.{Observer}
 use Rattle.transit.specs.notions.Stated.{equator, westOfIt, northOfIt, pole, zenith, nadir}
@@ -20,6 +21,7 @@ use Rattle.transit.specs.notions.Wrong.{riseAndSetTraded, foldLeftOut, a
 use Rattle.transit.specs.notions.Wrong.{fifteenAndSixteenTraded, limitTakenIn, quotientNotTested}
 use Rattle.transit.specs.notions.Wrong.{arcsineForArccosine, altitudePassedOver, declinationNotSteep, latitudeNotSteep, altitudeSteep}
 use Rattle.transit.specs.notions.Wrong.{statusPassedOver, degreesAsRadians, longitudeForLatitude}
+use Rattle.transit.specs.notions.Wrong.{ratioMultiplied, fractionAsClock, againADayLater}
 
 pub rise-culm-set-varies : Varies (riseCulmSetRule origin r0 westOfIt r0) (riseCulmSetRule origin r0 equator r0)
 unfolding computed
@@ -127,3 +129,17 @@ degrees-as-radians-excluded = apart (λ (o : Observer). ofRad (o .sidereal)) ref
 pub longitude-for-latitude-excluded : longitudeForLatitude none hundred none none ≢ observerInDegrees none hundred none none
 unfolding computed
 longitude-for-latitude-excluded = apart (λ (o : Observer). ofFloat (o .site .lat)) refl
+
+-- ---- by the clock
+
+pub ratio-multiplied-excluded : ratioMultiplied one ≢ clockOf one
+unfolding computed
+ratio-multiplied-excluded = apart ofFloat refl
+
+pub fraction-as-clock-excluded : fractionAsClock one ≢ clockOf one
+unfolding computed
+fraction-as-clock-excluded = apart ofFloat refl
+
+pub again-a-day-later-excluded : againADayLater zero ≢ againOf zero
+unfolding computed
+again-a-day-later-excluded = apart ofFloat refl

@@ -2,7 +2,7 @@
 use Prim.Native.Nat.{ℕ}
 use mathlib.Core.Bool.{cond}
 use lib.Ieee.{Float, neg, le, lt}
-use Rattle.double.specs.rules.Operations.{zero, one, _⊕_, _⊖_, _⊘_}
+use Rattle.double.specs.rules.Operations.{zero, one, _⊕_, _⊖_, _⊗_, _⊘_}
 use Rattle.quantity.specs.declared.Deg.{Deg}
 use Rattle.quantity.specs.declared.Rad.{Rad}
 use Rattle.quantity.specs.declared.EqPoint.{EqPoint}
@@ -14,6 +14,7 @@ use Rattle.elementary_arc.specs.rules.Arcsine.{arcsineIn}
 use Rattle.helpers.specs.rules.Angle.{turnInRadians}
 use Rattle.transit.specs.rules.Arc.{arcCosine, arcIn}
 use Rattle.transit.specs.rules.RiseCulmSet.{withinADay, culminationOf, fractions, riseCulmSetIn, observerRefusal, riseCulmSetRefusal, riseCulmSetRule}
+use Rattle.transit.specs.rules.Clock.{siderealDays}
 use Rattle.transit.specs.rules.Observer.{observerInDegrees}
 use Rattle.transit.specs.declared.Observer.{Observer}
 
@@ -122,3 +123,17 @@ degreesAsRadians sidereal long lat alt =
 
 abbrev pub longitudeForLatitude : Deg → Deg → Deg → Deg → Observer
 longitudeForLatitude sidereal long lat alt = observerInDegrees sidereal lat long alt
+
+-- ---- by the clock
+
+-- the ratio the other way
+abbrev pub ratioMultiplied : Float → Float
+ratioMultiplied fraction = fraction ⊗ siderealDays
+
+-- the fraction of the sidereal day shown as the clock's
+abbrev pub fractionAsClock : Float → Float
+fractionAsClock fraction = fraction
+
+-- a day by the clock later
+abbrev pub againADayLater : Float → Float
+againADayLater culmination = culmination ⊕ one
