@@ -311,6 +311,34 @@ static void residuals(void)
     }
 }
 
+/* A star that is up and one out of range; a day and a place that are refused. */
+static void heading(void)
+{
+    double out[3];
+    for (uint32_t i = 0; i < 64; i++)
+        AT(heading)(20000000 * i, (int32_t)(10000000 * i) - 310000000, any_rate(), any_rate(), 2415020.5, i == 1 ? 0.0 : 2462088.69, 0.1 * i, 0.9,
+                    &out[0], &out[1], &out[2]);
+    AT(heading)(1296000000, 0, 0, 0, 2415020.5, 2462088.69, 0.0, 0.9, &out[0], &out[1], &out[2]);
+    AT(heading)(0, 0, 0, 0, 2415020.5, 2462088.69, 0.0, 1.6, &out[0], &out[1], &out[2]);
+}
+
+/* Of as many as there may be: those that agree, and those of which none do; none, and one that is refused. */
+static void mean_heading(void)
+{
+    static double headings[BRUNDELAK_MOST_STARS];
+    double mean;
+    int64_t sheet[BRUNDELAK_FIGURES];
+    for (size_t i = 0; i < BRUNDELAK_MOST_STARS; i++)
+        headings[i] = i % 7 == 0 ? 180.0 : 359.9 + 0.00003 * (double)i < 360.0 ? 359.9 + 0.00003 * (double)i : 0.0;
+    AT(mean_heading)(headings, BRUNDELAK_MOST_STARS, &mean, sheet);
+    AT(mean_heading)(headings, 0, &mean, sheet);
+    for (size_t i = 0; i < 64; i++)
+        headings[i] = 5.0 * (double)i;
+    AT(mean_heading)(headings, 64, &mean, sheet);
+    headings[1] = 360.0;
+    AT(mean_heading)(headings, 64, &mean, sheet);
+}
+
 #define LISTED(name, by) {#name, (any_function *)brundelak_##name, by}
 static const struct { const char *name; any_function *f; void (*by)(void); } listed[] = {
     LISTED(batch, batch), LISTED(batch_published, batch), LISTED(rotate, batch), LISTED(rotate_published, batch),
@@ -318,7 +346,9 @@ static const struct { const char *name; any_function *f; void (*by)(void); } lis
     LISTED(radio_star, radio_star), LISTED(radio_accept, radio_accept), LISTED(radio_put_head, radio_put_head),
     LISTED(radio_put_star, radio_put_star), LISTED(radio_to_list, radio_to_list), LISTED(list_to_radio, list_to_radio),
     LISTED(list_12_to_20, list_12_to_20), LISTED(list_20_to_12, list_20_to_12),
-    LISTED(strike, strike), LISTED(add, add), LISTED(gather, gather), LISTED(residuals, residuals)};
+    LISTED(strike, strike), LISTED(add, add), LISTED(gather, gather), LISTED(residuals, residuals),
+    LISTED(heading, heading), LISTED(heading_published, heading),
+    LISTED(mean_heading, mean_heading)};
 
 enum { LISTED_COUNT = sizeof listed / sizeof *listed };
 

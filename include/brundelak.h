@@ -14,7 +14,8 @@
  *        every finite number); a declination, altitude, observer or frame latitude exceeds a quarter turn
  *        (1.5707963267948966) in size; for sine, cosine and tangent called alone: exceeds 400000.0; of refraction: an
  *        altitude outside 0.0 to 89.8 degrees; of a star in a batch: its declination, shifted by its rate, exceeds a quarter
- *        turn; of residuals: any angle, a declination too, exceeds 64.0
+ *        turn; of residuals: any angle, a declination too, exceeds 64.0; of a mark and of a mean: degrees outside 0.0 to
+ *        below 360.0
  *    4   an angle that goes into a tangent, or whose cosine divides, exceeds 1.57 in size
  *    5   a distance outside 0.0001 to 1000000.0 AU, a height outside -1000.0 to 100000.0 m, the root of a number below 0
  *    6   the sine of the new inclination, or N in topopcent_ecl_coords, is zero; in topopcent_ecl_coords_published also the
@@ -25,9 +26,9 @@
  *        at a record's start (the end itself is accepted); a record to be written elsewhere than at one of a list's 3000
  *        record starts, or without room; a count to be raised already at 60000; a star count of a radio list above 3000; a
  *        slice too short for a radio list, a part of one or the list of one, or for a list of the other width; slices of
- *        residuals that have unequal lengths, or more than 3000 entries
- *    9   a star record out of range; a star to be added whose number is 0; a status given to the tally that is neither 0 nor
- *        a number of this table (before 8)
+ *        residuals that have unequal lengths, or more than 3000 entries; no headings, or more than 3000
+ *    9   a star record out of range; a star to be added whose number is 0; a status given to the tally that is above 19
+ *        (before 8)
  *   10   no star has the number sought or to be struck, as none has number 0; of a record in a batch: an empty place
  *   11   the first byte of a radio list is neither 2 nor 3
  *   12   a number of a radio list is not in its shortest length or above 32 bits
@@ -38,8 +39,9 @@
  *   17   a star's rate is not zero, and a narrow list, to which it is to move down, has no rates
  *   18   a star to be added has the number of a record of the list, in range or not
  *   19   no place of the list is empty, so that no star can be added
- * 1 to 5 are tested first, lowest number first, over all arguments; the others as the work meets them. Residuals alone have
- * 8 before 1 and 3.
+ *   20   the headings of a mark do not agree: with none of them do more than half
+ * 1 to 5 are tested first, lowest number first, over all arguments; the others as the work meets them. Residuals and the mean
+ * of headings alone have 8 before 1 and 3.
  * Limits themselves are accepted.
  *
  * Units: angles in radians, unless degrees are named; days are Julian (Ephemeris) days; distances in astronomical units;
@@ -106,7 +108,8 @@ uint32_t brundelak_version(void);
  * of three. */
 #define BRUNDELAK_MOST_RADIO_BYTES (3 + 21 * BRUNDELAK_MOST_STARS)
 
-/* The tally: how many counts it has, the count at which one is full, and the highest status that is known. */
+/* The tally: how many counts it has, the count at which one is full, and the highest status that it knows:
+ * of a record there is no higher one. */
 #define BRUNDELAK_COUNTS 20
 #define BRUNDELAK_FULLEST 60000
 #define BRUNDELAK_HIGHEST_STATUS 19
@@ -147,7 +150,8 @@ enum brundelak_status {
     BRUNDELAK_REFUSAL_NEVER_SETS = 16,
     BRUNDELAK_REFUSAL_MOVING_STAR = 17,
     BRUNDELAK_REFUSAL_NUMBER_PRESENT = 18,
-    BRUNDELAK_REFUSAL_NO_EMPTY_PLACE = 19
+    BRUNDELAK_REFUSAL_NO_EMPTY_PLACE = 19,
+    BRUNDELAK_REFUSAL_SIGHTS_APART = 20
 };
 
 /* What a status means, as a sentence for people: also of BRUNDELAK_END, and of a number that has no name here. */
@@ -194,6 +198,8 @@ static inline const char *brundelak_sentence(uint8_t status)
         return "a star of the list has the number already";
     case BRUNDELAK_REFUSAL_NO_EMPTY_PLACE:
         return "no place of the list is empty";
+    case BRUNDELAK_REFUSAL_SIGHTS_APART:
+        return "the sights do not agree: with none of them do more than half";
     case BRUNDELAK_END:
         return "no star is left";
     default:
@@ -744,6 +750,51 @@ uint8_t brundelak_rotate_published(const uint8_t *bytes, uint64_t len, double da
  * Returned:  tally    the count of that status raised by one
  * Refusals:  9 for a status that is not known, then 8 for a count that is full, 60000; the counts stay unchanged */
 uint8_t brundelak_tally_raise(uint8_t status, uint32_t *tally);
+
+/* ---- the heading of a star, and of a mark -----------------------------------------------------------------------
+ * A heading is counted in degrees from true north, clockwise, from 0.0 to below 360.0. Azimuth is counted from south, west
+ * positive: a heading is the azimuth in degrees plus 180, folded. */
+
+/* A star's true heading, with its azimuth and altitude, from its record and the observer's place, without refraction. The star's
+ * place on day2 is the one that brundelak_batch gives; sidereal time is the apparent one on day2.
+ * Given:     asc, dec, asc_rate, dec_rate
+ *                             the star's fields as a record has them, in milliarcseconds, and milliarcseconds a year
+ *            day1             Julian day of the record's place
+ *            day2             Julian day of the sight, in universal time
+ *            long_, lat       observer's longitude, west positive, and latitude, in radians
+ * Returned:  heading          degrees from north, clockwise, 0.0 to below 360.0
+ *            azimuth          degrees from south, west positive, -180.0 to 180.0
+ *            alt              altitude in degrees, without refraction; below 0.0 where the star is not up
+ * Refusals:  1, 2, 3, then 9 (a record out of range), 3 (a declination shifted past a quarter turn), 14, 7 and 4 (the chain);
+ *            then 3 (the hour angle), 4 (the declination), 14 (no azimuth: the star is overhead, or underfoot) and 7 */
+uint8_t brundelak_heading(uint32_t asc, int32_t dec, int32_t asc_rate, int32_t dec_rate, double day1, double day2,
+                          double long_, double lat, double *heading, double *azimuth, double *alt);
+
+/* The same in the published edition: the star's place by brundelak_batch_published.
+ * Given, Returned, Refusals:  as brundelak_heading */
+uint8_t brundelak_heading_published(uint32_t asc, int32_t dec, int32_t asc_rate, int32_t dec_rate, double day1, double day2,
+                                    double long_, double lat, double *heading, double *azimuth, double *alt);
+
+/* A mark's true heading, from a star's and from what a horizontal circle reads at both, clockwise: the star's plus the
+ * difference of the readings, folded.
+ * Given:     heading        the star's heading in degrees, 0.0 to below 360.0
+ *            star_reading   what the circle reads at the star, in degrees, likewise
+ *            mark_reading   what it reads at the mark, likewise
+ * Returned:  *out           the mark's heading in degrees, 0.0 to below 360.0
+ * Refusals:  1, 3 (one of them is below 0.0, or not below 360.0) */
+uint8_t brundelak_mark_heading(double heading, double star_reading, double mark_reading, double *out);
+
+/* The mean of a night's headings of one mark, on either side of north: the reference is the first sight with which more than
+ * half of all agree, itself among them; the mean is the reference plus the mean of the residuals from it, folded. A residual is
+ * a heading less the reference across the turn, in whole milliarcseconds, halves away from zero. A sight agrees where its
+ * residual is at most 1000000 in size; one that does not is set aside.
+ * Given:     headings, headings_len   degrees, each 0.0 to below 360.0, from 1 to 3000 of them
+ * Returned:  *mean                    degrees, 0.0 to below 360.0
+ *            sheet                    BRUNDELAK_FIGURES numbers, of the residuals from the reference, as brundelak_residuals
+ *                                     has them of a coordinate; a place is an index among the headings
+ * Refusals:  8 (none, or more than 3000), then 1, then 3 (one is below 0.0, or not below 360.0), over all of them; then 20 (with
+ *            no sight more than half of all agree); mean and sheet stay unchanged */
+uint8_t brundelak_mean_heading(const double *headings, uint64_t headings_len, double *mean, int64_t *sheet);
 
 /* ---- the residuals of a night ------------------------------------------------------------------------------------
  * A residual is a computed angle less the measured one, as a whole number of milliarcseconds. In right ascension the

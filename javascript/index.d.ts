@@ -125,6 +125,17 @@ export namespace chain {
   function chain_by(edition: Edition, asc: number, dec: number, day1: number, day2: number): EqPoint;
 }
 
+export namespace heading {
+  /** Degrees: the heading from north, clockwise, 0 to below 360; the azimuth from south, west positive; the altitude without refraction. */
+  interface Sight { heading: number; azimuth: number; alt: number }
+  function heading(star: Star, day1: number, day2: number, geograph_point: GeographPoint): Sight;
+  function heading_by(edition: Edition, star: Star, day1: number, day2: number, geograph_point: GeographPoint): Sight;
+  function mark_heading(heading: number, star_reading: number, mark_reading: number): number;
+  /** The mean in degrees, 0 to below 360, and the sheet of the residuals from the reference. */
+  interface Mean { mean: number; sheet: residuals.Sheet }
+  function mean_heading(headings: Angles): Mean;
+}
+
 export namespace list {
   const RECORD_BYTES: number;
   const MOST_STARS: number;

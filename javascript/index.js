@@ -10,6 +10,7 @@ export * as chain from './chain.js';
 export * as coords from './coords.js';
 export * as earth from './earth.js';
 export * as elementary from './elementary.js';
+export * as heading from './heading.js';
 export * as list from './list.js';
 export * as nutation from './nutation.js';
 export * as parallax from './parallax.js';

@@ -1,4 +1,4 @@
-/* Fifteen functions, each put in the place of the archive's by the linker, with one slip of the boundary: fuzz must report each. */
+/* Seventeen functions, each put in the place of the archive's by the linker, with one slip of the boundary: fuzz must report each. */
 #include "brundelak.h"
 
 /* A NaN tidied, any other number kept: made quiet, made the one without sign and payload, or its sign taken away. */
@@ -30,6 +30,12 @@ uint8_t __real_brundelak_list_20_to_12(const uint8_t *bytes, uint64_t len, uint8
 uint8_t __real_brundelak_strike(uint8_t *bytes, uint64_t len, uint32_t number);
 uint8_t __real_brundelak_add(uint8_t *bytes, uint64_t len, uint32_t number, uint32_t asc, int32_t dec, int32_t asc_rate, int32_t dec_rate);
 uint8_t __real_brundelak_gather(uint8_t *bytes, uint64_t len);
+uint8_t __real_brundelak_heading(uint32_t asc, int32_t dec, int32_t asc_rate, int32_t dec_rate, double day1, double day2, double long_,
+                                 double lat, double *heading, double *azimuth, double *alt);
+uint8_t __wrap_brundelak_heading(uint32_t asc, int32_t dec, int32_t asc_rate, int32_t dec_rate, double day1, double day2, double long_,
+                                 double lat, double *heading, double *azimuth, double *alt);
+uint8_t __real_brundelak_mean_heading(const double *headings, uint64_t headings_len, double *mean, int64_t *sheet);
+uint8_t __wrap_brundelak_mean_heading(const double *headings, uint64_t headings_len, double *mean, int64_t *sheet);
 uint8_t __real_brundelak_residuals(const uint8_t *status, uint64_t status_len, const double *asc, uint64_t asc_len, const double *dec,
                                    uint64_t dec_len, const double *measured_asc, uint64_t measured_asc_len, const double *measured_dec,
                                    uint64_t measured_dec_len, int64_t *asc_sheet, int64_t *dec_sheet);
@@ -340,4 +346,43 @@ uint8_t __wrap_brundelak_residuals(const uint8_t *status, uint64_t status_len, c
             return 3;
 #endif
     return status_of;
+}
+
+uint8_t __wrap_brundelak_heading(uint32_t asc, int32_t dec, int32_t asc_rate, int32_t dec_rate, double day1, double day2, double long_,
+                                 double lat, double *heading, double *azimuth, double *alt)
+{
+    uint8_t status = __real_brundelak_heading(asc, dec, asc_rate, dec_rate, day1, day2, long_, lat, heading, azimuth, alt);
+#if SLIP == 46 /* a refusal that writes */
+    if (status == 9)
+        *alt = 0.0;
+#elif SLIP == 47 /* a heading from south */
+    if (status == 0)
+        *heading = *azimuth;
+#elif SLIP == 48 /* a record out of range answered */
+    if (status == 9)
+        return 0;
+#elif SLIP == 49 /* a float too many */
+    if (status == 0)
+        azimuth[1] = 0.0;
+#endif
+    return status;
+}
+
+uint8_t __wrap_brundelak_mean_heading(const double *headings, uint64_t headings_len, double *mean, int64_t *sheet)
+{
+    uint8_t status = __real_brundelak_mean_heading(headings, headings_len, mean, sheet);
+#if SLIP == 50 /* a refusal that writes */
+    if (status == 20)
+        *mean = 0.0;
+#elif SLIP == 51 /* sights that agree refused */
+    if (status == 0 && sheet[BRUNDELAK_FIGURE_ASIDE] == 0)
+        return 20;
+#elif SLIP == 52 /* what is set aside not counted */
+    if (status == 0)
+        sheet[BRUNDELAK_FIGURE_ASIDE] = 0;
+#elif SLIP == 53 /* a number too many */
+    if (status == 0)
+        sheet[BRUNDELAK_FIGURES] = 0;
+#endif
+    return status;
 }

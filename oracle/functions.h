@@ -30,7 +30,8 @@ typedef uint8_t call(const double *a, double *const *o);
     F(topopcent_ecl_coords, A9, O3) F(chain, A4, O2) F(dec_frm_hz_published, A3, O1) \
     F(precess_eq_coords_published, A4, O2) F(precess_eq_coords_fk5_published, A4, O2) \
     F(topopcent_ecl_coords_published, A9, O3) F(chain_published, A4, O2) F(rise_culm_set, A6, O3) \
-    F(refrac_frm_apprnt_alt, A1, O1) F(refrac_frm_true_alt, A1, O1) F(sight_alt, A1, O1) F(plan_alt, A1, O1)
+    F(refrac_frm_apprnt_alt, A1, O1) F(refrac_frm_true_alt, A1, O1) F(sight_alt, A1, O1) F(plan_alt, A1, O1) \
+    F(mark_heading, A3, O1)
 
 #define DEFINE(name, given, answered) \
     static uint8_t name(const double *a, double *const *o) { return brundelak_##name(given, answered); }

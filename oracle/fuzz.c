@@ -175,9 +175,9 @@ static void fault(int signal)
 
 /* ---- calls ---- */
 
-/* star, find, both batches, both rotations, tally_raise, put_star, those of radio lists, the moves, the edits and the residuals stand behind
- * the functions of numbers. */
-enum { KINDS = FUNCTION_COUNT + 21 };
+/* star, find, both batches, both rotations, tally_raise, put_star, those of radio lists, the moves, the edits, the residuals, both headings
+ * and the mean of headings stand behind the functions of numbers. */
+enum { KINDS = FUNCTION_COUNT + 24 };
 static uint64_t answered[KINDS], refused[KINDS], unsound;
 static size_t which;
 
@@ -937,6 +937,101 @@ static void residuals(void)
     judge(status, sound);
 }
 
+/* ---- the heading of a star ---- */
+
+typedef uint8_t sight_call(uint32_t, int32_t, int32_t, int32_t, double, double, double, double, double *, double *, double *);
+
+/* Of a star in range or not, one in eight past 1.57 in declination, which nothing moves; days, and a place that is good more often than not. */
+static void sight(sight_call *call)
+{
+    uint32_t of[WORDS];
+    double *to[3];
+    int all_kept = 1, sound = 1;
+    any_star(of);
+    for (size_t i = 0; i < 4; i++)
+        args[i] = i < 2 ? any_day() : drawn_below(4) == 0 ? any_double() : ((double)(drawn_bits() >> 11) / 9007199254740992.0 - 0.5) * 3.14;
+    if (drawn_below(8) == 0) {
+        of[2] = 323840000 + (uint32_t)drawn_below(160000);
+        of[3] = of[4] = 0;
+        args[1] = args[0];
+    }
+    for (size_t i = 0; i < 3; i++)
+        to[i] = lend_floats(&places[i], 1);
+    uint8_t status = call(of[1], (int32_t)of[2], (int32_t)of[3], (int32_t)of[4], args[0], args[1], args[2], args[3], to[0], to[1], to[2]);
+    for (size_t i = 0; i < 3; i++) {
+        all_kept &= kept(&places[i]);
+        sound &= kept_beyond(&places[i], sizeof(double)) && (status != 0 || isfinite(*to[i]));
+    }
+    if (status == 0)
+        sound &= in_range(of) && *to[0] >= 0.0 && *to[0] < 360.0 && *to[1] >= -180.0 && *to[1] <= 180.0 && *to[2] >= -90.0 && *to[2] <= 90.0;
+    int its_own = status <= 4 || status == 7 || status == 9 || status == 14;
+    judge(status, sound && (status != 9 || !in_range(of)) && (status == 0 || (all_kept && its_own)));
+}
+
+static void heading(void)
+{
+    name = "heading";
+    sight(brundelak_heading);
+}
+
+static void heading_published(void)
+{
+    name = "heading_published";
+    sight(brundelak_heading_published);
+}
+
+/* ---- the mean of headings ---- */
+
+/* Whether with none of the headings more than half of all agree, by 999.9 seconds: those that are beside the limit are left out. */
+static int none_agree(const double *of, size_t count)
+{
+    for (size_t i = 0; i < count; i++) {
+        size_t agree = 0;
+        for (size_t j = 0; j < count; j++) {
+            double off = fabs(of[i] - of[j]);
+            agree += off < 999.9 / 3600.0 || off > 360.0 - 999.9 / 3600.0;
+        }
+        if (2 * agree > count)
+            return 0;
+    }
+    return 1;
+}
+
+/* Of headings about north or elsewhere, some of them anywhere, in one set of four of any bits too. */
+static void mean_heading(void)
+{
+    name = "mean_heading";
+    size_t count = any_count(), spoilt = drawn_below(4) == 0, wide = 2 + drawn_below(6), among = drawn_below(2) ? count : 3;
+    double *to = lend(&ascs, 8 * count), *mean = lend_floats(&places[0], 1), about = drawn_below(2) ? 0.0 : 359.0 * (double)drawn_below(2);
+    uint8_t floats = 0;
+    for (size_t i = 0; i < count; i++) {
+        double part = (double)(drawn_bits() >> 11) / 9007199254740992.0;
+        double x = drawn_below(wide) == 0 ? 360.0 * part : about + 0.4 * (part - 0.5);
+        x = x < 0.0 ? x + 360.0 : x;
+        x = x < 360.0 ? x : 0.0;
+        if (spoilt && drawn_below(among) == 0)
+            x = any_double();
+        memcpy(to + i, &x, sizeof x);
+        uint8_t one = !isfinite(x) ? 1 : x < 0.0 || x >= 360.0 ? 3 : 0;
+        floats = one != 0 && (floats == 0 || one < floats) ? one : floats;
+    }
+    given(&ascs);
+    memset(lend(&statuses, count), 0, count);
+    lend(&sheets[0], SHEET);
+    uint8_t status = brundelak_mean_heading(to, count, mean, (int64_t *)sheets[0].at);
+    uint8_t want = count == 0 || count > BRUNDELAK_MOST_STARS ? 8 : floats;
+    int sound = kept(&ascs);
+    if (status == 0) {
+        int64_t taken;
+        memcpy(&taken, sheets[0].at, sizeof taken);
+        sound &= want == 0 && is_sheet(&sheets[0], count, count) && 2 * (size_t)taken > count && kept_beyond(&places[0], sizeof(double))
+            && *mean >= 0.0 && *mean < 360.0;
+    } else {
+        sound &= kept(&places[0]) && kept(&sheets[0]) && (want != 0 ? status == want : status == 20 && none_agree(to, count));
+    }
+    judge(status, sound);
+}
+
 /* ---- the guard is tried first ---- */
 
 enum { SEEN = 3 };
@@ -1007,7 +1102,8 @@ int main(int argc, char **argv)
     signal(SIGFPE, fault);
     static void (*const others[KINDS - FUNCTION_COUNT])(void) = {
         star, find, batch, batch_published, rotate, rotate_published, tally_raise, put_star, radio_open, radio_star, radio_accept,
-        radio_put_head, radio_put_star, radio_to_list, list_to_radio, list_12_to_20, list_20_to_12, strike, add, gather, residuals};
+        radio_put_head, radio_put_star, radio_to_list, list_to_radio, list_12_to_20, list_20_to_12, strike, add, gather, residuals,
+        heading, heading_published, mean_heading};
     for (at_call = 0; at_call < calls; at_call++) {
         which = drawn_below(KINDS);
         memset(args, 0, sizeof args);

@@ -293,6 +293,50 @@ static unsigned residuals(void)
     return agrees && memcmp(sheets, want, sizeof want) == 0 ? status : 999;
 }
 
+/* ---- sights ---- */
+
+typedef uint8_t sight_call(uint32_t, int32_t, int32_t, int32_t, double, double, double, double, double *, double *, double *);
+
+static unsigned sight(sight_call *call)
+{
+    uint32_t of[4];
+    double given[4], want[3], out[3];
+    untouched(want, 3);
+    untouched(out, 3);
+    for (size_t i = 0; i < 4; i++)
+        of[i] = (uint32_t)whole();
+    for (size_t i = 0; i < 4; i++)
+        given[i] = number(strtok(NULL, " \n"));
+    unsigned status = (unsigned)whole();
+    for (size_t i = 0; i < 3 && status == 0; i++)
+        want[i] = number(strtok(NULL, " \n"));
+    int agrees = call(of[0], (int32_t)of[1], (int32_t)of[2], (int32_t)of[3], given[0], given[1], given[2], given[3], &out[0], &out[1], &out[2])
+        == status;
+    return agrees && memcmp(want, out, sizeof out) == 0 ? status : 999;
+}
+
+static unsigned mean_heading(void)
+{
+    double headings[ROOM], want, out;
+    int64_t sheet[BRUNDELAK_FIGURES], figures[BRUNDELAK_FIGURES];
+    uint64_t len = (uint64_t)whole();
+    if (len > ROOM)
+        return 999;
+    untouched(&want, 1);
+    untouched(&out, 1);
+    for (size_t i = 0; i < len; i++)
+        headings[i] = number(strtok(NULL, " \n"));
+    unsigned status = (unsigned)whole();
+    if (status == 0)
+        want = number(strtok(NULL, " \n"));
+    for (size_t i = 0; i < BRUNDELAK_FIGURES; i++) {
+        sheet[i] = UNTOUCHED_FIGURE;
+        figures[i] = status == 0 ? (int64_t)whole() : UNTOUCHED_FIGURE;
+    }
+    int agrees = brundelak_mean_heading(headings, len, &out, sheet) == status && memcmp(&want, &out, sizeof out) == 0;
+    return agrees && memcmp(sheet, figures, sizeof sheet) == 0 ? status : 999;
+}
+
 /* ---- a sample of the days of 12-byte records ---- */
 
 enum { OLD = 12 };
@@ -437,6 +481,12 @@ int main(int argc, char **argv)
             status = edited(word);
         } else if (strcmp(word, "residuals") == 0) {
             status = residuals();
+        } else if (strcmp(word, "heading") == 0) {
+            status = sight(brundelak_heading);
+        } else if (strcmp(word, "heading_published") == 0) {
+            status = sight(brundelak_heading_published);
+        } else if (strcmp(word, "mean_heading") == 0) {
+            status = mean_heading();
         } else {
             size_t given_count = numbers(word, given, 9);
             word = strtok(NULL, " \n");

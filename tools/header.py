@@ -6,7 +6,8 @@ PATH = os.path.join(os.path.dirname(os.path.abspath(__file__)), '..', 'include',
 # the types that the boundary has
 SORTS = 'uint8_t', 'uint32_t', 'int32_t', 'uint64_t', 'int64_t', 'double'
 # what is lent as so many elements, by name, with the figure that says how many
-ARRAYS = {'tally': ('uint32_t', 'COUNTS'), 'asc_sheet': ('int64_t', 'FIGURES'), 'dec_sheet': ('int64_t', 'FIGURES')}
+ARRAYS = {'tally': ('uint32_t', 'COUNTS'), 'asc_sheet': ('int64_t', 'FIGURES'), 'dec_sheet': ('int64_t', 'FIGURES'),
+          'sheet': ('int64_t', 'FIGURES')}
 
 
 class Unexpected(Exception):

@@ -41,7 +41,7 @@ test('each refusal has the header\'s number, name and sentence', () => {
   }
   assert.equal(Refusal.from_number(0), null);
   assert.equal(Refusal.from_number(200).sentence, 'the call was refused');
-  assert.equal(Refusal.HIGHEST, figures.HIGHEST_STATUS);
+  assert.equal(Refusal.HIGHEST, refusals.length);
 });
 
 test('NaN, infinities and what is out of range are refused', () => {

@@ -6,7 +6,7 @@ import * as brundelak from '../index.js';
 import { status_of } from '../module.js';
 import { figures, functions } from '../raw.js';
 
-const { angle, elementary, list, precess, radio, residuals, Edition, Refusal } = brundelak;
+const { angle, elementary, heading, list, precess, radio, residuals, Edition, Refusal } = brundelak;
 const modules = Object.values(brundelak).filter((one) => typeof one === 'object' && one !== Edition);
 const WIDTH = figures.RECORD_BYTES;
 
@@ -149,6 +149,25 @@ function sheets(words) {
   return got === Number(status) && (got !== 0 || same(answer.flatMap((sheet) => Object.values(sheet)), want.map(BigInt))) ? got : null;
 }
 
+/** A star's heading, in either edition. */
+function sight(name, words) {
+  const plain = name.replace(/_published$/, '');
+  const [asc, dec, asc_rate, dec_rate] = words.slice(0, 4).map(Number);
+  const [day1, day2, long, lat] = words.slice(4, 8).map(double);
+  const star = { number: 1, asc, dec, asc_rate, dec_rate };
+  const [got, answer] = tried(() => heading.heading_by(plain === name ? Edition.Crate : Edition.Published, star, day1, day2, { long, lat }));
+  return got === Number(words[9]) && (got !== 0 || same(Object.values(answer), words.slice(10).map(double))) ? got : null;
+}
+
+/** The mean of headings, and its sheet. */
+function mean(words) {
+  const end = 1 + Number(words[0]);
+  const [, status, ...want] = words.slice(end);
+  const [got, answer] = tried(() => heading.mean_heading(Float64Array.from(words.slice(1, end), double)));
+  if (got !== Number(status)) return null;
+  return got !== 0 || (Object.is(answer.mean, double(want[0])) && same(Object.values(answer.sheet), want.slice(1).map(BigInt))) ? got : null;
+}
+
 /** All calls of a sample. */
 export function replay(text) {
   let f = null;
@@ -182,6 +201,8 @@ export function replay(text) {
     } else if (held_move(name) && /_to_/.test(name) || /^(radio_)?put_/.test(name)) status = written(name, held, rest);
     else if (name === 'strike' || name === 'add' || name === 'gather') status = edited(name, held, rest);
     else if (name === 'residuals') status = sheets(rest);
+    else if (name === 'heading' || name === 'heading_published') status = sight(name, rest);
+    else if (name === 'mean_heading') status = mean(rest);
     else {
       const end = words.indexOf('=');
       const [got, answer] = tried(() => f(words.slice(0, end).map(double)));

@@ -2,6 +2,7 @@
 //! The Rust's modules go by the routed text; what no Rust is supplied for goes by `written`.
 use atmos::{self, by_library, by_rules};
 use ceiling;
+use heading;
 use own;
 use port::{self, Lent};
 use published::{self, OWN, WRITTEN};
@@ -34,7 +35,7 @@ pub struct Function {
 }
 
 /// What the routed Rust answers, or 7 where an arcsine in it was refused by 7, 14 where an arctangent was by 14.
-fn met(work: &dyn Fn() -> Vec<f64>) -> Outcome {
+pub fn met(work: &dyn Fn() -> Vec<f64>) -> Outcome {
     met_with(work, || false)
 }
 
@@ -297,5 +298,6 @@ pub fn all() -> Vec<Function> {
             |a| Answer(vec![atmos::sight(a[0], by_rules)]), vec![atmos::sight(a[0], by_library)]),
         function!(rule brundelak_plan_alt [Sight] (1, 3)
             |a| Answer(vec![atmos::plan(a[0], by_rules)]), vec![atmos::plan(a[0], by_library)]),
+        function!(rule brundelak_mark_heading [Circle, Circle, Circle] (1, 3) |a| Answer(vec![heading::mark(a)]), vec![heading::mark(a)]),
     ]
 }

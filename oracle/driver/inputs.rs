@@ -107,6 +107,8 @@ fn at_corner(r: &mut Random, sort: Sort) -> f64 {
         Sort::Distance => r.pick(&[1.0, 0.0001, 0.00256955529, 30.0, 1000000.0]),
         Sort::Height => r.pick(&[0.0, -0.0, -1000.0, 100000.0, 1706.0]),
         Sort::Sight => r.pick(&[0.0, -0.0, 15.0, 45.0, 89.8]),
+        // A difference of small ones folds to a whole turn.
+        Sort::Circle => r.pick(&[0.0, -0.0, 1e-20, 1e-14, 90.0, 180.0, 270.0, before(360.0)]),
         _ => {
             let quarters = match sort {
                 Sort::Latitude | Sort::Steep => 2,
@@ -179,6 +181,7 @@ fn within(r: &mut Random, sort: Sort) -> f64 {
             0 => r.between(0.0, 5.0),
             _ => r.between(0.0, 89.8),
         },
+        Sort::Circle => r.between(0.0, 360.0),
     }
 }
 

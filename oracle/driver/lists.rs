@@ -80,8 +80,8 @@ pub struct Edition {
     pub chain: fn(&[f64]) -> Outcome,
 }
 
-const CRATE: Edition = Edition { name: "batch", call: brundelak_batch, chain: ::functions::chain_in };
-const PUBLISHED: Edition =
+pub const CRATE: Edition = Edition { name: "batch", call: brundelak_batch, chain: ::functions::chain_in };
+pub const PUBLISHED: Edition =
     Edition { name: "batch_published", call: brundelak_batch_published, chain: ::functions::published_chain_in };
 
 // ---- section 7
@@ -139,7 +139,7 @@ impl Record {
         format!("{} {}", self.number, self.told_but_number())
     }
 
-    fn told_but_number(&self) -> String {
+    pub fn told_but_number(&self) -> String {
         format!("{} {} {} {}", self.asc, self.dec, self.asc_rate, self.dec_rate)
     }
 }
@@ -251,7 +251,7 @@ pub fn a_bad_rate(r: &mut Random) -> i32 {
     RATES[r.below(6)]
 }
 
-fn record(r: &mut Random, stars: usize, day1: f64, day2: f64) -> Record {
+pub fn record(r: &mut Random, stars: usize, day1: f64, day2: f64) -> Record {
     const ASC: [u32; 5] = [0, 1295999999, 1296000000, 1296000001, 0xFFFFFFFF];
     const DEC: [i32; 7] = [0, 324000000, -324000000, 324000001, -324000001, -2147483648, 2147483647];
     let mut one = Record {

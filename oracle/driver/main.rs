@@ -12,6 +12,7 @@ mod atmos;
 mod ceiling;
 mod edits;
 mod functions;
+mod heading;
 mod inputs;
 mod lists;
 mod port;
@@ -172,8 +173,15 @@ fn compare(n: u64) -> bool {
 
 /// Calls on lists, and of those that differ.
 fn compare_lists(n: u64) -> (u64, u64) {
-    let all =
-        [lists::compare(n / 4), radio::compare(n), widths::compare(n), edits::compare(n), residuals::compare(n), rotation::compare(n / 16)];
+    let all = [
+        lists::compare(n / 4),
+        radio::compare(n),
+        widths::compare(n),
+        edits::compare(n),
+        residuals::compare(n),
+        rotation::compare(n / 16),
+        heading::compare(n),
+    ];
     all.iter().fold((0, 0), |t, c| (t.0 + c.0, t.1 + c.1))
 }
 
@@ -314,6 +322,8 @@ const WIDTH_LISTS: u64 = 48;
 const EDITED_LISTS: u64 = 48;
 const NIGHTS: u64 = 64;
 const ROTATED_LISTS: u64 = 24;
+const SIGHTS: u64 = 96;
+const MEANS: u64 = 96;
 
 fn sample(n: u64) {
     println!("# What the supplied Rust answers over the port's elementary functions and helpers, and these by their rules written a second");
@@ -353,6 +363,8 @@ fn sample(n: u64) {
     edits::sample(EDITED_LISTS);
     residuals::sample(NIGHTS);
     rotation::sample(ROTATED_LISTS);
+    heading::sample(SIGHTS);
+    heading::sample_means(MEANS);
 }
 
 fn main() {

@@ -72,4 +72,5 @@ exported! {
     brundelak_refrac_frm_true_alt(h)(a);
     brundelak_sight_alt(h)(a);
     brundelak_plan_alt(h)(a);
+    brundelak_mark_heading(x, y, z)(a);
 }

@@ -1,4 +1,4 @@
-//! Document 01's section 5, and what request (vii) adds to it, written a second time: which number refuses an argument of each sort.
+//! Document 01's section 5, and what later requests add to it, written a second time: which number refuses an argument of each sort.
 use std::f64::consts::FRAC_PI_2;
 
 /// What an argument is.
@@ -25,6 +25,8 @@ pub enum Sort {
     NotNegative,
     /// An altitude in degrees, of which refraction is asked.
     Sight,
+    /// Degrees on a circle.
+    Circle,
 }
 
 use self::Sort::*;
@@ -38,6 +40,7 @@ pub fn refuses(number: u8, sort: Sort, x: f64) -> bool {
         (3, Latitude) | (3, Steep) => x.abs() > FRAC_PI_2,
         (3, Alone) | (3, AloneSteep) => x.abs() > 400000.0,
         (3, Sight) => x < 0.0 || x > 89.8,
+        (3, Circle) => x < 0.0 || x >= 360.0,
         (4, Steep) | (4, AloneSteep) => x.abs() > 1.57,
         (5, Distance) => x < 0.0001 || x > 1000000.0,
         (5, Height) => x < -1000.0 || x > 100000.0,
@@ -68,5 +71,6 @@ pub fn limits(sort: Sort) -> &'static [f64] {
         AloneSteep => &[400000.0, 1.57],
         NotNegative => &[0.0, 1.0, 4.0],
         Sight => &[0.0, 89.8],
+        Circle => &[0.0, 360.0],
     }
 }

@@ -5,14 +5,14 @@ radians unless degrees are named, days are Julian (Ephemeris) days, distances in
 from south, west positive; geographical longitude is positive west."""
 from typing import Tuple
 
-from . import (aberr, angle, atmos, batch, chain, coords, earth, elementary, list, nutation, parallax, precess, radio, residuals, rotation,
-               time, transit)
+from . import (aberr, angle, atmos, batch, chain, coords, earth, elementary, heading, list, nutation, parallax, precess, radio, residuals,
+               rotation, time, transit)
 from ._library import version_number as _version_number
 from .edition import Edition
 from .refusal import Refusal
 
-__all__ = ['Edition', 'Refusal', 'aberr', 'angle', 'atmos', 'batch', 'chain', 'coords', 'earth', 'elementary', 'list', 'nutation', 'parallax',
-           'precess', 'radio', 'residuals', 'rotation', 'time', 'transit', 'version']
+__all__ = ['Edition', 'Refusal', 'aberr', 'angle', 'atmos', 'batch', 'chain', 'coords', 'earth', 'elementary', 'heading', 'list', 'nutation',
+           'parallax', 'precess', 'radio', 'residuals', 'rotation', 'time', 'transit', 'version']
 
 
 def version() -> Tuple[int, int, int]:

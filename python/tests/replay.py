@@ -7,7 +7,7 @@ import sys
 from typing import Any, Callable, Dict, List, Optional, Sequence, Tuple
 
 import brundelak
-from brundelak import _raw, angle, batch, elementary, list as lists, precess, radio, residuals
+from brundelak import _raw, angle, batch, elementary, heading, list as lists, precess, radio, residuals
 from brundelak._library import status_of
 from brundelak.coords import EclPoint, EqPoint, GeographPoint
 from brundelak.edition import Edition
@@ -168,6 +168,22 @@ class Replay:
         figures = [figure for sheet in answer or () for figure in dataclasses.astuple(sheet)]
         return self.status == int(rest[1]) and (self.status != 0 or figures == [int(word) for word in rest[2:]])
 
+    def sight(self, name: str, words: List[str]) -> bool:
+        """A star's heading, in either edition."""
+        edition = Edition.Published if name.endswith('_published') else Edition.Crate
+        star = lists.Star(1, *(int(word) for word in words[:4]))
+        day1, day2, long, lat = (double(word) for word in words[4:8])
+        self.status, answer = tried(lambda: heading.heading_by(edition, star, day1, day2, GeographPoint(long, lat)))
+        return self.status == int(words[9]) and (self.status != 0 or alike(answer, [double(word) for word in words[10:]]))
+
+    def mean(self, words: List[str]) -> bool:
+        """The mean of headings, and its sheet."""
+        end = 1 + int(words[0])
+        self.status, answer = tried(lambda: heading.mean_heading(array.array('d', [double(word) for word in words[1:end]])))
+        if self.status != 0 or words[end + 1] != '0':
+            return self.status == int(words[end + 1])
+        return alike([answer.mean], [double(words[end + 2])]) and list(dataclasses.astuple(answer.sheet)) == [int(word) for word in words[end + 3:]]
+
     def agrees(self, name: str, words: List[str]) -> bool:
         shape = _raw.FUNCTIONS['brundelak_batch']
         if name in ('star', 'radio_star'):
@@ -185,6 +201,10 @@ class Replay:
             return self.edited(name, words)
         if name == 'residuals':
             return self.sheets(words)
+        if name in ('heading', 'heading_published'):
+            return self.sight(name, words)
+        if name == 'mean_heading':
+            return self.mean(words)
         words = [name, *words]
         end = words.index('=')
         self.status, answer = tried(lambda: self.f([double(word) for word in words[:end]]))

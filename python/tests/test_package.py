@@ -55,7 +55,7 @@ class Package(unittest.TestCase):
             self.assertEqual((one.number, one.kind, one.sentence), (number, name, sentence))
         self.assertIsNone(Refusal.from_number(0))
         self.assertEqual(Refusal(200).sentence, _raw.UNNAMED)
-        self.assertEqual(Refusal.HIGHEST, _raw.HIGHEST_STATUS)
+        self.assertEqual(Refusal.HIGHEST, len(_raw.REFUSALS))
         self.assertEqual({Refusal(3), Refusal(3)}, {Refusal(3)})
 
     def test_numbers_that_are_refused(self) -> None:

@@ -16,6 +16,9 @@ pub const COUNTS: usize = 20;
 /// The count at which one is full.
 pub const FULLEST: u32 = 60000;
 
+/// The highest status that a tally knows.
+pub const HIGHEST_STATUS: u8 = 19;
+
 /// A star of a list, with its place or why it has none.
 pub type Reduced = (Star, Result<EqPoint, Refusal>);
 
@@ -106,7 +109,7 @@ pub fn batch_by(
     ffi::batch(edition, bytes, day1, day2, status, asc, dec)
 }
 
-/// A tally with the count of one status raised. Refusals: 9 for a status above [`Refusal::HIGHEST`], then 8 for a count of
+/// A tally with the count of one status raised. Refusals: 9 for a status above [`HIGHEST_STATUS`], then 8 for a count of
 /// [`FULLEST`] or more.
 pub fn tally_raise(tally: [u32; COUNTS], status: u8) -> Result<[u32; COUNTS], Refusal> {
     ffi::tally_raise(tally, status)

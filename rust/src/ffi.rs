@@ -197,6 +197,48 @@ pub fn rotate(
     stored_by(call, bytes, (day1, day2), status, asc, dec)
 }
 
+/// Heading, azimuth and altitude.
+pub fn heading(
+    edition: Edition,
+    star: &Star,
+    day1: f64,
+    day2: f64,
+    long: f64,
+    lat: f64,
+) -> Result<(f64, f64, f64), Refusal> {
+    let call = match edition {
+        Edition::Crate => raw::brundelak_heading,
+        Edition::Published => raw::brundelak_heading_published,
+    };
+    let (mut heading, mut azimuth, mut alt) = (0.0, 0.0, 0.0);
+    let status = unsafe {
+        call(
+            star.asc,
+            star.dec,
+            star.asc_rate,
+            star.dec_rate,
+            day1,
+            day2,
+            long,
+            lat,
+            &mut heading,
+            &mut azimuth,
+            &mut alt,
+        )
+    };
+    Refusal::from_status(status)?;
+    Ok((heading, azimuth, alt))
+}
+
+/// The mean, and the numbers of the sheet as C lays them out.
+pub fn mean_heading(headings: &[f64]) -> Result<(f64, [i64; FIGURES]), Refusal> {
+    let (mut mean, mut sheet) = (0.0, [0; FIGURES]);
+    let status =
+        unsafe { raw::brundelak_mean_heading(headings.as_ptr(), wide(headings.len()), &mut mean, sheet.as_mut_ptr()) };
+    Refusal::from_status(status)?;
+    Ok((mean, sheet))
+}
+
 /// The numbers of both sheets, as C lays them out.
 pub fn residuals(
     status: &[u8],

@@ -34,6 +34,7 @@ pub mod chain;
 pub mod coords;
 pub mod earth;
 pub mod elementary;
+pub mod heading;
 pub mod list;
 pub mod nutation;
 pub mod parallax;

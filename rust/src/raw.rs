@@ -254,6 +254,34 @@ extern "C" {
         tally: *mut u32,
     ) -> u8;
     pub fn brundelak_tally_raise(status: u8, tally: *mut u32) -> u8;
+    pub fn brundelak_heading(
+        asc: u32,
+        dec: i32,
+        asc_rate: i32,
+        dec_rate: i32,
+        day1: f64,
+        day2: f64,
+        long_: f64,
+        lat: f64,
+        heading: *mut f64,
+        azimuth: *mut f64,
+        alt: *mut f64,
+    ) -> u8;
+    pub fn brundelak_heading_published(
+        asc: u32,
+        dec: i32,
+        asc_rate: i32,
+        dec_rate: i32,
+        day1: f64,
+        day2: f64,
+        long_: f64,
+        lat: f64,
+        heading: *mut f64,
+        azimuth: *mut f64,
+        alt: *mut f64,
+    ) -> u8;
+    pub fn brundelak_mark_heading(heading: f64, star_reading: f64, mark_reading: f64, out: *mut f64) -> u8;
+    pub fn brundelak_mean_heading(headings: *const f64, headings_len: u64, mean: *mut f64, sheet: *mut i64) -> u8;
     pub fn brundelak_residuals(
         status: *const u8,
         status_len: u64,
@@ -371,6 +399,7 @@ macro_rules! of_numbers {
             brundelak_plan_alt plan_alt(true_alt) -> (out);
             brundelak_chain chain(old_asc, old_dec, day1, day2) -> (asc, dec);
             brundelak_chain_published chain_published(old_asc, old_dec, day1, day2) -> (asc, dec);
+            brundelak_mark_heading mark_heading(heading, star_reading, mark_reading) -> (out);
         }
     };
 }

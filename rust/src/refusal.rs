@@ -46,13 +46,15 @@ pub enum Refusal {
     NumberPresent,
     /// 19: no place of the list is empty, so that no star can be added.
     NoEmptyPlace,
+    /// 20: the headings of a mark do not agree: with none of them do more than half. No record has it as a status.
+    SightsApart,
     /// A number that this version has no name for.
     Other(u8),
 }
 
 impl Refusal {
     /// The highest number that has a name.
-    pub const HIGHEST: u8 = 19;
+    pub const HIGHEST: u8 = 20;
 
     /// The refusal that a number stands for, as a status of a batch has it; none for 0, which is no refusal.
     ///
@@ -83,6 +85,7 @@ impl Refusal {
             17 => Refusal::MovingStar,
             18 => Refusal::NumberPresent,
             19 => Refusal::NoEmptyPlace,
+            20 => Refusal::SightsApart,
             n => Refusal::Other(n),
         })
     }
@@ -114,6 +117,7 @@ impl Refusal {
             Refusal::MovingStar => 17,
             Refusal::NumberPresent => 18,
             Refusal::NoEmptyPlace => 19,
+            Refusal::SightsApart => 20,
             Refusal::Other(n) => n,
         }
     }
@@ -140,6 +144,7 @@ impl Refusal {
             Refusal::MovingStar => "a star's rate is not zero, and a record of 12 bytes has no rates",
             Refusal::NumberPresent => "a star of the list has the number already",
             Refusal::NoEmptyPlace => "no place of the list is empty",
+            Refusal::SightsApart => "the sights do not agree: with none of them do more than half",
             Refusal::Other(_) => "the call was refused",
         }
     }

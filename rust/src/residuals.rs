@@ -26,7 +26,7 @@ pub struct Sheet {
 }
 
 impl Sheet {
-    fn of([count, sum, squares, largest, place, aside]: [i64; FIGURES]) -> Sheet {
+    pub(crate) fn of([count, sum, squares, largest, place, aside]: [i64; FIGURES]) -> Sheet {
         Sheet { count, sum, squares, largest, place, aside }
     }
 

@@ -225,7 +225,7 @@ fn a_batch_is_the_chain_at_each_star() {
 fn a_tally_counts_known_statuses() {
     let once = batch::tally_raise([0; batch::COUNTS], 9).unwrap();
     assert_eq!((once[9], once.iter().sum::<u32>()), (1, 1));
-    let highest = Refusal::HIGHEST;
+    let highest = batch::HIGHEST_STATUS;
     assert_eq!(batch::tally_raise(once, highest).map(|t| (t[9], t[highest as usize])), Ok((1, 1)));
     assert_eq!(batch::tally_raise(once, highest + 1), Err(Refusal::Record));
     assert_eq!(batch::tally_raise([batch::FULLEST; batch::COUNTS], 0), Err(Refusal::List));

@@ -2,6 +2,7 @@
 pub mod Stored
 pub mod Edits
 pub mod Residuals
+pub mod Sights
 pub mod Put
 pub mod Radio
 pub mod Unique

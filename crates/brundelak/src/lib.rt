@@ -8,6 +8,7 @@ pub mod reduction; // precession, nutation, aberration, the chain
 pub mod time; // sidereal time
 pub mod observer; // parallax; rise, culmination and set
 pub mod refraction; // refraction at the sight
+pub mod sights; // the heading of a star and of a mark, and their mean
 pub mod stored; // the stored list and the batch
 pub mod published; // the published edition of what has two
 pub mod radio; // lists over the radio link

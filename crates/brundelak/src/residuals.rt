@@ -6,7 +6,7 @@ use residual_sheet::Sheet;
 use residual_sheet::Sheets;
 
 // The six numbers of a sheet, in their order.
-fn numbers(s: Sheet) -> [i64; 6]
+pub fn numbers(s: Sheet) -> [i64; 6]
     ensures { λ r. ⌜ r ≡ numbersOf s ⌝ }
 {
     [s.count, s.sum, s.squares, s.largest, s.place, s.aside]

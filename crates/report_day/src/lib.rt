@@ -109,7 +109,7 @@ fn put_angle(out: &mut [u8], at: usize, x: Rad) -> usize
 // ---- a day
 
 // What is said where UT1 is taken for UTC.
-fn put_open(out: &mut [u8], at: usize, utc: bool) -> usize
+pub fn put_open(out: &mut [u8], at: usize, utc: bool) -> usize
     ensures { λ r. ⌜ Wrote (now (out .entry)) at (openText utc) (now (out .exit)) r ⌝ }
 {
     if utc {

@@ -9,7 +9,7 @@ ghost use Rattle.double.specs.rules.Operations.{bits};
 ghost use Rattle.quantity.specs.rules.Angle.{rad};
 ghost use Rattle.quantity.specs.rules.Refusal.{lower, angleRefusal};
 ghost use Rattle.list.specs.rules.Stars.{mostStars};
-ghost use Rattle.residual_sheet.specs.rules.Residual.{difference, acrossTurn, inMilliarcseconds, isAside, residualOf};
+ghost use Rattle.residual_sheet.specs.rules.Residual.{difference, acrossTurn, rounded, inMilliarcseconds, isAside, residualOf};
 ghost use Rattle.residual_sheet.specs.rules.Entry.{entryOf, entriesOf};
 ghost use Rattle.residual_sheet.specs.rules.Residuals.{sheetIn, lengthsRefusal, floatsRefusal, residualsRefusal, shownSheets, residualsRule};
 ghost use Rattle.residual_sheet.specs.rules.Running.{above, below, placeAfter, onward, runningOf, sheetFrom, AtMost};
@@ -71,16 +71,22 @@ fn across_turn(x: Rad) -> Rad
     y
 }
 
-// An angle in whole milliarcseconds.
-fn in_milliarcseconds(x: Rad) -> Residual
-    ensures { λ r. ⌜ r ≡ inMilliarcseconds x ⌝ }
+// Milliarcseconds to the nearest whole number.
+pub fn rounded(y: f64) -> Residual
+    ensures { λ r. ⌜ r ≡ rounded y ⌝ }
 {
-    let y = units::milliarcseconds(units::to_degrees(x));
     let n = units::nearest_whole(double::size(y));
     Residual {
         minus: units::has_minus(y, n),
         size: n,
     }
+}
+
+// An angle in whole milliarcseconds.
+fn in_milliarcseconds(x: Rad) -> Residual
+    ensures { λ r. ⌜ r ≡ inMilliarcseconds x ⌝ }
+{
+    rounded(units::milliarcseconds(units::to_degrees(x)))
 }
 
 // The residual of an angle: of a right ascension, which is taken across the turn, or of a declination, which is not.
@@ -135,7 +141,7 @@ fn place_after(count: u64, largest: u64, place: u64, n: u64, i: u64) -> u64
 }
 
 // The figures after an entry at place i.
-fn onward(r: Running, i: u64, status: u8, x: Residual) -> Running
+pub fn onward(r: Running, i: u64, status: u8, x: Residual) -> Running
     requires { ⌜ AtMost i r ⌝ }
     ensures { λ s. ⌜ s ≡ onward r i (entryOf status x) ⌝ }
 {
@@ -198,7 +204,7 @@ fn running_of(across: bool, status: &[u8], computed: &[u64], measured: &[u64]) -
 }
 
 // The figures as they are handed out, the two parts of the sum as one number.
-fn sheet_from(r: Running) -> Sheet
+pub fn sheet_from(r: Running) -> Sheet
     requires { ⌜ AtMost mostStars r ⌝ }
     ensures { λ s. ⌜ s ≡ sheetFrom r ⌝ }
 {

@@ -55,7 +55,7 @@ fn folded(x: f64) -> Rad
 }
 
 // From the mean one, nutation and the mean obliquity.
-fn apparent_from(mean: Rad, n: Nutations, mean_oblq: Rad) -> Rad
+pub fn apparent_from(mean: Rad, n: Nutations, mean_oblq: Rad) -> Rad
     ensures { λ r. ⌜ r ≡ apparentFrom mean n «mean_oblq» ⌝ }
 {
     let from = mean.0;

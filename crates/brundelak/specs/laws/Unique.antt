@@ -12,6 +12,7 @@ use Rattle.list.specs.rules.Reader.{Item}
 use Rattle.list.specs.declared.Star.{Star}
 use Rattle.list_groups.specs.rules.Reading.{AtOffset}
 use Rattle.residual_sheet.specs.rules.Residuals.{TwoSheets}
+use Rattle.heading_mean.specs.rules.Mean.{MeanAndSheet}
 use Rattle.star_store.specs.declared.Tallied.{Tallied}
 use Rattle.star_store.specs.laws.Stored.{stored-fixes-all}
 use Rattle.brundelak.specs.rules.Stored.{HandedFound, HandedStar, HandedStored, HandedRaise}
@@ -19,6 +20,7 @@ use Rattle.brundelak.specs.rules.Put.{HandedNumber, HandedPut}
 use Rattle.brundelak.specs.rules.Radio.{HandedOpened, HandedReceived}
 use Rattle.brundelak.specs.rules.Edits.{HandedEdit}
 use Rattle.brundelak.specs.rules.Residuals.{HandedSheets}
+use Rattle.brundelak.specs.rules.Sights.{HandedMean}
 
 pub one-handed-found : {a : Answer Entry} {n m index asc i i′ r r′ : ℕ} {dec ascRate decRate d d′ u u′ v v′ : ℤ}
     → HandedFound a n index asc dec ascRate decRate i r d u v → HandedFound a m index asc dec ascRate decRate i′ r′ d′ u′ v′
@@ -75,3 +77,10 @@ pub one-handed-sheets : {r : Answer TwoSheets} {n m : ℕ} {asc dec x x′ y y�
     → HandedSheets r m asc dec x′ y′ → (n ≡ m) × ((x ≡ x′) × (y ≡ y′))
 one-handed-sheets t u =
     (t .answers ∙ sym (u .answers), (t .leaves-asc ∙ sym (u .leaves-asc), t .leaves-dec ∙ sym (u .leaves-dec)))
+
+-- ---- the mean of headings
+
+pub one-handed-mean : {r : Answer MeanAndSheet} {n m old k k′ : ℕ} {sheet s s′ : List ℤ} → HandedMean r n old sheet k s
+    → HandedMean r m old sheet k′ s′ → (n ≡ m) × ((k ≡ k′) × (s ≡ s′))
+one-handed-mean t u =
+    (t .answers ∙ sym (u .answers), (t .leaves-mean ∙ sym (u .leaves-mean), t .leaves-sheet ∙ sym (u .leaves-sheet)))

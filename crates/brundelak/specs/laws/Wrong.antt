@@ -9,6 +9,7 @@ use lib.Ieee.{inf}
 use lib.ListN.{getD}
 use Rattle.double.specs.notions.Code.{ofNumber}
 use Rattle.double.specs.laws.Apart.{apart}
+use Rattle.quantity.specs.declared.Deg.{Deg}
 use Rattle.quantity.specs.rules.Answer.{Answer, answered, Pair}
 use Rattle.quantity.specs.rules.Refusal.{epoch}
 use Rattle.quantity.specs.notions.Computed.{computed}
@@ -34,6 +35,7 @@ use Rattle.list_edit.specs.rules.Edit.{strikeRule, addRule, gatherRule}
 use Rattle.list_edit.specs.notions.Computed as edits
 use Rattle.residual_sheet.specs.declared.Sheet.{Sheet}
 use Rattle.residual_sheet.specs.rules.Residuals.{residualsRule, residualsRefusal, lengthsRefusal, two}
+use Rattle.heading_mean.specs.rules.Mean.{numberRefusal, headingsRefusal, meanHeadingRule, mean}
 use Rattle.star_store.specs.declared.Tallied.{Tallied}
 use Rattle.list.specs.rules.Stars.{isList, countOf, stars}
 use Rattle.star_store.specs.rules.Stored.{storeRefusal}
@@ -42,6 +44,7 @@ use Rattle.brundelak.specs.rules.Put.{HandedNumber, HandedPut}
 use Rattle.brundelak.specs.rules.Edits.{HandedEdit}
 use Rattle.brundelak.specs.rules.Radio.{HandedOpened, HandedReceived}
 use Rattle.brundelak.specs.rules.Residuals.{numbersOf, HandedSheets}
+use Rattle.brundelak.specs.rules.Sights.{HandedMean}
 use Rattle.brundelak.specs.rules.Version.{version}
 
 -- a star found at index 7, at 5, 3, with yearly changes of 1 and 2
@@ -164,6 +167,17 @@ squares-before-the-sum-excluded dec wrong = apart (λ (l : List ℤ). natAbs (ge
 pub sheet-of-a-refused-call-written-excluded : ¬ HandedSheets (residualsRule (0 ∷ 0 ∷ []) [] [] [] []) 8 [] (pos 9 ∷ []) [] (pos 0 ∷ [])
 unfolding computed residualsRule residualsRefusal lengthsRefusal
 sheet-of-a-refused-call-written-excluded wrong = apart (λ (l : List ℤ). natAbs (getD l 0 (pos 0))) refl (wrong .leaves-dec)
+
+-- ---- the mean of headings
+
+-- no headings, which is refused, and the mean is cleared all the same
+pub mean-of-a-refused-call-written-excluded : (sheet : List ℤ) → ¬ HandedMean (meanHeadingRule []) 8 9 sheet 0 sheet
+unfolding computed meanHeadingRule headingsRefusal numberRefusal
+mean-of-a-refused-call-written-excluded sheet wrong = apart ofNumber refl (wrong .leaves-mean)
+
+-- the sheet is left as it was where the call is answered
+pub sheet-of-a-mean-left-excluded : (x : Deg) (new : ℕ) → ¬ HandedMean (answered (mean x ofAsc)) 0 0 [] new []
+sheet-of-a-mean-left-excluded x new wrong = apart (λ (l : List ℤ). natAbs (getD l 0 (pos 0))) refl (wrong .leaves-sheet)
 
 -- ---- the version
 

@@ -57,7 +57,7 @@ angle-short x =
     let c = hours-twelve-bytes x in
     simp length-append (omega arith)
 
-open-short : (utc : Bool) → length (openText utc) ≤ 58
+pub open-short : (utc : Bool) → length (openText utc) ≤ 58
 unfolding openText
 open-short true = omega arith
 open-short false = omega arith

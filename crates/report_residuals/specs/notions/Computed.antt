@@ -11,12 +11,12 @@ use Rattle.star_store.specs.rules.Stored.{storeRefusal}
 use Rattle.batch.specs.rules.Star.{starRule}
 use Rattle.text_measured.specs.rules.Sights.{entriesFrom, endingFrom, sightsRule}
 use Rattle.report_residuals.specs.rules.Came.{cameTo}
-use Rattle.residual_sheet.specs.rules.Residuals.{lengthsRefusal, floatsRefusal, residualsRefusal, residualsRule}
+use Rattle.residual_sheet.specs.rules.Residuals.{lengthsRefusal, leastRefusal, residualsRefusal, residualsRule}
 use Rattle.report_residuals.specs.rules.Text.{sheetsReport}
 use Rattle.report_residuals.specs.rules.Report.{nightReport, reportOf}
 
 -- a name for the line below it, which is what counts
 unfoldable pub computed : ℕ
 unfolding quantity.computed list.computed text.computed measured.computed then daysRefusal starRefusal starRule storeRefusal entriesFrom endingFrom sightsRule
-    lengthsRefusal floatsRefusal residualsRefusal residualsRule cameTo sheetsReport nightReport reportOf
+    lengthsRefusal leastRefusal residualsRefusal residualsRule cameTo sheetsReport nightReport reportOf
 computed = 0

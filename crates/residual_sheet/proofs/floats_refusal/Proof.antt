@@ -6,8 +6,8 @@ use lib.ListN.{length, drop}
 use borrow.Author.Needs.{needs}
 use Rattle.double.specs.laws.Calls.{asks-nothing}
 use Rattle.quantity.specs.rules.Refusal.{lower}
-use Rattle.residual_sheet.specs.rules.Residuals.{floatsRefusal}
-use Rattle.residual_sheet.specs.laws.Residuals.{floats-next, floats-done}
+use Rattle.residual_sheet.specs.rules.Residuals.{floatRefusal, floatsRefusal}
+use Rattle.residual_sheet.specs.laws.Residuals.{least-next, least-done}
 use Rattle.residual_sheet.proofs.floats_refusal.Statement.{statement}
 use Rattle.residual_sheet.proofs.floats_refusal.Tie as tie
 
@@ -23,13 +23,13 @@ loop-again c =
     let s = pass .before .before .before .args .s .now in (
       omega (arith, pass .loop-test .taken),
       ap (λ (n : ℕ). lower n (floatsRefusal (drop (pass .before .loop .i + 1) s))) (c .refusal-after .ensures)
-          ∙ floats-next s (pass .before .loop .i) (pass .before .loop .refusal) (pass .loop-test .taken)
+          ∙ least-next floatRefusal s (pass .before .loop .i) (pass .before .loop .refusal) (pass .loop-test .taken)
           ∙ pass .before .loop .inv .1,
     )
 
 returns : tie.Need-returns Inv-loop μ-loop
 returns c =
-    floats-done (c .before .before .before .args .s .now) (c .before .loop .i) (c .before .loop .refusal) (omega (arith, c .loop-test .left))
+    least-done floatRefusal (c .before .before .before .args .s .now) (c .before .loop .i) (c .before .loop .refusal) (omega (arith, c .loop-test .left))
     ∙ c .before .loop .inv .1
 
 pub floats-refusal-spec : {M : Type 1} → statement M

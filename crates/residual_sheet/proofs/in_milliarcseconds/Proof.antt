@@ -7,11 +7,8 @@ use Rattle.residual_sheet.proofs.in_milliarcseconds.Tie as tie
 returns : tie.Need-returns
 unfolding inMilliarcseconds
 returns c =
-    let at-nearest = c .before in
-    let at-size = at-nearest .before in
-    let at-milliarcseconds = at-size .before in
-    let at-degrees = at-milliarcseconds .before in
-    rw (c .has-minus .ensures, at-nearest .nearest-whole .ensures, at-size .size .ensures, at-milliarcseconds .milliarcseconds .ensures, at-degrees .to-degrees .ensures)
+    let at-milliarcseconds = c .before in
+    rw (at-milliarcseconds .milliarcseconds .ensures, at-milliarcseconds .before .to-degrees .ensures) at (c .rounded .ensures)
 
 pub in-milliarcseconds-spec : {M : Type 1} → statement M
-in-milliarcseconds-spec = tie.close (tie.spec asks-nothing asks-nothing asks-nothing asks-nothing asks-nothing returns)
+in-milliarcseconds-spec = tie.close (tie.spec asks-nothing asks-nothing asks-nothing returns)

@@ -31,7 +31,7 @@ use Rattle.units.specs.laws.Nearest.{nearest-true}
 use Rattle.remainder.specs.laws.Tests.{size-from-zero}
 use Rattle.helpers.specs.rules.Angle.{turnInRadians, withinTwoPI, limitToTwoPIRule}
 use Rattle.helpers.specs.laws.Limit.{limited-radians}
-use Rattle.residual_sheet.specs.rules.Residual.{difference, takenBack, acrossTurn, unrounded, inMilliarcseconds, residualOf}
+use Rattle.residual_sheet.specs.rules.Residual.{difference, takenBack, acrossTurn, unrounded, rounded, inMilliarcseconds, residualOf}
 
 -- 128.0
 abbrev widest : Float
@@ -90,7 +90,7 @@ module _ (x : Rad) (i : Between (neg widest) widest (x .0)) where
       (unfold round toUnsigned in lit≤ tt)
 
   in-milliarcseconds-nearest : IsNearest (inMilliarcseconds x .size) (size (unrounded x))
-  unfolding inMilliarcseconds
+  unfolding inMilliarcseconds rounded
   in-milliarcseconds-nearest =
       let h = whole-at-most in
       let finite = is-true (isFinite (unrounded x)) (in-milliarcseconds-within .finite) in

@@ -28,7 +28,7 @@ use Rattle.residual_sheet.specs.rules.Residual.{difference, acrossTurn, 
 use Rattle.residual_sheet.specs.laws.Residual.{asc-nearest, dec-nearest}
 use Rattle.residual_sheet.specs.declared.Sheets.{Sheets}
 use Rattle.residual_sheet.specs.declared.Sheets.the-variants.{Are, Refused}
-use Rattle.residual_sheet.specs.rules.Residuals.{lengthsRefusal, floatsRefusal, residualsRefusal, shownSheets}
+use Rattle.residual_sheet.specs.rules.Residuals.{lengthsRefusal, leastRefusal, floatRefusal, floatsRefusal, residualsRefusal, shownSheets}
 use Rattle.residual_sheet.specs.notions.Place.{Some, none, some, Order, less, same, more}
 use Rattle.residual_sheet.specs.notions.Accepted.{OneLength, Accepted}
 use Rattle.residual_sheet.specs.laws.Parts.{some-or-none, compare, is-none, is-some}
@@ -83,29 +83,37 @@ pub near-changes-nothing : (n b : ℕ) → size (bits b) ≼ farthest → n ≡ 
 unfolding angleRefusal
 near-changes-nothing n b h = sym (lower-none-last n _ (past-none (bits b) farthest 3 finite-farthest h))
 
-next-float : (s : List ℕ) (i : ℕ) → i < length s
-    → floatsRefusal (drop i s) ≡ lower (angleRefusal (rad (bits (getD s i 0)))) (floatsRefusal (drop (suc i) s))
-unfolding floatsRefusal
-next-float [] i h = absurd (omega arith)
-next-float (b ∷ bs) zero h = refl
-next-float (b ∷ bs) (suc i) h = next-float bs i (le-of-suc-le-suc h)
+-- one after the other
+module _ (f : ℕ → ℕ) where
+  next-least : (s : List ℕ) (i : ℕ) → i < length s → leastRefusal f (drop i s) ≡ lower (f (getD s i 0)) (leastRefusal f (drop (suc i) s))
+  unfolding leastRefusal
+  next-least [] i h = absurd (omega arith)
+  next-least (b ∷ bs) zero h = refl
+  next-least (b ∷ bs) (suc i) h = next-least bs i (le-of-suc-le-suc h)
 
-pub floats-next : (s : List ℕ) (i n : ℕ) → i < length s
-    → lower (lower n (angleRefusal (rad (bits (getD s i 0))))) (floatsRefusal (drop (i + 1) s)) ≡ lower n (floatsRefusal (drop i s))
-floats-next s i n h =
-    ap (λ (k : ℕ). lower (lower n (angleRefusal (rad (bits (getD s i 0))))) (floatsRefusal (drop k s))) (add-one i)
-    ∙ lower-associates n (angleRefusal (rad (bits (getD s i 0)))) (floatsRefusal (drop (suc i) s))
-    ∙ ap (lower n) (sym (next-float s i h))
+  pub least-next : (s : List ℕ) (i n : ℕ) → i < length s
+      → lower (lower n (f (getD s i 0))) (leastRefusal f (drop (i + 1) s)) ≡ lower n (leastRefusal f (drop i s))
+  least-next s i n h =
+      ap (λ (k : ℕ). lower (lower n (f (getD s i 0))) (leastRefusal f (drop k s))) (add-one i)
+      ∙ lower-associates n (f (getD s i 0)) (leastRefusal f (drop (suc i) s))
+      ∙ ap (lower n) (sym (next-least s i h))
 
-none-left : (s : List ℕ) (i : ℕ) → length s ≤ i → floatsRefusal (drop i s) ≡ 0
-unfolding floatsRefusal
-none-left [] zero h = refl
-none-left [] (suc i) h = refl
-none-left (b ∷ bs) zero h = absurd (omega arith)
-none-left (b ∷ bs) (suc i) h = none-left bs i (le-of-suc-le-suc h)
+  none-left : (s : List ℕ) (i : ℕ) → length s ≤ i → leastRefusal f (drop i s) ≡ 0
+  unfolding leastRefusal
+  none-left [] zero h = refl
+  none-left [] (suc i) h = refl
+  none-left (b ∷ bs) zero h = absurd (omega arith)
+  none-left (b ∷ bs) (suc i) h = none-left bs i (le-of-suc-le-suc h)
 
-pub floats-done : (s : List ℕ) (i n : ℕ) → length s ≤ i → n ≡ lower n (floatsRefusal (drop i s))
-floats-done s i n h = sym (lower-none-last n (floatsRefusal (drop i s)) (none-left s i h))
+  pub least-done : (s : List ℕ) (i n : ℕ) → length s ≤ i → n ≡ lower n (leastRefusal f (drop i s))
+  least-done s i n h = sym (lower-none-last n (leastRefusal f (drop i s)) (none-left s i h))
+
+  -- where there is none, none of them has one
+  pub least-accepted : (s : List ℕ) (i : ℕ) → i < length s → leastRefusal f s ≡ 0 → f (getD s i 0) ≡ 0
+  unfolding leastRefusal
+  least-accepted [] i h e = absurd (omega arith)
+  least-accepted (b ∷ bs) zero h e = lower-none (f b) (leastRefusal f bs) e .0
+  least-accepted (b ∷ bs) (suc i) h e = least-accepted bs i (le-of-suc-le-suc h) (lower-none (f b) (leastRefusal f bs) e .1)
 
 -- ---- slices that are not refused
 
@@ -137,11 +145,7 @@ lengths-accepted n a b c d e = equal (by-flag (eqb a n && eqb b n && eqb c n && 
 
 -- each float is within the limit
 pub floats-accepted : (s : List ℕ) (i : ℕ) → i < length s → floatsRefusal s ≡ 0 → size (bits (getD s i 0)) ≼ farthest
-unfolding floatsRefusal
-floats-accepted [] i h e = absurd (omega arith)
-floats-accepted (b ∷ bs) zero h e = angle-accepted (rad (bits b)) (lower-none (angleRefusal (rad (bits b))) (floatsRefusal bs) e .0)
-floats-accepted (b ∷ bs) (suc i) h e =
-    floats-accepted bs i (le-of-suc-le-suc h) (lower-none (angleRefusal (rad (bits b))) (floatsRefusal bs) e .1)
+floats-accepted s i h e = angle-accepted (rad (bits (getD s i 0))) (least-accepted floatRefusal s i h e)
 
 -- and its bits are no NaN's
 pub floats-no-nan : (s : List ℕ) (i : ℕ) → i < length s → floatsRefusal s ≡ 0 → T (not (nanBits binary64 (getD s i 0)))

@@ -20,6 +20,7 @@ use Rattle.lent.specs.rules.Rows.{upto}
 use Rattle.lent.specs.laws.Upto.{length-upto}
 use Rattle.list.specs.rules.Stars.{mostStars}
 use Rattle.residual_sheet.specs.declared.Residual.{Residual}
+use Rattle.residual_sheet.specs.declared.Running.{Running}
 use Rattle.residual_sheet.specs.rules.Residual.{residualOf, wholeOf, farthestTaken, isAside}
 use Rattle.residual_sheet.specs.rules.Entry.{Entry, other, aside, taken, entryOf, entryAt, entriesOf}
 use Rattle.residual_sheet.specs.rules.Sheet.{takenIn, asideOf, sumOf, squaresOf, largestOf, firstPlace, placeOf, figuresOf, sheetOf}
@@ -207,7 +208,7 @@ interchange a b c d =
     ∙ ap (λ (z : ℤ). a +ℤ z) (sym (+ℤ-assoc b c d) ∙ ap (λ (z : ℤ). z +ℤ d) (+ℤ-comm b c) ∙ +ℤ-assoc c b d)
     ∙ sym (+ℤ-assoc a c (b +ℤ d))
 
-whole-in-parts : (x : Residual) → wholeOf x ≡ pos (above x) -ℤ pos (below x)
+pub whole-in-parts : (x : Residual) → wholeOf x ≡ pos (above x) -ℤ pos (below x)
 whole-in-parts x = by-sign (x .minus)
   where
     by-sign : (b : Bool) → cond b (negℤ (pos (x .size))) (pos (x .size)) ≡ pos (cond b 0 (x .size)) -ℤ pos (cond b (x .size) 0)
@@ -263,43 +264,50 @@ near-entry status x es n = by-status (eqb status 0) (isAside x) refl
     by-status true true e = n
     by-status true false e = (nltb→le farthestTaken (x .size) (rw e tt), n)
 
-near-entries : (n : ℕ) (s : ℕ → ℕ) (g : ℕ → Residual) → AllNear (takenIn (upto n (λ (i : ℕ). entryOf (s i) (g i))))
+pub near-entries : (n : ℕ) (s : ℕ → ℕ) (g : ℕ → Residual) → AllNear (takenIn (upto n (λ (i : ℕ). entryOf (s i) (g i))))
 near-entries zero s g = tt
 near-entries (suc n) s g =
     near-entry (s zero) (g zero) (upto n (λ (i : ℕ). entryOf (s (suc i)) (g (suc i)))) (near-entries n (λ (i : ℕ). s (suc i)) (λ (i : ℕ). g (suc i)))
 
--- the figures after n entries of slices
+-- the figures after n entries, each by a rule of its place
+pub entry-more : (n : ℕ) (f : ℕ → Entry) → onward (runningOf (upto n f)) n (f n) ≡ runningOf (upto (n + 1) f)
+entry-more n f =
+    ap (λ (k : ℕ). onward (runningOf (upto n f)) k (f n)) (sym (length-upto n f))
+    ∙ grows (upto n f) (f n)
+    ∙ ap runningOf (sym (upto-last n f))
+    ∙ ap (λ (k : ℕ). runningOf (upto k f)) (sym (add-one n))
+
+pub entries-at-most : (n : ℕ) (s : ℕ → ℕ) (g : ℕ → Residual) → n ≤ mostStars → AtMost n (runningOf (upto n (λ (i : ℕ). entryOf (s i) (g i))))
+entries-at-most n s g h =
+    let f : ℕ → Entry = λ (i : ℕ). entryOf (s i) (g i) in
+    subst (λ (k : ℕ). AtMost k (runningOf (upto n f))) (length-upto n f)
+    (grown-at-most (upto n f) (near-entries n s g) (omega (arith, h, length-upto n f)))
+
+-- what so few entries come to, all of them come to at most
+pub few-at-most : (n : ℕ) (r : Running) → AtMost n r → AtMost mostStars r
+few-at-most n r b =
+    record {
+      few = omega arith;
+      counted = omega (arith, b .few, b .counted);
+      sizes = b .sizes;
+      squared = b .squared;
+      large = b .large;
+      placed = omega (arith, b .few, b .placed);
+    }
+
+-- those of slices
 module _ (across : Bool) (status computed measured : List ℕ) where
   abbrev first : ℕ → List Entry
   first n = upto n (entryAt across status computed measured)
 
   pub one-more : (n : ℕ) → onward (runningOf (first n)) n (entryAt across status computed measured n) ≡ runningOf (first (n + 1))
-  one-more n =
-      ap (λ (k : ℕ). onward (runningOf (first n)) k (entryAt across status computed measured n))
-      (sym (length-upto n (entryAt across status computed measured)))
-      ∙ grows (first n) (entryAt across status computed measured n)
-      ∙ ap runningOf (sym (upto-last n (entryAt across status computed measured)))
-      ∙ ap (λ (k : ℕ). runningOf (first k)) (sym (add-one n))
-
-  pub first-near : (n : ℕ) → AllNear (takenIn (first n))
-  unfolding entryAt
-  first-near n =
-      near-entries n (λ (i : ℕ). getD status i 0)
-      (λ (i : ℕ). residualOf across (rad (bits (getD computed i 0))) (rad (bits (getD measured i 0))))
+  one-more n = entry-more n (entryAt across status computed measured)
 
   pub first-at-most : (n : ℕ) → n ≤ mostStars → AtMost n (runningOf (first n))
+  unfolding entryAt
   first-at-most n h =
-      subst (λ (k : ℕ). AtMost k (runningOf (first n))) (length-upto n (entryAt across status computed measured))
-      (grown-at-most (first n) (first-near n) (omega (arith, h, length-upto n (entryAt across status computed measured))))
+      entries-at-most n (λ (i : ℕ). getD status i 0)
+      (λ (i : ℕ). residualOf across (rad (bits (getD computed i 0))) (rad (bits (getD measured i 0)))) h
 
   pub all-at-most : length status ≤ mostStars → AtMost mostStars (runningOf (entriesOf across status computed measured))
-  all-at-most h =
-      let b = first-at-most (length status) h in
-      record {
-        few = omega arith;
-        counted = omega (arith, b .counted);
-        sizes = b .sizes;
-        squared = b .squared;
-        large = b .large;
-        placed = omega (arith, b .placed);
-      }
+  all-at-most h = few-at-most (length status) _ (first-at-most (length status) h)

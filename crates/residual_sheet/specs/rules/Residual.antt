@@ -30,10 +30,13 @@ abbrev pub unrounded : Rad → Float
 unrounded x = milliarcseconds (toDegrees x)
 
 -- to the nearest whole number, halves away from zero
+unfoldable pub rounded : Float → Residual
+rounded y =
+    let n = nearestWhole (size y) in
+    record { minus = hasMinus y n; size = n }
+
 unfoldable pub inMilliarcseconds : Rad → Residual
-inMilliarcseconds x =
-    let n = nearestWhole (size (unrounded x)) in
-    record { minus = hasMinus (unrounded x) n; size = n }
+inMilliarcseconds x = rounded (unrounded x)
 
 -- of a right ascension, which is taken across the turn, or of a declination
 unfoldable pub residualOf : Bool → Rad → Rad → Residual

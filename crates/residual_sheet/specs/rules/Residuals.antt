@@ -19,10 +19,18 @@ use Rattle.residual_sheet.specs.rules.Sheet.{figuresOf, sheetOf}
 unfoldable pub lengthsRefusal : ℕ → ℕ → ℕ → ℕ → ℕ → ℕ
 lengthsRefusal n a b c d = cond (eqb a n && eqb b n && eqb c n && eqb d n && leb n mostStars) 0 8
 
--- of all floats of a slice: 1 for one that is not finite, then 3 for one above 64.0 in size
-unfoldable pub floatsRefusal : List ℕ → ℕ
-floatsRefusal [] = 0
-floatsRefusal (b ∷ bs) = lower (angleRefusal (rad (bits b))) (floatsRefusal bs)
+-- the least refusal of what is in a slice, by that of one
+unfoldable pub leastRefusal : (ℕ → ℕ) → List ℕ → ℕ
+leastRefusal f [] = 0
+leastRefusal f (b ∷ bs) = lower (f b) (leastRefusal f bs)
+
+-- of a float that is lent as its bits: 1 where it is not finite, 3 above 64.0 in size
+abbrev pub floatRefusal : ℕ → ℕ
+floatRefusal b = angleRefusal (rad (bits b))
+
+-- of all floats of a slice: 1, then 3
+abbrev pub floatsRefusal : List ℕ → ℕ
+floatsRefusal = leastRefusal floatRefusal
 
 -- of the five slices, statuses, computed right ascensions and declinations, measured ones: 8, then 1, then 3, over all floats
 unfoldable pub residualsRefusal : List ℕ → List ℕ → List ℕ → List ℕ → List ℕ → ℕ

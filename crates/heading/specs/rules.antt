@@ -1,0 +1,5 @@
+-- What a reader must believe of headings. Definitions only.
+pub mod Circle
+pub mod Sky
+pub mod Heading
+pub mod Mark

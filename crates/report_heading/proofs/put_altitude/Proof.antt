@@ -1,0 +1,21 @@
+-- `report_heading::put_altitude` meets its contract.
+use borrow.Author.Needs.{needs}
+use Rattle.double.specs.laws.Calls.{asks-nothing}
+use Rattle.lent.specs.laws.Writing.{after, same}
+use Rattle.report_heading.specs.rules.Altitude.{altitudeText}
+use Rattle.report_heading.proofs.put_altitude.Statement.{statement}
+use Rattle.report_heading.proofs.put_altitude.Tie as tie
+
+returns : tie.Need-returns
+unfolding altitudeText
+returns c =
+    let c2 = c .before .before in
+    let c6 = c2 .before .before .before .before in
+    let c10 = c6 .before .before .before .before in
+    let c11 = c10 .before in
+    let c15 = c11 .before .before .before .before in
+    same (rw (c11 .plan-alt .ensures))
+    (after (c15 .put-angle .ensures) (after (c10 .put-seen .ensures) (after (c6 .put-remark .ensures) (c2 .put-byte .ensures))))
+
+pub put-altitude-spec : {M : Type 1} → statement M
+put-altitude-spec = tie.close (tie.spec asks-nothing asks-nothing asks-nothing asks-nothing asks-nothing (λ c. search needs) returns)
