@@ -58,9 +58,11 @@
  * hand out asc_rate and dec_rate after dec, brundelak_put_star and brundelak_radio_put_star take both after dec. New are
  * brundelak_list_12_to_20 and brundelak_list_20_to_12, by which lists of before move up and back, brundelak_strike,
  * brundelak_add and brundelak_gather, by which a list is edited where it stands, the refusals 17, 18 and 19, and in a batch
- * the statuses 3 and 10. A record whose number is 0 is no star any more but an empty place: brundelak_star passes over it,
- * brundelak_find never answers it. Lengths, places and indices are uint64_t, which on x86-64 is the same call. The number of
- * a version is major * 65536 + minor * 256 + patch; of 0.1.0 it was 100.
+ * the statuses 3 and 10; brundelak_nutation_ceiling, brundelak_residuals and brundelak_rotate; brundelak_mean_sidereal and
+ * brundelak_apparent_sidereal; brundelak_heading, brundelak_mark_heading and brundelak_mean_heading, with refusal 20. A
+ * record whose number is 0 is no star any more but an empty place: brundelak_star passes over it, brundelak_find never
+ * answers it. Lengths, places and indices are uint64_t, which on x86-64 is the same call. The number of a version is major *
+ * 65536 + minor * 256 + patch; of 0.1.0 it was 100.
  *
  * For C99 or later, and C++. There is an archive, libbrundelak.a, for x86-64, aarch64, riscv64 and armv7 (hard float) with
  * Linux, for a Cortex-M7 without a system, and for wasm32; for x86-64 a shared library, libbrundelak.so, too. All give the same

@@ -1,10 +1,7 @@
-/* A pad's true heading from a star sight: star, time and place to the heading, the altitude at which the star stands, and the
-   one at which to look for it. */
+/* A pad's true heading from a star sight: a star's record, a moment and a place to the star's heading and the altitude at which to
+   look for it, and two readings of the pad's circle to the heading of a mark. */
 #include <stdio.h>
 #include "brundelak.h"
-
-/* Degrees of one radian. */
-static const double DEGREES = 57.29577951308232;
 
 /* Whether a call was answered; says why it was not. */
 static int answered(const char *call, uint8_t status)
@@ -14,48 +11,35 @@ static int answered(const char *call, uint8_t status)
     return status == BRUNDELAK_ANSWERED;
 }
 
-/* True heading from north, clockwise, altitude, and the altitude at which refraction shows it, in degrees, of a star of J2000 at
-   a sidereal time of Greenwich, longitude (west positive) and latitude. Azimuth is counted from south, west positive: half a turn
-   more is the heading. */
-static int sight(double asc, double dec, double day, double sidereal, double longitude, double latitude)
-{
-    double asc_now, dec_now, hour_angle, az, alt, heading, look;
-    if (!answered("chain", brundelak_chain(asc, dec, 2451545.0, day, &asc_now, &dec_now)) ||
-        !answered("hour angle",
-                  brundelak_hr_angl_frm_observer_long(sidereal, longitude, asc_now, &hour_angle)) ||
-        !answered("azimuth", brundelak_az_frm_eq(hour_angle, dec_now, latitude, &az)) ||
-        !answered("altitude", brundelak_alt_frm_eq(hour_angle, dec_now, latitude, &alt)) ||
-        !answered("heading", brundelak_limit_to_360(az * DEGREES + 180.0, &heading)) ||
-        !answered("refraction", brundelak_plan_alt(alt * DEGREES, &look)))
-        return 0;
-    printf("azimuth %.6f degrees from south, west positive\n", az * DEGREES);
-    printf("true heading %.6f degrees from north, clockwise\n", heading);
-    printf("altitude %.6f degrees, seen at %.6f\n", alt * DEGREES, look);
-    return 1;
-}
-
 int main(void)
 {
-    double asc, dec, longitude, latitude, untouched = 0.25;
+    /* Aldebaran's record: its place of J2000 in milliarcseconds, and what changes of it in a year. */
+    const uint32_t asc = 248328600;
+    const int32_t dec = 59433400, asc_rate = 66, dec_rate = -189;
+    /* The sight: 2028-11-13T04:33:36.5Z as a Julian day, from 71.0833 degrees west of Greenwich, which is positive, and 42.3333
+       north. The circle, which counts clockwise, reads 10.5 degrees at the star and 66.0083 at the mark. */
+    const double day = 2462088.690005787;
+    double longitude, latitude, heading, azimuth, alt, look, mark, untouched = 0.25;
     uint8_t status;
 
     if (brundelak_float_environment() != 0) {
         printf("floats do not round to nearest here, or do not keep subnormal numbers: the answers would be wrong\n");
         return 1;
     }
-
-    /* theta Persei of J2000 on 2028 November 13.19, seen from 3 h (45 degrees) west of Greenwich, 52.3 degrees north. The
-       sidereal time at Greenwich, in radians, comes from an almanac for that moment: 8h 04m 53s. */
-    brundelak_to_radians(41.054063, &asc);
-    brundelak_to_radians(49.227750, &dec);
-    brundelak_to_radians(45.0, &longitude);
-    brundelak_to_radians(52.3, &latitude);
-    if (!sight(asc, dec, 2462088.69, 2.1157, longitude, latitude))
+    if (!answered("longitude", brundelak_to_radians(71.0833, &longitude)) ||
+        !answered("latitude", brundelak_to_radians(42.3333, &latitude)) ||
+        !answered("heading", brundelak_heading(asc, dec, asc_rate, dec_rate, 2451545.0, day, longitude, latitude, &heading, &azimuth, &alt)) ||
+        !answered("refraction", brundelak_plan_alt(alt, &look)) ||
+        !answered("mark", brundelak_mark_heading(heading, 10.5, 66.0083, &mark)))
         return 1;
+    printf("heading %.6f degrees from north, clockwise\n", heading);
+    printf("azimuth %.6f degrees from south, west positive\n", azimuth);
+    printf("altitude %.6f degrees, seen at %.6f\n", alt, look);
+    printf("mark %.6f degrees from north, clockwise\n", mark);
 
-    /* A refused call writes nothing: a declination past 1.57 cannot go into a tangent. */
-    status = brundelak_az_frm_eq(0.5, 1.5705, latitude, &untouched);
-    answered("azimuth at declination 1.5705", status);
+    /* A refused call writes nothing: a circle has no reading of 360 degrees. */
+    status = brundelak_mark_heading(heading, 10.5, 360.0, &untouched);
+    answered("a reading of 360 degrees", status);
     printf("still %.2f\n", untouched);
-    return status == BRUNDELAK_REFUSAL_STEEP && untouched == 0.25 ? 0 : 1;
+    return status == BRUNDELAK_REFUSAL_ANGLE && untouched == 0.25 ? 0 : 1;
 }

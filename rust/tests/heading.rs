@@ -150,3 +150,45 @@ fn a_mean_on_either_side_of_north() {
     assert_eq!(mean_heading(&[0.0, 360.0]), Err(Refusal::Angle));
     assert_eq!(mean_heading(&[12.5; 3000]).map(|night| (night.mean, night.sheet.count)), Ok((12.5, 3000)));
 }
+
+/// The mean lies between its sights, spread and error are of those taken in, and the order matters through the reference alone: one that is
+/// half a turn off changes no bit of it, wherever it stands, but for the sheet's place and what is set aside.
+#[test]
+fn a_mean_in_any_order() {
+    for k in 0..50 {
+        let (middle, step) = (7.2 * f64::from(k), 0.0001 * f64::from(k + 1));
+        let around: Vec<f64> = [0.0, 1.0, -1.0, 2.0, -0.5].iter().map(|x| (middle + x * step + 360.0) % 360.0).collect();
+        let night = mean_heading(&around).unwrap();
+        let away = (night.mean - middle + 540.0) % 360.0 - 180.0;
+        assert!(-step <= away && away <= 2.0 * step, "{} is not between its sights", night.mean);
+        for place in 0..around.len() {
+            let mut others = around.clone();
+            others.insert(place, (middle + 180.0) % 360.0);
+            let with = mean_heading(&others).unwrap();
+            assert_eq!((with.mean, with.sheet.count, with.sheet.sum, with.sheet.aside), (night.mean, 5, night.sheet.sum, 1));
+            // another reference, and another order of the rest
+            let mut turned = around.clone();
+            turned.rotate_left(place);
+            let other = mean_heading(&turned).unwrap();
+            near((other.mean - night.mean + 540.0) % 360.0 - 180.0, 0.0, 1e-6);
+            turned[1..].reverse();
+            assert_eq!(mean_heading(&turned).unwrap().mean, other.mean);
+        }
+    }
+}
+
+/// Declination and latitude negated: the azimuth keeps its sign and goes to the other side of the prime vertical, the altitude stays.
+#[test]
+fn a_sky_turned_over() {
+    for k in 1..60 {
+        let (hour, lat) = (0.05 * f64::from(k), 0.02 * f64::from(k) - 0.6);
+        let (az, alt) = (coords::az_frm_eq(hour, 0.4, lat).unwrap(), coords::alt_frm_eq(hour, 0.4, lat).unwrap());
+        let (over, same) = (coords::az_frm_eq(hour, -0.4, -lat).unwrap(), coords::alt_frm_eq(hour, -0.4, -lat).unwrap());
+        assert_eq!(alt, same);
+        assert!(az > 0.0 && over > 0.0);
+        near(az + over, PI, 1e-15 * 4.0);
+        // the same in headings, of a star that lies there: mirrored in the prime vertical
+        let (north, south) = (az.to_degrees() + 180.0, over.to_degrees() + 180.0);
+        near(north - 270.0, 270.0 - south, 1e-12);
+    }
+}

@@ -3,7 +3,7 @@ ghost use Rattle.quantity.specs.rules.Angle.{deg, rad};
 ghost use Rattle.brundelak_handed.specs.rules.Boundary.{Handed, HandedTwo, numberOfDegrees, numberOfRadians};
 ghost use Rattle.helpers.specs.rules.Angle.{degFrmDmsRule, degFrmHmsRule, toRadiansRule, limitTo360Rule, limitToTwoPIRule};
 ghost use Rattle.helpers.specs.rules.Time.{julianCentRule};
-ghost use Rattle.helpers.specs.rules.Earth.{rhoSinCosPhiRule};
+ghost use Rattle.helpers_earth.specs.rules.Earth.{rhoSinCosPhiRule};
 use brundelak_handed::hand;
 use brundelak_handed::hand_degrees;
 use brundelak_handed::hand_radians;
@@ -71,7 +71,7 @@ pub extern "C" fn brundelak_rho_sin_cos_phi(
         (now («rho_cos» .exit)) ⌝ }
 {
     hand_two(
-        helpers::earth::Earth::rho_sin_cos_phi(Rad(lat), height),
+        helpers_earth::Earth::rho_sin_cos_phi(Rad(lat), height),
         rho_sin,
         rho_cos,
     )

@@ -22,75 +22,31 @@ enum Given {
 
 // ---- what is said
 
-// A number in decimal on standard error.
-fn say_number(n: u64) {
-    let mut text = [0u8; 20];
-    let k = text_number::put_decimal(&mut text, 0, n);
-    io::write_all(2, &text[..k]);
-}
-
 // That argument i is no number.
 fn complain(i: usize) {
     io::write_all(2, b"argument ");
-    say_number(i as u64);
+    arguments::say_number(2, i as u64);
     io::write_all(2, b": no whole number of 32 bits\n");
 }
 
 // The line of a refusal: of which star, where the call has several.
 fn refuse(n: u8, several: bool, number: u32) {
+    if !several {
+        arguments::refuse(2, n);
+        return;
+    }
     io::write_all(2, b"refused ");
-    say_number(n as u64);
-    if several {
-        io::write_all(2, b": number ");
-        say_number(number as u64);
-    }
+    arguments::say_number(2, n as u64);
+    io::write_all(2, b": number ");
+    arguments::say_number(2, number as u64);
     io::write_all(2, b"\n");
-}
-
-// Writes the bytes, or says that it could not.
-fn write(bytes: &[u8]) {
-    if !io::write_all(1, bytes) {
-        io::write_all(2, b"not written in full\n");
-    }
-}
-
-// ---- what the arguments say
-
-// Whether argument i is the word. A missing one, and one of more than 64 bytes, is not.
-fn is_argument(i: usize, word: &[u8]) -> bool {
-    let mut text = [0u8; 64];
-    let n = os::arg(i, &mut text);
-    if os::errno() != 0 {
-        return false;
-    }
-    text_word::is_word(&text[..n], word)
-}
-
-// The number that argument i says. A missing one, and one of more than 64 bytes, is none.
-fn unsigned_of(i: usize) -> Unsigned {
-    let mut text = [0u8; 64];
-    let n = os::arg(i, &mut text);
-    if os::errno() != 0 {
-        return Unsigned::Unclear;
-    }
-    text_whole::read_unsigned(&text[..n])
-}
-
-// The signed number that argument i says, likewise.
-fn signed_of(i: usize) -> Signed {
-    let mut text = [0u8; 64];
-    let n = os::arg(i, &mut text);
-    if os::errno() != 0 {
-        return Signed::Unclear;
-    }
-    text_whole::read_signed(&text[..n])
 }
 
 // ---- strike
 
 // The star struck whose number argument i says, and whether it was.
 fn strike_one(bytes: &mut [u8], i: usize, several: bool) -> bool {
-    let Unsigned::Is(number) = unsigned_of(i) else {
+    let Unsigned::Is(number) = arguments::unsigned_of(i) else {
         complain(i);
         return false;
     };
@@ -120,11 +76,11 @@ fn strike_all(bytes: &mut [u8]) -> bool {
 // The list without the stars.
 fn strike(bytes: &mut [u8]) {
     if !list::is_list(bytes) {
-        refuse(8, false, 0);
+        arguments::refuse(2, 8);
         return;
     }
     if strike_all(bytes) {
-        write(bytes);
+        arguments::write(bytes);
     }
 }
 
@@ -132,19 +88,19 @@ fn strike(bytes: &mut [u8]) {
 
 // The star that the arguments from the third on say.
 fn star_of() -> Given {
-    let Unsigned::Is(number) = unsigned_of(3) else {
+    let Unsigned::Is(number) = arguments::unsigned_of(3) else {
         return Given::Unclear(3);
     };
-    let Unsigned::Is(asc) = unsigned_of(4) else {
+    let Unsigned::Is(asc) = arguments::unsigned_of(4) else {
         return Given::Unclear(4);
     };
-    let Signed::Is(dec) = signed_of(5) else {
+    let Signed::Is(dec) = arguments::signed_of(5) else {
         return Given::Unclear(5);
     };
-    let Signed::Is(asc_rate) = signed_of(6) else {
+    let Signed::Is(asc_rate) = arguments::signed_of(6) else {
         return Given::Unclear(6);
     };
-    let Signed::Is(dec_rate) = signed_of(7) else {
+    let Signed::Is(dec_rate) = arguments::signed_of(7) else {
         return Given::Unclear(7);
     };
     Given::Is(Star {
@@ -169,10 +125,10 @@ fn add_with_room(bytes: &mut [u8], n: usize, star: Star) -> Edited
 fn add_star(bytes: &mut [u8], n: usize, star: Star) {
     match add_with_room(bytes, n, star) {
         Edited::Done => {
-            write(bytes);
+            arguments::write(bytes);
         }
         Edited::Refused(k) => {
-            refuse(k, false, 0);
+            arguments::refuse(2, k);
         }
     }
 }
@@ -181,7 +137,7 @@ fn add_star(bytes: &mut [u8], n: usize, star: Star) {
 fn add_in(bytes: &mut [u8], n: usize, room: u32, star: Star) {
     let size = room as usize * list::WIDTH;
     if !lent::has_room(bytes.len(), n, size) {
-        refuse(8, false, 0);
+        arguments::refuse(2, 8);
         return;
     }
     add_star(&mut bytes[..n + size], n, star);
@@ -189,7 +145,7 @@ fn add_in(bytes: &mut [u8], n: usize, room: u32, star: Star) {
 
 // The same with the room and the star that the arguments say.
 fn add(bytes: &mut [u8], n: usize) {
-    let Unsigned::Is(room) = unsigned_of(2) else {
+    let Unsigned::Is(room) = arguments::unsigned_of(2) else {
         complain(2);
         return;
     };
@@ -220,10 +176,10 @@ fn gather(bytes: &mut [u8], cut: bool) {
     match list_edit::gather(bytes) {
         Edited::Done => {
             let k = printed(bytes, cut);
-            write(&bytes[..k]);
+            arguments::write(&bytes[..k]);
         }
         Edited::Refused(k) => {
-            refuse(k, false, 0);
+            arguments::refuse(2, k);
         }
     }
 }
@@ -231,13 +187,13 @@ fn gather(bytes: &mut [u8], cut: bool) {
 fn main() {
     let mut input = [0u8; list::READ];
     let n = io::read_full(0, &mut input);
-    if is_argument(1, b"strike") {
+    if arguments::is_argument(1, b"strike") {
         strike(&mut input[..n]);
         return;
     }
-    if is_argument(1, b"add") {
+    if arguments::is_argument(1, b"add") {
         add(&mut input, n);
         return;
     }
-    gather(&mut input[..n], is_argument(2, b"--cut"));
+    gather(&mut input[..n], arguments::is_argument(2, b"--cut"));
 }

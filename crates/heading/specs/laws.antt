@@ -1,5 +1,4 @@
 -- What is proved of headings, for callers to cite. Theorems only.
-pub mod Constants
 pub mod Night
 pub mod Stated
 pub mod Wrong

@@ -1,5 +1,4 @@
 -- What a reader must believe of headings. Definitions only.
-pub mod Circle
 pub mod Sky
 pub mod Heading
 pub mod Mark

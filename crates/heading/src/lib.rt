@@ -7,13 +7,12 @@ ghost use Rattle.chain.specs.rules.Obliquity.{meanObliquityOf};
 ghost use Rattle.batch.specs.rules.Star.{starUnder};
 ghost use Rattle.sidereal.specs.rules.Mean.{meanOf};
 ghost use Rattle.sidereal.specs.rules.Apparent.{apparentFrom};
-ghost use Rattle.heading.specs.rules.Circle.{belowTurn, onCircle, circleRefusal};
 ghost use Rattle.heading.specs.rules.Sky.{northward, bearings, skyFrom, skyIn, skyUnder};
 ghost use Rattle.heading.specs.rules.Heading.{headingRefusal, headingUnder, headingRule};
 ghost use Rattle.heading.specs.rules.Mark.{markIn, markRefusal, markHeadingRule};
 use chain::Night;
 use edition::Edition;
-use helpers::angle;
+use helpers::circle;
 use list::Star;
 use nutation_args::Nutations;
 use quantity::Deg;
@@ -23,44 +22,13 @@ use quantity::Radians;
 use quantity::Three;
 use quantity::Two;
 
-// ---- the circle
-
-// An angle below a turn as it is, and 0 for a whole turn.
-fn below_turn(x: Deg) -> Deg
-    ensures { λ r. ⌜ r ≡ belowTurn x ⌝ }
-{
-    if x.0 < 360.0 { x } else { Deg(0.0) }
-}
-
-// Degrees folded into 0 to below 360.
-fn on_circle(x: Deg) -> Deg
-    ensures { λ r. ⌜ r ≡ onCircle x ⌝ }
-{
-    below_turn(angle::within_360(x))
-}
-
-// Refusals of an angle on the circle: 1; 3 below 0, and from 360 on.
-fn circle_refusal(x: Deg) -> u8
-    ensures { λ r. ⌜ r ≡ circleRefusal x ⌝ }
-{
-    let v = x.0;
-    if double::is_finite(v) {
-        if v < 0.0 {
-            return 3;
-        }
-        if v < 360.0 { 0 } else { 3 }
-    } else {
-        1
-    }
-}
-
 // ---- a star in the sky
 
 // The heading of an azimuth, which is counted from south.
 fn northward(az: Deg) -> Deg
     ensures { λ r. ⌜ r ≡ northward az ⌝ }
 {
-    on_circle(Deg(az.0 + 180.0))
+    circle::on_circle(Deg(az.0 + 180.0))
 }
 
 // Heading, azimuth and altitude in degrees, from azimuth and altitude.
@@ -187,8 +155,11 @@ fn mark_refusal(heading: Deg, star_reading: Deg, mark_reading: Deg) -> u8
     ensures { λ r. ⌜ r ≡ markRefusal heading «star_reading» «mark_reading» ⌝ }
 {
     quantity::lower(
-        circle_refusal(heading),
-        quantity::lower(circle_refusal(star_reading), circle_refusal(mark_reading)),
+        circle::circle_refusal(heading),
+        quantity::lower(
+            circle::circle_refusal(star_reading),
+            circle::circle_refusal(mark_reading),
+        ),
     )
 }
 
@@ -196,7 +167,7 @@ fn mark_refusal(heading: Deg, star_reading: Deg, mark_reading: Deg) -> u8
 fn mark_in(heading: Deg, star_reading: Deg, mark_reading: Deg) -> Deg
     ensures { λ r. ⌜ r ≡ markIn heading «star_reading» «mark_reading» ⌝ }
 {
-    on_circle(Deg(heading.0 + (mark_reading.0 - star_reading.0)))
+    circle::on_circle(Deg(heading.0 + (mark_reading.0 - star_reading.0)))
 }
 
 // A mark's true heading, from the star's and from what a circle reads at the star and at the mark, clockwise, in degrees. Refusals: 1; 3

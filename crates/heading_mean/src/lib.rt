@@ -13,11 +13,12 @@ ghost use Rattle.residual_sheet.specs.rules.Residuals.{leastRefusal};
 ghost use Rattle.residual_sheet.specs.rules.Running.{runningOf};
 ghost use Rattle.heading_mean.specs.rules.Residual.{takenBack, residualFrom};
 ghost use Rattle.heading_mean.specs.rules.Reference.{vote, agreeing, isReference, referencePlace};
-ghost use Rattle.heading_mean.specs.rules.Mean.{headingRefusal, bitsRefusal, numberRefusal, headingsRefusal, entriesFrom};
-ghost use Rattle.heading_mean.specs.rules.Mean.{belowTurn, meanOf, shownMean, meanFrom, meanHeadingRule};
+ghost use Rattle.heading_mean.specs.rules.Mean.{bitsRefusal, numberRefusal, headingsRefusal, entriesFrom};
+ghost use Rattle.heading_mean.specs.rules.Mean.{meanOf, shownMean, meanFrom, meanHeadingRule};
 ghost use Rattle.heading_mean.specs.rules.Spread.{isNight, rootOver, spreadOf, meanError};
 ghost use Rattle.quantity.specs.rules.Answer.{answered};
 use helpers::angle;
+use helpers::circle;
 use list::MOST_STARS;
 use quantity::Deg;
 use residual_sheet::Residual;
@@ -132,16 +133,6 @@ fn sum_of(above: u64, below: u64) -> f64
     double::from_whole(above - below)
 }
 
-// A whole turn is 0.
-fn below_turn(x: Deg) -> Deg
-    ensures { λ r. ⌜ r ≡ belowTurn x ⌝ }
-{
-    if x.0 < 360.0 {
-        return x;
-    }
-    Deg(0.0)
-}
-
 // The mean, from the figures of the residuals.
 fn mean_of(reference: Deg, figures: Running) -> Deg
     ensures { λ r. ⌜ r ≡ meanOf reference (pos (figures .above) -ℤ pos (figures .below)) (figures .count) ⌝ }
@@ -149,7 +140,7 @@ fn mean_of(reference: Deg, figures: Running) -> Deg
     let start = reference.0;
     let count = figures.count;
     let residual = sum_of(figures.above, figures.below) / double::from_whole(count);
-    below_turn(angle::within_360(Deg(start + residual / 3600000.0)))
+    circle::on_circle(Deg(start + residual / 3600000.0))
 }
 
 // Mean and sheet, from the reference.
@@ -221,22 +212,6 @@ pub fn mean_error(count: u64, sum: u64, squares: u64) -> f64
 
 // ---- the call
 
-// Refusals of a heading: 1; 3 below 0 and from 360.0 on.
-fn heading_refusal(x: Deg) -> u8
-    ensures { λ r. ⌜ r ≡ headingRefusal x ⌝ }
-{
-    if double::is_finite(x.0) {
-        if 0.0 <= x.0 {
-            if x.0 < 360.0 {
-                return 0;
-            }
-            return 3;
-        }
-        return 3;
-    }
-    1
-}
-
 // The least refusal of all headings.
 fn least_refusal(headings: &[u64]) -> u8
     ensures { λ r. ⌜ r ≡ leastRefusal bitsRefusal (now (headings .entry)) ⌝ }
@@ -244,7 +219,7 @@ fn least_refusal(headings: &[u64]) -> u8
     let mut refusal = 0;
     let mut i: usize = 0;
     while i < headings.len() {
-        let one = heading_refusal(Deg(double::of_pattern(headings[i])));
+        let one = circle::circle_refusal(Deg(double::of_pattern(headings[i])));
         refusal = quantity::lower(refusal, one);
         i += 1;
     }

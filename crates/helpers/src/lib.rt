@@ -2,4 +2,4 @@
 // is refused, and 2 by the century.
 pub mod angle; // degrees, radians and seconds; folding into one turn
 pub mod time; // the century of a day
-pub mod earth; // the figure of the Earth
+pub mod circle; // degrees on a circle that is read

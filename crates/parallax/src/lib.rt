@@ -8,7 +8,7 @@ ghost use Rattle.parallax.specs.rules.Equatorial.{eastward, ahead, topoc
 ghost use Rattle.parallax.specs.rules.Equatorial.{topocentEqCoordsRule};
 use elementary::Folded;
 use helpers::angle;
-use helpers::earth::Earth;
+use helpers_earth::Earth;
 use quantity::Deg;
 use quantity::EqPoint;
 use quantity::GeographPoint;

@@ -7,7 +7,7 @@ ghost use Rattle.parallax_ecl.specs.rules.Ecliptic.{eclipticAlong, eclip
 use edition::Edition;
 use elementary::Folded;
 use helpers::angle;
-use helpers::earth::Earth;
+use helpers_earth::Earth;
 use parallax::Centre;
 use quantity::EclPoint;
 use quantity::GeographPoint;

@@ -10,16 +10,6 @@ use lent::Written;
 // Bytes of the longest form, at most.
 const ROOM: usize = list_radio::MOST_BYTES;
 
-// Whether the argument is the word.
-fn asked(word: &[u8]) -> bool {
-    let mut text = [0u8; 64];
-    let n = os::arg(1, &mut text);
-    if os::errno() != 0 {
-        return false;
-    }
-    text_word::is_word(&text[..n], word)
-}
-
 // The list in its other form, from the slice's start on.
 fn put_moved(out: &mut [u8], up: bool, down: bool, unpack: bool, bytes: &[u8]) -> Written
     ensures { λ r. ⌜ Put (cond up (toWide (now (bytes .entry))) (cond down (toNarrow (now (bytes .entry))) (cond unpack (toList (now (bytes .entry)))
@@ -38,33 +28,19 @@ fn put_moved(out: &mut [u8], up: bool, down: bool, unpack: bool, bytes: &[u8]) -
     }
 }
 
-// Writes the bytes, or says that it could not.
-fn write(bytes: &[u8]) {
-    if !io::write_all(1, bytes) {
-        io::write_all(2, b"not written in full\n");
-    }
-}
-
-// The line of a refusal.
-fn refuse(n: u8) {
-    let mut line = [0u8; 16];
-    let k = text_number::put_refused(&mut line, 0, n);
-    io::write_all(2, &line[..k]);
-}
-
 fn main() {
-    let up = asked(b"up");
-    let down = asked(b"down");
-    let unpack = asked(b"unpack");
+    let up = arguments::is_argument(1, b"up");
+    let down = arguments::is_argument(1, b"down");
+    let unpack = arguments::is_argument(1, b"unpack");
     let mut input = [0u8; list_radio::READ];
     let n = io::read_full(0, &mut input);
     let mut out = [0u8; ROOM];
     match put_moved(&mut out, up, down, unpack, &input[..n]) {
         Written::To(k) => {
-            write(&out[..k]);
+            arguments::write(&out[..k]);
         }
         Written::Refused(k) => {
-            refuse(k);
+            arguments::refuse(2, k);
         }
     }
 }

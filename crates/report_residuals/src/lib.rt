@@ -14,7 +14,7 @@ use list::Found;
 use list::MOST_STARS;
 use residual_sheet::Sheet;
 use residual_sheet::Sheets;
-use text_measured::Sights;
+use text_fields::Sights;
 
 // What is written: the sheet for people with who is left out of it; the figures alone; each sight; or who is left out alone.
 pub enum Style {

@@ -1,6 +1,4 @@
 -- What a reader must believe of the text of measured places. Definitions only.
-pub mod Fields
-pub mod Lines
 pub mod Sight
 pub mod Next
 pub mod Sights

@@ -1,29 +1,26 @@
-// The text of measured places, a line a sight: the star's number, its right ascension and its declination in decimal degrees, with blanks,
-// tabs or carriage returns between them; what follows # is left out, and a line with nothing else is passed over. Promised: exactly the
-// sights that stand there, each with its line, one after the other or all of them into slices; or the line that is none.
-ghost use Prim.Native.Nat.{_<_, min};
+// The text of measured places, a line a sight: the star's number, its right ascension and its declination in decimal degrees. Fields,
+// comments and lines are `text_fields`'s. Promised: exactly the sights that stand there, each with its line, one after the other or all of
+// them into slices; or the line that is none.
+ghost use Prim.Native.Nat.{_<_};
 ghost use mathlib.Core.Path.{_≡_};
 ghost use lib.ListN.{length, drop};
-ghost use Rattle.text_whole.specs.rules.Unsigned.{shownUnsigned, unsignedRule};
-ghost use Rattle.text_degrees.specs.rules.Degrees.{shownReadDegrees, degreesRule};
-ghost use Rattle.text_measured.specs.rules.Fields.{isBlank, isStop, before, isBare, fieldOf, fieldEnd};
-ghost use Rattle.text_measured.specs.rules.Lines.{lines, lineLength};
-ghost use Rattle.text_measured.specs.rules.Sight.{shownLine, sightFrom, withDec, withAsc, saidRule, lineRule, firstLine};
-ghost use Rattle.text_measured.specs.rules.Next.{nextAt, shownNext, isPassed, nextOf};
-ghost use Rattle.text_measured.specs.rules.Sights.{placesOf, ReadSights};
-ghost use Rattle.text_measured.specs.notions.SightStored.{SightStored};
+ghost use Rattle.text_whole.specs.rules.Unsigned.{shownUnsigned};
+ghost use Rattle.text_degrees.specs.rules.Degrees.{shownReadDegrees};
+ghost use Rattle.text_fields.specs.rules.Lines.{lines};
+ghost use Rattle.text_fields.specs.rules.Next.{nextOf};
+ghost use Rattle.text_fields.specs.rules.Walk.{toldBy};
+ghost use Rattle.text_fields.specs.rules.Stored.{placesOf};
+ghost use Rattle.text_fields.specs.notions.Stored.{EntryStored};
+ghost use Rattle.text_measured.specs.rules.Sight.{sight, shownLine, sightFrom, withDec, withAsc, sightRule, lineRule};
+ghost use Rattle.text_measured.specs.rules.Next.{nextAt, shownNext};
+ghost use Rattle.text_measured.specs.rules.Sights.{entryOf, columns, ReadSights};
 use helpers::angle;
 use quantity::Deg;
 use text_degrees::ReadDegrees;
+use text_fields::Said;
+use text_fields::Sights;
+use text_fields::Stop;
 use text_whole::Unsigned;
-
-// What a pass over bytes ends at: a line's end, the mark of a comment, a blank, or a byte that is none.
-pub enum Stop {
-    LineEnd,
-    Hash,
-    Blank,
-    Field,
-}
 
 // What a line says: a star's number with its right ascension and declination, nothing, or what cannot be read.
 pub enum Line {
@@ -40,90 +37,11 @@ pub enum Next {
     End,
 }
 
-// All sights of a text: how many there are; the line that cannot be read; or that there is no place for the next of them.
-pub enum Sights {
-    Are(usize),
-    Unclear(usize),
-    Full,
-}
-
-// ---- fields
-
-// Whether a byte stands between fields.
-fn is_blank(b: u8) -> bool
-    ensures { λ r. ⌜ r ≡ isBlank b ⌝ }
-{
-    if b == b' ' {
-        return true;
-    }
-    if b == b'\t' {
-        return true;
-    }
-    b == b'\r'
-}
-
-// Whether a pass ends at a byte.
-fn is_stop(stop: Stop, b: u8) -> bool
-    ensures { λ r. ⌜ r ≡ isStop stop b ⌝ }
-{
-    match stop {
-        Stop::LineEnd => b == b'\n',
-        Stop::Hash => b == b'#',
-        Stop::Blank => is_blank(b),
-        Stop::Field => !is_blank(b),
-    }
-}
-
-// How many bytes come before the first at which a pass ends.
-fn length_before(stop: Stop, text: &[u8]) -> usize
-    ensures { λ r. ⌜ r ≡ length (before stop (now (text .entry))) ⌝ }
-{
-    let mut i = 0;
-    while i < text.len() {
-        if is_stop(stop, text[i]) {
-            return i;
-        }
-        i += 1;
-    }
-    i
-}
-
-// Whether there is no field.
-fn is_bare(text: &[u8]) -> bool
-    ensures { λ r. ⌜ r ≡ isBare (now (text .entry)) ⌝ }
-{
-    length_before(Stop::Field, text) == text.len()
-}
-
-// How many bytes the first field ends after, with the blanks in front of it.
-fn field_end(text: &[u8]) -> usize
-    ensures { λ r. ⌜ r ≡ fieldEnd (now (text .entry)) ⌝ }
-{
-    let start = length_before(Stop::Field, text);
-    start + length_before(Stop::Blank, &text[start..])
-}
-
-// The number that the first field says.
-fn next_number(text: &[u8]) -> Unsigned
-    ensures { λ r. ⌜ shownUnsigned r ≡ unsignedRule (fieldOf (now (text .entry))) ⌝ }
-{
-    let start = length_before(Stop::Field, text);
-    text_whole::read_unsigned(&text[start..field_end(text)])
-}
-
-// The angle that the first field says.
-fn next_degrees(text: &[u8]) -> ReadDegrees
-    ensures { λ r. ⌜ shownReadDegrees r ≡ degreesRule (fieldOf (now (text .entry))) ⌝ }
-{
-    let start = length_before(Stop::Field, text);
-    text_degrees::read(&text[start..field_end(text)])
-}
-
 // ---- a line
 
 // The sight, where all three fields are clear.
 fn sight_from(number: Unsigned, asc: ReadDegrees, dec: ReadDegrees) -> Line
-    ensures { λ r. ⌜ shownLine r ≡ sightFrom (shownUnsigned number) (shownReadDegrees asc) (shownReadDegrees dec) ⌝ }
+    ensures { λ r. ⌜ shownLine r ≡ toldBy (sightFrom (shownUnsigned number) (shownReadDegrees asc) (shownReadDegrees dec)) ⌝ }
 {
     match number {
         Unsigned::Is(n) => match asc {
@@ -139,67 +57,49 @@ fn sight_from(number: Unsigned, asc: ReadDegrees, dec: ReadDegrees) -> Line
 
 // The sight whose declination stands in the text, which has no field more.
 fn with_dec(number: Unsigned, asc: ReadDegrees, text: &[u8]) -> Line
-    ensures { λ r. ⌜ shownLine r ≡ withDec (shownUnsigned number) (shownReadDegrees asc) (now (text .entry)) ⌝ }
+    ensures { λ r. ⌜ shownLine r ≡ toldBy (withDec (shownUnsigned number) (shownReadDegrees asc) (now (text .entry))) ⌝ }
 {
-    if is_bare(&text[field_end(text)..]) {
-        return sight_from(number, asc, next_degrees(text));
+    if text_fields::is_bare(&text[text_fields::field_end(text)..]) {
+        return sight_from(number, asc, text_fields::next_degrees(text));
     }
     Line::Unclear
 }
 
 // The sight whose right ascension and declination stand in the text.
 fn with_asc(number: Unsigned, text: &[u8]) -> Line
-    ensures { λ r. ⌜ shownLine r ≡ withAsc (shownUnsigned number) (now (text .entry)) ⌝ }
+    ensures { λ r. ⌜ shownLine r ≡ toldBy (withAsc (shownUnsigned number) (now (text .entry))) ⌝ }
 {
-    with_dec(number, next_degrees(text), &text[field_end(text)..])
+    with_dec(
+        number,
+        text_fields::next_degrees(text),
+        &text[text_fields::field_end(text)..],
+    )
 }
 
-// What a line says that has no comment.
-fn read_said(said: &[u8]) -> Line
-    ensures { λ r. ⌜ shownLine r ≡ saidRule (now (said .entry)) ⌝ }
+// The sight whose number and angles stand in the text.
+fn read_sight(text: &[u8]) -> Line
+    ensures { λ r. ⌜ shownLine r ≡ toldBy (sightRule (now (text .entry))) ⌝ }
 {
-    if is_bare(said) {
-        return Line::Bare;
-    }
-    with_asc(next_number(said), &said[field_end(said)..])
+    with_asc(
+        text_fields::next_number(text),
+        &text[text_fields::field_end(text)..],
+    )
 }
 
 // What a line says.
 pub fn read_line(line: &[u8]) -> Line
     ensures { λ r. ⌜ shownLine r ≡ lineRule (now (line .entry)) ⌝ }
 {
-    read_said(&line[..length_before(Stop::Hash, line)])
-}
-
-// What the first line of a text says.
-fn first_line(text: &[u8]) -> Line
-    ensures { λ r. ⌜ shownLine r ≡ firstLine (now (text .entry)) ⌝ }
-{
-    read_line(&text[..length_before(Stop::LineEnd, text)])
+    let end = text_fields::length_before(Stop::Hash, line);
+    if text_fields::is_bare(&line[..end]) {
+        return Line::Bare;
+    }
+    read_sight(&line[..end])
 }
 
 // ---- a text
 
-// How many bytes the first line of a text has, its end included where it has one.
-fn line_length(text: &[u8]) -> usize
-    ensures { λ r. ⌜ r ≡ lineLength (now (text .entry)) ⌝ }
-{
-    let k = length_before(Stop::LineEnd, text);
-    if k < text.len() { k + 1 } else { k }
-}
-
-// Whether a line is passed over.
-fn is_passed(line: Line) -> bool
-    ensures { λ r. ⌜ r ≡ isPassed (shownLine line) ⌝ }
-{
-    match line {
-        Line::Sight(_, _, _) => false,
-        Line::Bare => true,
-        Line::Unclear => false,
-    }
-}
-
-// What is found at a line that is not passed over.
+// What is found at a line that says something.
 fn found_on(line: Line, passed: usize, next: usize) -> Next
     ensures { λ r. ⌜ r ≡ nextAt (shownLine line) passed next ⌝ }
 {
@@ -212,29 +112,17 @@ fn found_on(line: Line, passed: usize, next: usize) -> Next
 
 // The next sight from an offset on, which is 0 or one that an earlier call answered.
 pub fn next_sight(text: &[u8], at: usize) -> Next
-    ensures { λ r. ⌜ shownNext (now (text .entry)) r ≡ nextOf 0 (lines (drop at (now (text .entry)))) ⌝ }
+    ensures { λ r. ⌜ shownNext (now (text .entry)) r ≡ nextOf sightRule 0 (lines (drop at (now (text .entry)))) ⌝ }
 {
-    let mut offset = at;
-    let mut passed = 0;
-    while offset < text.len() {
-        let line = first_line(&text[offset..]);
-        passed += 1;
-        offset += line_length(&text[offset..]);
-        if !is_passed(line) {
-            return found_on(line, passed, offset);
+    match text_fields::next_said(text, at) {
+        Said::At(start, end, passed, next) => {
+            found_on(read_sight(&text[start..end]), passed, next)
         }
+        Said::End => Next::End,
     }
-    Next::End
 }
 
 // ---- all of them
-
-// The lower of two numbers.
-fn lower(m: usize, n: usize) -> usize
-    ensures { λ r. ⌜ r ≡ min m n ⌝ }
-{
-    if m < n { m } else { n }
-}
 
 // One sight at its place in what is lent: its line, its star, and the bits of its two angles in radians.
 fn store_sight(
@@ -252,7 +140,7 @@ fn store_sight(
     requires { ⌜ i < length (now star) ⌝ }
     requires { ⌜ i < length (now asc) ⌝ }
     requires { ⌜ i < length (now dec) ⌝ }
-    ensures { λ r. ⌜ SightStored i «at_line» number a d (now (line .entry)) (now (star .entry)) (now (asc .entry)) (now (dec .entry))
+    ensures { λ r. ⌜ EntryStored columns (entryOf (sight number a d) «at_line») i (now (line .entry)) (now (star .entry)) (now (asc .entry)) (now (dec .entry))
         (now (line .exit)) (now (star .exit)) (now (asc .exit)) (now (dec .exit)) ⌝ }
 {
     line[i] = at_line as u64;
@@ -277,11 +165,11 @@ pub fn read_sights(
         (now (text .entry)) (now (line .entry)) (now (star .entry)) (now (asc .entry)) (now (dec .entry)) r
         (now (line .exit)) (now (star .exit)) (now (asc .exit)) (now (dec .exit)) ⌝ }
 {
-    let places = lower(lower(line.len(), star.len()), lower(asc.len(), dec.len()));
+    let places = text_fields::fewest(line.len(), star.len(), asc.len(), dec.len());
     let mut at = 0;
     let mut passed = 0;
     let mut n = 0;
-    while at < text.len() {
+    loop {
         match next_sight(text, at) {
             Next::Sight(number, a, d, lines, next) => {
                 if n >= places {
@@ -300,5 +188,4 @@ pub fn read_sights(
             }
         }
     }
-    Sights::Are(n)
 }

@@ -23,7 +23,7 @@ fn put_call_words(out: &mut [u8], at: usize, n: u8) -> usize
 }
 
 // What one of its stars can be refused by.
-fn put_star_words(out: &mut [u8], at: usize, n: u8) -> usize
+pub fn put_star_words(out: &mut [u8], at: usize, n: u8) -> usize
     ensures { λ r. ⌜ Wrote (now (out .entry)) at (starWords n) (now (out .exit)) r ⌝ }
 {
     if n == 3 {
@@ -68,8 +68,8 @@ fn put_observer_words(out: &mut [u8], at: usize, n: u8) -> usize
     lent::within(at, out.len())
 }
 
-// The number, and the words that both calls share.
-fn put_number_words(out: &mut [u8], at: usize, n: u8) -> usize
+// The number, and the words that all calls share.
+pub fn put_number_words(out: &mut [u8], at: usize, n: u8) -> usize
     ensures { λ r. ⌜ Wrote (now (out .entry)) at (numberWords n) (now (out .exit)) r ⌝ }
 {
     let a = lent::put(out, at, b"refused ");

@@ -3,7 +3,7 @@
 ghost use Prim.Native.Nat.{_-_};
 ghost use mathlib.Core.Path.{_≡_};
 ghost use Rattle.lent.specs.rules.Writing.{Wrote};
-ghost use Rattle.text_row.specs.rules.Place.{milliseconds, millisecondsOf, threeDigits, hoursText, hundredths, signOf, arcText, degreesText};
+ghost use Rattle.text_row.specs.rules.Place.{milliseconds, millisecondsOf, hoursText, hundredths, signOf, arcText, degreesText};
 ghost use Rattle.quantity.specs.rules.Answer.{shownThree};
 ghost use Rattle.text_row.specs.rules.Row.{columnText, placeText, rowOf};
 ghost use Rattle.text_row.specs.rules.PlanRow.{timesRow, whyRow, outcomeRow, planRow};
@@ -29,25 +29,15 @@ fn milliseconds_of(x: Rad) -> u64
     units::nearest_whole(y) % 86400000
 }
 
-// Each `put_` writes its text from the offset on, and answers the offset after it. This one: a number of three digits.
-fn put_three(out: &mut [u8], at: usize, n: u64) -> usize
-    ensures { λ r. ⌜ Wrote (now (out .entry)) at (threeDigits n) (now (out .exit)) r ⌝ }
-{
-    if n < 100 {
-        let a = lent::put_byte(out, at, b'0');
-        return text_time::put_two(out, a, n);
-    }
-    text_number::put_decimal(out, at, n)
-}
-
-// A right ascension in hours, minutes and seconds.
+// Each `put_` writes its text from the offset on, and answers the offset after it. This one: a right ascension in hours, minutes and
+// seconds.
 pub fn put_hours(out: &mut [u8], at: usize, x: Rad) -> usize
     ensures { λ r. ⌜ Wrote (now (out .entry)) at (hoursText x) (now (out .exit)) r ⌝ }
 {
     let n = milliseconds_of(x);
     let a = text_time::put_clock(out, at, n / 1000);
     let b = lent::put_byte(out, a, b'.');
-    put_three(out, b, n % 1000)
+    text_time::put_three(out, b, n % 1000)
 }
 
 // ---- a declination

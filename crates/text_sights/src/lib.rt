@@ -34,7 +34,7 @@ pub fn status_at(s: &[u8], i: usize) -> u8
 }
 
 // Star i of a slice likewise.
-fn star_at(s: &[u32], i: usize) -> u32
+pub fn star_at(s: &[u32], i: usize) -> u32
     ensures { λ r. ⌜ r ≡ getD (now (s .entry)) i 0 ⌝ }
 {
     if i < s.len() {

@@ -3,7 +3,7 @@
 ghost use mathlib.Core.Path.{_≡_};
 ghost use Rattle.lent.specs.rules.Writing.{Wrote};
 ghost use Rattle.quantity.specs.rules.Answer.{shownThree};
-ghost use Rattle.text_time.specs.rules.Time.{secondsOf, twoDigits, clockText, timeText};
+ghost use Rattle.text_time.specs.rules.Time.{secondsOf, twoDigits, threeDigits, clockText, timeText};
 ghost use Rattle.text_time.specs.rules.Line.{timeThen, againText, timesText, whyText, outcomeText, planLine};
 use quantity::Three;
 
@@ -23,6 +23,17 @@ pub fn put_two(out: &mut [u8], at: usize, n: u64) -> usize
     if n < 10 {
         let a = lent::put_byte(out, at, b'0');
         return text_number::put_decimal(out, a, n);
+    }
+    text_number::put_decimal(out, at, n)
+}
+
+// One of three digits.
+pub fn put_three(out: &mut [u8], at: usize, n: u64) -> usize
+    ensures { λ r. ⌜ Wrote (now (out .entry)) at (threeDigits n) (now (out .exit)) r ⌝ }
+{
+    if n < 100 {
+        let a = lent::put_byte(out, at, b'0');
+        return put_two(out, a, n);
     }
     text_number::put_decimal(out, at, n)
 }

@@ -8,7 +8,7 @@ use Rattle.quantity.specs.rules.Answer.{Answer, answered, Pair, pair, first, se
 use Rattle.quantity.specs.rules.Refusal.{lower, dayRefusal, angleRefusal, latitudeRefusal}
 use Rattle.quantity.specs.laws.Answer.{then-unless, unless-cong, then-cong}
 use Rattle.edition.specs.declared.Edition.{Edition}
-use Rattle.elementary.specs.laws.Accepted.{lower-none}
+use Rattle.quantity.specs.laws.Accepted.{lower-none}
 use Rattle.precess_angles.specs.rules.Days.{daysRefusal, placeRefusal}
 use Rattle.precess_angles.specs.rules.Equatorial.{eqPrecessionOf}
 use Rattle.precess.specs.rules.Equatorial.{precessedIn}

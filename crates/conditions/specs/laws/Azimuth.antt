@@ -9,7 +9,7 @@ use Rattle.quantity.specs.rules.Angle.{PI, HALF}
 use Rattle.quantity.specs.rules.Answer.{answered}
 use Rattle.elementary.specs.rules.Sine.{sineOf}
 use Rattle.elementary_arc.specs.rules.Arctangent.{arctangentIn}
-use Rattle.elementary.specs.laws.Accepted.{answered-unless}
+use Rattle.quantity.specs.laws.Accepted.{answered-unless}
 use Rattle.elementary_arc.specs.laws.Arctangent.{arctangent-in-sign, arctangent-in-at-most-half, arctangent-in-at-least-half, arctangent-in-at-most-pi}
 use Rattle.coords.specs.rules.Arguments.{steepSkyRefusal}
 use Rattle.domain_accepted.specs.laws.Horizon.{westward-finite, southward-finite}

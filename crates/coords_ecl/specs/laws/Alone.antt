@@ -10,7 +10,7 @@ use Rattle.quantity.specs.rules.Angle.{rad}
 use Rattle.quantity.specs.rules.Answer.{Answer, answered, refused, unless, then, both}
 use Rattle.quantity.specs.rules.Refusal.{lower, past, steepest, angleRefusal, latitudeRefusal, steepRefusal}
 use Rattle.quantity.specs.laws.Steps.{refused-not-answered, same-value}
-use Rattle.elementary.specs.laws.Accepted.{lower-none}
+use Rattle.quantity.specs.laws.Accepted.{lower-none}
 use Rattle.coords_ecl.specs.rules.Arguments.{frameRefusal, steepFrameRefusal}
 use Rattle.coords_ecl.specs.rules.Point.{pointOf}
 use Rattle.coords_ecl.specs.rules.Ecliptic.{longitudeIn, latitudeIn, eclFrmEqIn, eclFrmEqRule}

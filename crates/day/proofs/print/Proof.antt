@@ -10,11 +10,10 @@ use Rattle.day.proofs.print.Tie as tie
 array-share-prefix-out : tie.Need-array-share-prefix-out
 array-share-prefix-out c = inside (c .before .put-day .ensures)
 
-slice-aggregate-write-all : tie.Need-slice-aggregate-write-all
-slice-aggregate-write-all c = sym (length-take-le _ _ (array-share-prefix-out (c .before)))
+slice-aggregate-write : tie.Need-slice-aggregate-write
+slice-aggregate-write c = sym (length-take-le _ _ (array-share-prefix-out (c .before)))
 
 pub print-spec : {M : Type 1} → statement M
 print-spec =
     tie.close
-    (tie.spec (λ c. search needs) asks-nothing array-share-prefix-out slice-aggregate-write-all asks-nothing (λ c. search needs) asks-nothing
-    (λ c. search needs) (λ c. search needs))
+    (tie.spec (λ c. search needs) asks-nothing array-share-prefix-out slice-aggregate-write asks-nothing (λ c. search needs))

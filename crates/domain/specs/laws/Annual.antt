@@ -8,7 +8,7 @@ use Rattle.quantity.specs.declared.Rad.{Rad}
 use Rattle.quantity.specs.rules.Answer.{answered, refused, Pair, pair}
 use Rattle.quantity.specs.rules.Refusal.{lower, dayRefusal, angleRefusal, steepRefusal}
 use Rattle.elementary.specs.rules.Sine.{sineOf, cosineOf, tangentOf}
-use Rattle.elementary.specs.laws.Accepted.{lower-none}
+use Rattle.quantity.specs.laws.Accepted.{lower-none}
 use Rattle.double.specs.rules.Operations.{_⊕_, _⊗_}
 use Rattle.helpers.specs.rules.Angle.{hourArc, degree, radiansOf}
 use Rattle.helpers.specs.rules.Time.{centuryOf}

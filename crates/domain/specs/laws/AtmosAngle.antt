@@ -24,7 +24,7 @@ use Rattle.quantity.specs.laws.Refusal.{past-none}
 use Rattle.elementary.specs.rules.Fold.{P1, P2, P3, fold}
 use Rattle.elementary.specs.rules.Series.{sineSeries, cosineSeries}
 use Rattle.elementary.specs.rules.Sine.{sineQuarter, foldedSine, sineOf, cosineOf, tangentOf, farthestAlone, tangentRule}
-use Rattle.elementary.specs.laws.Accepted.{outside-accepted}
+use Rattle.quantity.specs.laws.Accepted.{outside-accepted}
 use Rattle.elementary.specs.laws.Fold.{fold-steep}
 use Rattle.elementary.specs.laws.Sine.{sineExpr, cosineExpr, sine-between, cosine-between, cosine-steep}
 use Rattle.helpers.specs.rules.Angle.{degree, radiansOf}

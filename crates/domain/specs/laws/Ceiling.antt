@@ -16,7 +16,7 @@ use Rattle.quantity.specs.rules.Refusal.{dayRefusal}
 use Rattle.quantity.specs.laws.Steps.{same-value}
 use Rattle.elementary.specs.rules.Sine.{farthestAlone}
 use Rattle.elementary.specs.laws.Sine.{sine-between, cosine-between}
-use Rattle.elementary.specs.laws.Accepted.{answered-unless}
+use Rattle.quantity.specs.laws.Accepted.{answered-unless}
 use Rattle.helpers.specs.rules.Time.{centuryOf}
 use Rattle.nutation_args.specs.rules.Arguments.{moonFrom, moonOf}
 use Rattle.nutation_args.specs.rules.Sum.{argumentOf}

@@ -24,7 +24,7 @@ use Rattle.quantity.specs.laws.Refusal.{past-none}
 use Rattle.quantity.specs.laws.Steps.{refused-not-answered, same-number}
 use Rattle.edition.specs.declared.Edition.{Edition}
 use Rattle.elementary.specs.rules.Sine.{farthestAlone}
-use Rattle.elementary.specs.laws.Accepted.{answered-unless}
+use Rattle.quantity.specs.laws.Accepted.{answered-unless}
 use Rattle.helpers.specs.rules.Angle.{arc, degree}
 use Rattle.precess_angles.specs.rules.Days.{placeRefusal}
 use Rattle.precess_angles.specs.rules.Equatorial.{eqPrecessionOf}

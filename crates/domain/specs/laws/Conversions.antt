@@ -23,7 +23,7 @@ use Rattle.quantity.specs.rules.Answer.{answered, refused, shownDegrees, shownR
 use Rattle.quantity.specs.rules.Refusal.{numberRefusal}
 use Rattle.quantity.specs.rules.Angle.{deg}
 use Rattle.quantity.specs.laws.Steps.{refused-not-answered}
-use Rattle.elementary.specs.laws.Accepted.{number-accepted}
+use Rattle.quantity.specs.laws.Accepted.{number-accepted}
 use Rattle.helpers.specs.rules.Angle.{secondsOfDegree, degreesOfHour, arc, hourArc, degFrmDmsRule, degFrmHmsRule, degree, radiansOf, toRadiansRule}
 use Rattle.domain_accepted.specs.notions.Outcome.{Never}
 use Rattle.domain_accepted.specs.laws.Outcome.{outcome-answered, rule-answers}

@@ -18,7 +18,7 @@ use Rattle.double.specs.laws.Monotone.{sub-mono}
 use Rattle.double.specs.laws.Interval.{bounded}
 use Rattle.quantity.specs.declared.Rad.{Rad}
 use Rattle.quantity.specs.rules.Refusal.{lower, epoch, daysAround, dayRefusal, angleRefusal, latitudeRefusal}
-use Rattle.elementary.specs.laws.Accepted.{lower-none}
+use Rattle.quantity.specs.laws.Accepted.{lower-none}
 use Rattle.helpers.specs.rules.Time.{daysOfCentury, centuryOf}
 use Rattle.precess_angles.specs.rules.Numbers.{n2415020·3135, n36524·2199}
 use Rattle.precess_angles.specs.rules.Days.{spanOf, daysRefusal, placeRefusal}

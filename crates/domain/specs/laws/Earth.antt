@@ -12,9 +12,9 @@ use Rattle.quantity.specs.rules.Refusal.{steepRefusal, heightRefusal}
 use Rattle.elementary.specs.rules.Fold.{fold}
 use Rattle.elementary.specs.rules.Sine.{sineOf, cosineOf, tangentOf, farthestAlone}
 use Rattle.elementary_arc.specs.rules.Arctangent.{arctangentIn}
-use Rattle.elementary.specs.laws.Accepted.{lower-none, height-accepted}
+use Rattle.quantity.specs.laws.Accepted.{lower-none, height-accepted}
 use Rattle.elementary.specs.laws.Sine.{sine-between, cosine-between}
-use Rattle.helpers.specs.rules.Earth.{ratio, radius, rhoAt, rhoIn, rhoRefusal, rhoSinCosPhiRule}
+use Rattle.helpers_earth.specs.rules.Earth.{ratio, radius, rhoAt, rhoIn, rhoRefusal, rhoSinCosPhiRule}
 use Rattle.domain_accepted.specs.laws.Accepted.{steep-far, steep-tangent}
 use Rattle.domain_accepted.specs.notions.Outcome.{Outcome, Never}
 use Rattle.domain_accepted.specs.notions.Within.{Angle, Within, BothFinite, BothWithin}

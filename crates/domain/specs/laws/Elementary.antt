@@ -14,7 +14,7 @@ use Rattle.quantity.specs.rules.Answer.{Answer, answered, refused, unless, with
 use Rattle.quantity.specs.rules.Refusal.{past, steepest, numberRefusal}
 use Rattle.quantity.specs.laws.Refusal.{finite-steepest}
 use Rattle.quantity.specs.laws.Steps.{refused-not-answered, same-value}
-use Rattle.elementary.specs.laws.Accepted.{lower-none, answered-unless, past-accepted, number-accepted}
+use Rattle.quantity.specs.laws.Accepted.{lower-none, answered-unless, past-accepted, number-accepted}
 use Rattle.elementary.specs.rules.Sine.{farthestAlone, aloneRefusal, sineOf, cosineOf, tangentOf, sineRule, cosineRule, tangentRefusal, tangentRule}
 use Rattle.elementary.specs.laws.Sine.{sine-finite, cosine-finite, tangent-finite}
 use Rattle.elementary_arc.specs.rules.Arctangent.{arctangentOf, bothZero, arctangentIn, arctangentRefusal, arctangentRule}

@@ -15,7 +15,7 @@ use Rattle.edition.specs.declared.Edition.{Edition}
 use Rattle.edition.specs.declared.Edition.the-variants.{Crate, Published}
 use Rattle.elementary_arc.specs.rules.Arctangent.{arctangentRule}
 use Rattle.helpers.specs.rules.Angle.{radiansOf}
-use Rattle.helpers.specs.rules.Earth.{rhoIn}
+use Rattle.helpers_earth.specs.rules.Earth.{rhoIn}
 use Rattle.coords.specs.rules.Horizon.{azimuthIn, azFrmEqRule, hrAnglFrmHzIn, hrAnglFrmHzRule}
 use Rattle.coords_gal.specs.rules.Galactic.{galPoleAsc, galPoleDec, celPoleLong, roundPole, galLongIn, galLongFrmEqRule, ascFrmGalIn, ascFrmGalRule}
 use Rattle.precess.specs.rules.Equatorial.{precessEqCoordsRule, precessEqCoordsFK5Rule}

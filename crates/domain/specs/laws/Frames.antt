@@ -19,7 +19,7 @@ use Rattle.elementary.specs.rules.Fold.{fold}
 use Rattle.elementary.specs.rules.Sine.{sineOf, cosineOf, tangentOf, farthestAlone}
 use Rattle.elementary_arc.specs.rules.Arctangent.{arctangentIn}
 use Rattle.elementary_arc.specs.rules.Arcsine.{arcsineIn}
-use Rattle.elementary.specs.laws.Accepted.{lower-none}
+use Rattle.quantity.specs.laws.Accepted.{lower-none}
 use Rattle.elementary.specs.laws.Sine.{sine-between, cosine-between}
 use Rattle.helpers.specs.rules.Angle.{radiansOf}
 use Rattle.coords_ecl.specs.rules.Arguments.{frameRefusal, steepFrameRefusal}

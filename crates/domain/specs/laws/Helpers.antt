@@ -7,7 +7,7 @@ use Rattle.quantity.specs.declared.Deg.{Deg}
 use Rattle.quantity.specs.declared.Rad.{Rad}
 use Rattle.quantity.specs.rules.Answer.{answered}
 use Rattle.quantity.specs.rules.Refusal.{numberRefusal, dayRefusal}
-use Rattle.elementary.specs.laws.Accepted.{number-accepted}
+use Rattle.quantity.specs.laws.Accepted.{number-accepted}
 use Rattle.helpers.specs.rules.Angle.{turnInDegrees, turnInRadians, within360, withinTwoPI, limitTo360Rule, limitToTwoPIRule}
 use Rattle.helpers.specs.rules.Time.{centuryOf, julianCentRule}
 use Rattle.helpers.specs.laws.Limit.{limited-degrees, limited-radians}

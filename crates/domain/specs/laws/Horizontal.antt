@@ -13,7 +13,7 @@ use Rattle.quantity.specs.rules.Refusal.{distanceRefusal}
 use Rattle.quantity.specs.declared.Rad.{Rad}
 use Rattle.elementary.specs.rules.Fold.{fold}
 use Rattle.elementary.specs.rules.Sine.{foldedSine, farthestAlone}
-use Rattle.elementary.specs.laws.Accepted.{distance-accepted}
+use Rattle.quantity.specs.laws.Accepted.{distance-accepted}
 use Rattle.helpers.specs.rules.Angle.{arc, radiansOf}
 use Rattle.parallax.specs.rules.Numbers.{n8·794}
 use Rattle.parallax.specs.rules.Horizontal.{sunParallax, eqHzParallaxIn, eqHzParallaxRule}

@@ -12,7 +12,7 @@ use Rattle.quantity.specs.rules.Answer.{Answer, answered, refused, Pair, pair, 
 use Rattle.quantity.specs.rules.Refusal.{dayRefusal, angleRefusal}
 use Rattle.quantity.specs.laws.Steps.{refused-not-answered}
 use Rattle.edition.specs.declared.Edition.{Edition}
-use Rattle.elementary.specs.laws.Accepted.{answered-unless}
+use Rattle.quantity.specs.laws.Accepted.{answered-unless}
 use Rattle.precess.specs.rules.Equatorial.{precessEqCoordsRule}
 use Rattle.nutation_table.specs.rules.Day.{nutationOf}
 use Rattle.nutation.specs.rules.Day.{nutationRule}

@@ -10,7 +10,7 @@ use Rattle.quantity.specs.rules.Answer.{answered, refused, Pair, pair}
 use Rattle.quantity.specs.rules.Refusal.{lower, angleRefusal, steepRefusal}
 use Rattle.quantity.specs.rules.Angle.{rad}
 use Rattle.elementary.specs.rules.Direction.{directionOf}
-use Rattle.elementary.specs.laws.Accepted.{lower-none}
+use Rattle.quantity.specs.laws.Accepted.{lower-none}
 use Rattle.nutation.specs.rules.Point.{nutationAt, nutationInRefusal, nutationInEqCoordsIn, nutationInEqCoordsRule}
 use Rattle.domain_accepted.specs.laws.Accepted.{none-of-three, angle-between, angle-sine, angle-cosine, steep-tangent}
 use Rattle.domain_accepted.specs.notions.Outcome.{Outcome, Never}

@@ -10,7 +10,7 @@ use Rattle.quantity.specs.declared.GeographPoint.{GeographPoint}
 use Rattle.quantity.specs.rules.Refusal.{lower, angleRefusal, steepRefusal, heightRefusal}
 use Rattle.quantity.specs.rules.Angle.{rad}
 use Rattle.elementary_arc.specs.rules.Arctangent.{arctangentIn}
-use Rattle.elementary.specs.laws.Accepted.{lower-none}
+use Rattle.quantity.specs.laws.Accepted.{lower-none}
 use Rattle.parallax.specs.rules.Observer.{observerRefusal}
 use Rattle.domain_accepted.specs.notions.Outcome.{Outcome}
 use Rattle.domain_accepted.specs.notions.Within.{Angle, Within}

@@ -24,7 +24,7 @@ use Rattle.elementary.specs.rules.Sine.{sineOf, cosineOf, farthestAlone}
 use Rattle.elementary_arc.specs.rules.Arctangent.{bothZero, arctangentIn}
 use Rattle.elementary_arc.specs.rules.Arcsine.{arcsineIn}
 use Rattle.elementary_arc.specs.notions.Computed as arc
-use Rattle.elementary.specs.laws.Accepted.{lower-none}
+use Rattle.quantity.specs.laws.Accepted.{lower-none}
 use Rattle.precess_ecl.specs.declared.EclPrecession.{EclPrecession}
 use Rattle.precess_angles.specs.rules.Days.{daysRefusal}
 use Rattle.precess_ecl.specs.rules.Ecliptic.{eclPrecessionOf}

@@ -12,7 +12,7 @@ use Rattle.quantity.specs.declared.Rad.{Rad}
 use Rattle.quantity.specs.rules.Answer.{answered, refused, pair}
 use Rattle.quantity.specs.rules.Refusal.{epoch, daysAround, dayRefusal}
 use Rattle.elementary.specs.rules.Sine.{cosineOf}
-use Rattle.elementary.specs.laws.Accepted.{day-accepted}
+use Rattle.quantity.specs.laws.Accepted.{day-accepted}
 use Rattle.elementary.specs.laws.Sine.{cosine-between}
 use Rattle.helpers.specs.rules.Angle.{turnInDegrees, turnInRadians, degree}
 use Rattle.helpers.specs.rules.Time.{centuryOf}

@@ -10,7 +10,7 @@ use Rattle.quantity.specs.rules.Answer.{answered, refused, Pair, pair}
 use Rattle.quantity.specs.rules.Refusal.{lower, dayRefusal, angleRefusal, steepRefusal}
 use Rattle.quantity.specs.rules.Angle.{rad}
 use Rattle.elementary.specs.rules.Direction.{directionOf}
-use Rattle.elementary.specs.laws.Accepted.{lower-none, steep-accepted}
+use Rattle.quantity.specs.laws.Accepted.{lower-none, steep-accepted}
 use Rattle.elementary.specs.laws.Sine.{sine-between, cosine-steep}
 use Rattle.helpers.specs.rules.Time.{centuryOf}
 use Rattle.aberr_table.specs.rules.Velocity.{velocityOf}

@@ -9,7 +9,7 @@ use Rattle.quantity.specs.rules.Answer.{answered, refused}
 use Rattle.quantity.specs.rules.Refusal.{distanceRefusal}
 use Rattle.quantity.specs.rules.Angle.{deg}
 use Rattle.quantity.specs.declared.Rad.{Rad}
-use Rattle.elementary.specs.laws.Accepted.{distance-accepted}
+use Rattle.quantity.specs.laws.Accepted.{distance-accepted}
 use Rattle.helpers.specs.rules.Angle.{arc, radiansOf}
 use Rattle.aberr.specs.rules.Numbers.{n20·4898}
 use Rattle.aberr.specs.rules.Sun.{solAberrOf, solAberrRule}

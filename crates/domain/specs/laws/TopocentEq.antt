@@ -23,8 +23,8 @@ use Rattle.elementary.specs.declared.Folded.{Folded}
 use Rattle.elementary.specs.rules.Fold.{fold}
 use Rattle.elementary.specs.rules.Sine.{foldedSine, sineOf, cosineOf, farthestAlone}
 use Rattle.elementary_arc.specs.rules.Arctangent.{arctangentOf, bothZero, arctangentIn}
-use Rattle.elementary.specs.laws.Accepted.{lower-none}
-use Rattle.helpers.specs.rules.Earth.{rhoIn}
+use Rattle.quantity.specs.laws.Accepted.{lower-none}
+use Rattle.helpers_earth.specs.rules.Earth.{rhoIn}
 use Rattle.coords.specs.rules.HourAngle.{hrAnglFrmObserverLong}
 use Rattle.parallax.specs.declared.Centre.{Centre}
 use Rattle.parallax.specs.rules.Observer.{centreOf, observerRefusal}

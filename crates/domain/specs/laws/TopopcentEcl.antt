@@ -31,11 +31,11 @@ use Rattle.elementary.specs.rules.Fold.{fold}
 use Rattle.elementary.specs.rules.Sine.{sineOf, cosineOf, farthestAlone}
 use Rattle.elementary_arc.specs.rules.Arctangent.{base, supplementIf, arctangentOf, arctangentIn}
 use Rattle.elementary_arc.specs.rules.Arcsine.{arcsineIn}
-use Rattle.elementary.specs.laws.Accepted.{lower-none, answered-unless}
+use Rattle.quantity.specs.laws.Accepted.{lower-none, answered-unless}
 use Rattle.elementary_arc.specs.laws.Arctangent.{arctangent-size, arctangent-answered, arctangent-in-at-most-half, arctangent-in-at-least-half}
 use Rattle.elementary_arc.specs.laws.Arctangent.{arctangent-in-at-most-pi}
 use Rattle.helpers.specs.rules.Angle.{withinTwoPI}
-use Rattle.helpers.specs.rules.Earth.{rhoIn}
+use Rattle.helpers_earth.specs.rules.Earth.{rhoIn}
 use Rattle.helpers.specs.laws.Limit.{limited-radians}
 use Rattle.parallax.specs.rules.Observer.{centreOf, observerRefusal}
 use Rattle.parallax_ecl.specs.rules.Ecliptic.{nearby, longTop, upward, latOfCrate, latPublished, latTop, semidiameterIn, eclipticFrom, eclipticAlong}

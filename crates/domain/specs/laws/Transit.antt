@@ -20,7 +20,7 @@ use Rattle.quantity.specs.rules.Angle.{rad, PI, HALF}
 use Rattle.quantity.specs.rules.Answer.{answered, refused, Triple, triple, takenFrom}
 use Rattle.quantity.specs.rules.Refusal.{lower, angleRefusal, latitudeRefusal, steepRefusal}
 use Rattle.elementary.specs.rules.Sine.{sineOf, cosineOf}
-use Rattle.elementary.specs.laws.Accepted.{lower-none, steep-accepted}
+use Rattle.quantity.specs.laws.Accepted.{lower-none, steep-accepted}
 use Rattle.elementary.specs.laws.Sine.{sine-between, cosine-steep}
 use Rattle.elementary_arc.specs.rules.Arcsine.{arcsineIn}
 use Rattle.helpers.specs.rules.Angle.{turnInRadians}

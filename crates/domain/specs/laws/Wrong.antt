@@ -20,7 +20,7 @@ use Rattle.quantity.specs.rules.Angle.{HALF, rad}
 use Rattle.quantity.specs.rules.Answer.{answered, refused, triple, statusOf}
 use Rattle.quantity.specs.rules.Refusal.{epoch}
 use Rattle.helpers.specs.rules.Angle.{degreesOfHour, limited}
-use Rattle.helpers.specs.rules.Earth.{rhoIn}
+use Rattle.helpers_earth.specs.rules.Earth.{rhoIn}
 use Rattle.edition.specs.declared.Edition.{Edition}
 use Rattle.edition.specs.declared.Edition.the-variants.{Crate, Published}
 use Rattle.precess_angles.specs.rules.Days.{placeRefusal}

@@ -12,7 +12,7 @@ use Rattle.quantity.specs.declared.Rad.{Rad}
 use Rattle.quantity.specs.rules.Angle.{HALF}
 use Rattle.quantity.specs.rules.Refusal.{lower, farthest, steepest, angleRefusal, latitudeRefusal, steepRefusal}
 use Rattle.elementary.specs.rules.Sine.{sineOf, cosineOf, tangentOf, farthestAlone}
-use Rattle.elementary.specs.laws.Accepted.{lower-none, angle-accepted, latitude-accepted, steep-accepted}
+use Rattle.quantity.specs.laws.Accepted.{lower-none, angle-accepted, latitude-accepted, steep-accepted}
 use Rattle.elementary.specs.laws.Sine.{sine-between, cosine-between, tangent-between}
 
 pub none-of-three : (a b c : ℕ) → lower a (lower b c) ≡ 0 → (a ≡ 0) × (b ≡ 0) × (c ≡ 0)

@@ -28,7 +28,7 @@ use Rattle.quantity.specs.rules.Refusal.{farthest, angleRefusal, latitudeRefusa
 use Rattle.elementary.specs.rules.Fold.{I, P1, P2, P3, fold, quarters, rest}
 use Rattle.elementary.specs.rules.Series.{sineSeries, cosineSeries}
 use Rattle.elementary.specs.rules.Sine.{cosineQuarter, foldedCosine, cosineOf, farthestAlone}
-use Rattle.elementary.specs.laws.Accepted.{angle-accepted, latitude-accepted}
+use Rattle.quantity.specs.laws.Accepted.{angle-accepted, latitude-accepted}
 use Rattle.elementary.specs.laws.Fold.{rest-at-most-one}
 use Rattle.elementary.specs.laws.Sine.{sineExpr, cosineExpr, square-one}
 use Rattle.domain_accepted.specs.notions.Away.{away, Away, pastHalf, stepAt, pointAt, lastBelow, firstAbove, fullLength, withinReach}

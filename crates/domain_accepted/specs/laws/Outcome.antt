@@ -7,7 +7,7 @@ use lib.Ieee.{Float}
 use Rattle.quantity.specs.declared.Rad.{Rad}
 use Rattle.quantity.specs.rules.Answer.{Answer, answered, refused, Pair, pair, first, second, unless, with, then, both}
 use Rattle.quantity.specs.laws.Steps.{refused-not-answered, same-value, same-number}
-use Rattle.elementary.specs.laws.Accepted.{answered-unless}
+use Rattle.quantity.specs.laws.Accepted.{answered-unless}
 use Rattle.domain_accepted.specs.notions.Outcome.{Outcome}
 use Rattle.domain_accepted.specs.notions.Within.{Angle}
 

@@ -23,7 +23,7 @@ use Rattle.quantity.specs.declared.Deg.{Deg}
 use Rattle.quantity.specs.rules.Angle.{deg}
 use Rattle.helpers.specs.rules.Angle.{limited, turnInDegrees, within360}
 use Rattle.helpers.specs.laws.Limit.{limited-degrees}
-use Rattle.heading.specs.rules.Circle.{belowTurn, onCircle}
+use Rattle.helpers.specs.rules.Circle.{belowTurn, onCircle}
 use Rattle.heading.specs.notions.Computed.{computed}
 use Rattle.domain_heading.specs.notions.Circle.{IsHeading}
 

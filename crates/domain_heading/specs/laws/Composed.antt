@@ -22,7 +22,7 @@ use Rattle.coords.specs.rules.Horizon.{azFrmEqRule, altFrmEqRule}
 use Rattle.precess_angles.specs.rules.Days.{daysRefusal}
 use Rattle.batch.specs.rules.Star.{starRule}
 use Rattle.sidereal.specs.rules.Apparent.{apparentOf, apparentSiderealRule}
-use Rattle.heading.specs.rules.Circle.{belowTurn, onCircle}
+use Rattle.helpers.specs.rules.Circle.{belowTurn, onCircle}
 use Rattle.heading.specs.rules.Sky.{northward, bearings, skyFrom, skyIn, skyUnder}
 use Rattle.heading.specs.rules.Heading.{recordOf, headingRefusal, headingIn, headingRule}
 use Rattle.conditions.specs.laws.Azimuth.{azimuth-at-most-half-turn}

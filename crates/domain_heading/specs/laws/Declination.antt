@@ -19,7 +19,8 @@ use Rattle.quantity.specs.rules.Answer.{Answer, answered, refused, triple, then
 use Rattle.quantity.specs.laws.Steps.{refused-not-answered, same-value}
 use Rattle.units.specs.rules.Degrees.{degreesOfRadian, toDegrees}
 use Rattle.coords.specs.rules.Horizon.{southward, azFrmEqRule, altFrmEqRule}
-use Rattle.heading.specs.rules.Sky.{halfTurn, bearings, skyFrom, skyIn}
+use Rattle.helpers.specs.rules.Circle.{halfTurn}
+use Rattle.heading.specs.rules.Sky.{bearings, skyFrom, skyIn}
 use Rattle.conditions.specs.laws.Azimuth.{azimuth-at-most-half-turn}
 use Rattle.conditions.specs.laws.Declination.{altitude-declination, azimuth-refused-there, azimuth-refused-here, azimuth-sign-stays, azimuth-size-there}
 use Rattle.conditions.specs.laws.Declination.{azimuth-size-here}

@@ -18,14 +18,15 @@ use Rattle.quantity.specs.rules.Answer.{answered, Pair, first, second, Triple, 
 use Rattle.quantity.specs.laws.Steps.{stepped, same-value}
 use Rattle.edition.specs.declared.Edition.{Edition}
 use Rattle.elementary.specs.rules.Sine.{sineOf}
-use Rattle.elementary.specs.laws.Accepted.{answered-unless}
+use Rattle.quantity.specs.laws.Accepted.{answered-unless}
 use Rattle.helpers.specs.rules.Angle.{turnInDegrees}
 use Rattle.coords.specs.rules.HourAngle.{observerLongRefusal, hrAnglFrmObserverLong, hrAnglFrmObserverLongRule}
 use Rattle.coords.specs.rules.Horizon.{southward}
 use Rattle.list.specs.declared.Star.{Star}
 use Rattle.batch.specs.rules.Star.{starRule}
 use Rattle.sidereal.specs.rules.Apparent.{apparentOf}
-use Rattle.heading.specs.rules.Sky.{halfTurn, skyIn, skyUnder}
+use Rattle.helpers.specs.rules.Circle.{halfTurn}
+use Rattle.heading.specs.rules.Sky.{skyIn, skyUnder}
 use Rattle.heading.specs.rules.Heading.{recordOf, headingRefusal, headingIn, headingRule}
 use Rattle.domain_heading.specs.notions.Circle.{IsHeading, east, west}
 use Rattle.domain_heading.specs.notions.Heading.{hourAngle, Sighted}

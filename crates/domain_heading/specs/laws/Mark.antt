@@ -23,9 +23,10 @@ use Rattle.quantity.specs.declared.Degrees.{Degrees}
 use Rattle.quantity.specs.declared.Degrees.the-variants.{Are}
 use Rattle.quantity.specs.rules.Answer.{answered, refused, shownDegrees}
 use Rattle.quantity.specs.laws.Steps.{refused-not-answered, same-value}
-use Rattle.elementary.specs.laws.Accepted.{lower-none, answered-unless}
+use Rattle.quantity.specs.laws.Accepted.{lower-none, answered-unless}
 use Rattle.helpers.specs.rules.Angle.{turnInDegrees}
-use Rattle.heading.specs.rules.Circle.{circleRefusal}
+use Rattle.helpers.specs.rules.Circle.{circleRefusal}
+use Rattle.helpers.specs.laws.Circle.{circle-finite, circle-from-zero, circle-below-turn}
 use Rattle.heading.specs.rules.Mark.{markIn, markRefusal, markHeadingRule}
 use Rattle.domain_heading.specs.notions.Circle.{IsHeading}
 use Rattle.domain_heading.specs.laws.Circle.{on-circle-stays, on-circle-within}
@@ -33,16 +34,7 @@ use Rattle.domain_heading.specs.laws.Refusals.{unless-refuses, lower-of}
 
 -- an angle that is not refused lies on the circle
 pub circle-accepted : (x : Deg) → circleRefusal x ≡ 0 → IsHeading (x .0)
-unfolding circleRefusal
-circle-accepted x e = by-case (isFinite (x .0)) (lt (x .0) zero) (lt (x .0) turnInDegrees) (λ t. t) (λ t. t) (λ t. t) e
-  where
-    by-case : (b c d : Bool) → (T b → Finite (x .0)) → (T (not c) → T (not (lt (x .0) zero))) → (T d → T (lt (x .0) turnInDegrees))
-        → _≡_ {A = ℕ} (cond b (cond c 3 (cond d 0 3)) 1) 0 → IsHeading (x .0)
-    by-case true true d f k l e = absurd (omega arith)
-    by-case true false true f k l e =
-        record { finite = f tt; from = le-of-not-lt (x .0) zero (f tt) finite-zero (k tt); below = l tt }
-    by-case true false false f k l e = absurd (omega arith)
-    by-case false c d f k l e = absurd (omega arith)
+circle-accepted x e = record { finite = circle-finite x e; from = circle-from-zero x e; below = circle-below-turn x e }
 
 in-turn : (x : Deg) → circleRefusal x ≡ 0 → Between zero turnInDegrees (x .0)
 in-turn x e =
@@ -73,12 +65,12 @@ NoneOneOrThree n = (n ≡ 0) ⊎ (n ≡ 1) ⊎ (n ≡ 3)
 
 circle-number : (x : Deg) → NoneOneOrThree (circleRefusal x)
 unfolding circleRefusal
-circle-number x = by-case (isFinite (x .0)) (lt (x .0) zero) (lt (x .0) turnInDegrees)
+circle-number x = by-case (isFinite (x .0)) (le zero (x .0)) (lt (x .0) turnInDegrees)
   where
-    by-case : (b c d : Bool) → NoneOneOrThree (cond b (cond c 3 (cond d 0 3)) 1)
-    by-case true true d = inr (inr refl)
-    by-case true false true = inl refl
-    by-case true false false = inr (inr refl)
+    by-case : (b c d : Bool) → NoneOneOrThree (cond b (cond c (cond d 0 3) 3) 1)
+    by-case true true true = inl refl
+    by-case true true false = inr (inr refl)
+    by-case true false d = inr (inr refl)
     by-case false c d = inr (inl refl)
 
 pub mark-refuses : (heading star mark : Deg) (n : ℕ) → markHeadingRule heading star mark ≡ refused n → (n ≡ 1) ⊎ (n ≡ 3)

@@ -26,8 +26,8 @@ use Rattle.quantity.specs.rules.Answer.{Answer, answered, refused, triple, with
 use Rattle.units.specs.rules.Degrees.{degreesOfRadian, toDegrees}
 use Rattle.helpers.specs.rules.Angle.{turnInDegrees}
 use Rattle.coords.specs.rules.Horizon.{azFrmEqRule, altFrmEqRule}
-use Rattle.heading.specs.rules.Circle.{onCircle}
-use Rattle.heading.specs.rules.Sky.{halfTurn, northward, bearings, skyFrom, skyIn}
+use Rattle.helpers.specs.rules.Circle.{halfTurn, onCircle}
+use Rattle.heading.specs.rules.Sky.{northward, bearings, skyFrom, skyIn}
 use Rattle.conditions.specs.laws.HourAngle.{azimuth-hour, altitude-hour}
 use Rattle.domain_heading.specs.notions.Mirror.{mirrored, least, belowWholeTurn, aboveWholeTurn, Across, adds-up, first-north, second-north}
 use Rattle.domain_heading.specs.laws.Circle.{on-circle-cases}

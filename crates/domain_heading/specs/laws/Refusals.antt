@@ -27,7 +27,7 @@ use Rattle.quantity.specs.declared.Three.the-variants.{Refused}
 use Rattle.quantity.specs.rules.Answer.{shownThree}
 use Rattle.edition.specs.declared.Edition.{Edition}
 use Rattle.elementary.specs.rules.Sine.{sineOf}
-use Rattle.elementary.specs.laws.Accepted.{answered-unless, latitude-accepted}
+use Rattle.quantity.specs.laws.Accepted.{answered-unless, latitude-accepted}
 use Rattle.elementary_arc.specs.laws.Arctangent.{arctangent-refuses-fourteen}
 use Rattle.elementary_arc.specs.laws.Arcsine.{arcsine-refuses-seven}
 use Rattle.coords.specs.rules.Arguments.{skyRefusal, steepSkyRefusal}

@@ -21,7 +21,8 @@ use Rattle.units.specs.rules.Degrees.{degreesOfRadian, toDegrees}
 use Rattle.elementary.specs.rules.Sine.{sineOf}
 use Rattle.helpers.specs.rules.Angle.{turnInDegrees}
 use Rattle.coords.specs.rules.Horizon.{southward, azFrmEqRule, altFrmEqRule}
-use Rattle.heading.specs.rules.Sky.{halfTurn, northward, bearings, skyFrom, skyIn}
+use Rattle.helpers.specs.rules.Circle.{halfTurn}
+use Rattle.heading.specs.rules.Sky.{northward, bearings, skyFrom, skyIn}
 use Rattle.conditions.specs.laws.Azimuth.{azimuth-sign, azimuth-at-most-quarter-turn, azimuth-at-least-quarter-turn, azimuth-at-most-half-turn}
 use Rattle.domain.specs.laws.Frames.{alt-frm-eq-at-most-quarter-turn}
 use Rattle.domain_heading.specs.notions.Circle.{IsHeading, east, west}

@@ -15,7 +15,8 @@ use Rattle.quantity.specs.declared.Rad.{Rad}
 use Rattle.quantity.specs.rules.Angle.{PI, HALF}
 use Rattle.units.specs.rules.Degrees.{degreesOfRadian, toDegrees}
 use Rattle.helpers.specs.rules.Angle.{turnInDegrees}
-use Rattle.heading.specs.rules.Sky.{halfTurn, northward}
+use Rattle.helpers.specs.rules.Circle.{halfTurn}
+use Rattle.heading.specs.rules.Sky.{northward}
 use Rattle.domain_heading.specs.notions.Circle.{IsHeading, east, west}
 use Rattle.domain_heading.specs.notions.Sky.{turned}
 use Rattle.domain_heading.specs.laws.Circle.{on-circle-cases, on-circle-within}

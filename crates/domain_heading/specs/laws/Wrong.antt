@@ -16,7 +16,8 @@ use Rattle.quantity.specs.notions.Stated.{r0, r½, r1}
 use Rattle.units.specs.rules.Degrees.{toDegrees}
 use Rattle.helpers.specs.rules.Angle.{turnInDegrees, turnInRadians}
 use Rattle.coords.specs.rules.Horizon.{southward}
-use Rattle.heading.specs.rules.Sky.{halfTurn, skyIn}
+use Rattle.helpers.specs.rules.Circle.{halfTurn}
+use Rattle.heading.specs.rules.Sky.{skyIn}
 use Rattle.heading.specs.rules.Mark.{markRefusal}
 use Rattle.heading.specs.notions.Computed.{computed}
 use Rattle.heading.specs.notions.Wrong.{wholeTurnKept, southForNorth, eastForWest, quarterForHalf, oppositeHeading, markFromNorth}

@@ -14,8 +14,7 @@ use Rattle.coords.specs.rules.HourAngle.{hrAnglFrmObserverLongRule}
 use Rattle.coords.specs.rules.Horizon.{azFrmEqRule, altFrmEqRule}
 use Rattle.batch.specs.rules.Star.{starRule}
 use Rattle.sidereal.specs.rules.Apparent.{apparentSiderealRule}
-use Rattle.heading.specs.rules.Circle.{belowTurn}
-use Rattle.heading.specs.rules.Sky.{halfTurn}
+use Rattle.helpers.specs.rules.Circle.{halfTurn, belowTurn}
 use Rattle.heading.specs.rules.Heading.{recordOf}
 
 -- the turn from south to north, by `limit_to_360`

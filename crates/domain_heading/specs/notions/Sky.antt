@@ -6,7 +6,8 @@ use Rattle.quantity.specs.declared.Rad.{Rad}
 use Rattle.quantity.specs.rules.Answer.{answered}
 use Rattle.units.specs.rules.Degrees.{toDegrees}
 use Rattle.coords.specs.rules.Horizon.{azFrmEqRule, altFrmEqRule}
-use Rattle.heading.specs.rules.Sky.{halfTurn, northward}
+use Rattle.helpers.specs.rules.Circle.{halfTurn}
+use Rattle.heading.specs.rules.Sky.{northward}
 
 pub record InSky (h d p : Rad) (x z a : Float) : Type 0 where
   pub az : Rad

@@ -4,7 +4,7 @@ use mir.Facts.{toZ-ofZ}
 use Rattle.double.specs.laws.Calls.{asks-nothing}
 use Rattle.quantity.specs.laws.Answer.{refuses, goes-on}
 use Rattle.precess_angles.specs.rules.Days.{daysRefusal}
-use Rattle.elementary.specs.laws.Accepted.{lower-none}
+use Rattle.quantity.specs.laws.Accepted.{lower-none}
 use Rattle.heading.specs.rules.Heading.{headingRefusal, headingRule}
 use Rattle.heading.specs.laws.Night.{heading-under-a-night}
 use Rattle.heading.proofs.heading.Statement.{statement}

@@ -9,8 +9,8 @@ use Rattle.quantity.specs.rules.Angle.{deg}
 use Rattle.quantity.specs.notions.Code.{ofDeg, ofTriple, ofAnswer}
 use Rattle.quantity.specs.notions.Stated.{r0, r½, r1}
 use Rattle.quantity.specs.notions.Varies.{Varies}
-use Rattle.heading.specs.rules.Circle.{onCircle}
-use Rattle.heading.specs.rules.Sky.{halfTurn, northward, bearings, skyIn, skyUnder}
+use Rattle.helpers.specs.rules.Circle.{halfTurn, onCircle}
+use Rattle.heading.specs.rules.Sky.{northward, bearings, skyIn, skyUnder}
 use Rattle.heading.specs.rules.Mark.{markIn, markHeadingRule}
 use Rattle.heading.specs.notions.Computed.{computed}
 use Rattle.heading.specs.notions.Wrong.{wholeTurnKept, southForNorth, eastForWest, notFolded, quarterForHalf, oppositeHeading}

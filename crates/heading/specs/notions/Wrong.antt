@@ -14,8 +14,8 @@ use Rattle.coords.specs.notions.Wrong.{oppositeQuadrant}
 use Rattle.list.specs.declared.Star.{Star}
 use Rattle.batch.specs.rules.Star.{starRule}
 use Rattle.sidereal.specs.rules.Mean.{meanOf}
-use Rattle.heading.specs.rules.Circle.{onCircle}
-use Rattle.heading.specs.rules.Sky.{halfTurn, northward, skyFrom, skyUnder}
+use Rattle.helpers.specs.rules.Circle.{halfTurn, onCircle}
+use Rattle.heading.specs.rules.Sky.{northward, skyFrom, skyUnder}
 use Rattle.heading.specs.rules.Heading.{headingIn}
 use Rattle.heading.specs.rules.Mark.{markIn}
 

@@ -5,7 +5,7 @@ use Rattle.quantity.specs.declared.Deg.{Deg}
 use Rattle.quantity.specs.rules.Angle.{deg}
 use Rattle.quantity.specs.rules.Answer.{Answer, answered, unless}
 use Rattle.quantity.specs.rules.Refusal.{lower}
-use Rattle.heading.specs.rules.Circle.{onCircle, circleRefusal}
+use Rattle.helpers.specs.rules.Circle.{onCircle, circleRefusal}
 
 unfoldable pub markIn : Deg → Deg → Deg → Deg
 markIn heading star mark = onCircle (deg (heading .0 ⊕ (mark .0 ⊖ star .0)))

@@ -1,6 +1,5 @@
 -- A star in the sky: its heading, its azimuth and its altitude in degrees. Azimuth is counted from south, a heading from north, both clockwise.
-use lib.Ieee.{Float}
-use Rattle.double.specs.rules.Operations.{bits, _⊕_}
+use Rattle.double.specs.rules.Operations.{_⊕_}
 use Rattle.quantity.specs.declared.Deg.{Deg}
 use Rattle.quantity.specs.declared.Rad.{Rad}
 use Rattle.quantity.specs.rules.Angle.{deg}
@@ -8,11 +7,7 @@ use Rattle.quantity.specs.rules.Answer.{Answer, answered, Triple, triple, then}
 use Rattle.units.specs.rules.Degrees.{toDegrees}
 use Rattle.coords.specs.rules.HourAngle.{hrAnglFrmObserverLongRule}
 use Rattle.coords.specs.rules.Horizon.{azFrmEqRule, altFrmEqRule}
-use Rattle.heading.specs.rules.Circle.{onCircle}
-
--- 180.0
-abbrev pub halfTurn : Float
-halfTurn = bits 0x4066800000000000
+use Rattle.helpers.specs.rules.Circle.{halfTurn, onCircle}
 
 -- the turn from south to north
 unfoldable pub northward : Deg → Deg

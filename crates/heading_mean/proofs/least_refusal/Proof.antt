@@ -26,7 +26,7 @@ loop-again c =
     let s = pass .before .before .before .args .headings .now in (
       omega (arith, pass .loop-test .taken),
       ap (λ (n : ℕ). lower n (leastRefusal bitsRefusal (drop (pass .before .loop .i + 1) s)))
-          (rw (at-one .heading-refusal .ensures, at-pattern .of-pattern .ensures) at (c .lower .ensures))
+          (rw (at-one .circle-refusal .ensures, at-pattern .of-pattern .ensures) at (c .lower .ensures))
           ∙ least-next bitsRefusal s (pass .before .loop .i) (pass .before .loop .refusal) (pass .loop-test .taken)
           ∙ pass .before .loop .inv .1,
     )

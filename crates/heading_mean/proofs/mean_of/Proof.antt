@@ -7,9 +7,8 @@ use Rattle.heading_mean.proofs.mean_of.Tie as tie
 returns : tie.Need-returns
 unfolding meanOf
 returns c =
-    let at-fold = c .before in
-    let at-count = at-fold .before in
-    rw (at-fold .within-360 .ensures, at-count .from-whole .ensures, at-count .before .sum-of .ensures) at (c .below-turn .ensures)
+    let at-count = c .before in
+    rw (at-count .from-whole .ensures, at-count .before .sum-of .ensures) at (c .on-circle .ensures)
 
 pub mean-of-spec : {M : Type 1} → statement M
-mean-of-spec = tie.close (tie.spec asks-nothing asks-nothing asks-nothing asks-nothing returns)
+mean-of-spec = tie.close (tie.spec asks-nothing asks-nothing asks-nothing returns)

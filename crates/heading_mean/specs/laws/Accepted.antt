@@ -14,6 +14,7 @@ use Rattle.double.specs.rules.Order.{Finite, _≼_}
 use Rattle.quantity.specs.declared.Deg.{Deg}
 use Rattle.quantity.specs.rules.Answer.{answered, refused}
 use Rattle.helpers.specs.rules.Angle.{turnInDegrees}
+use Rattle.helpers.specs.rules.Circle.{circleRefusal}
 use Rattle.list.specs.rules.Stars.{mostStars}
 use Rattle.residual_sheet.specs.notions.Place.{Some, none, some}
 use Rattle.residual_sheet.specs.laws.Parts.{some-or-none, is-none, is-some}
@@ -21,7 +22,7 @@ use Rattle.residual_sheet.specs.laws.Residuals.{least-accepted}
 use Rattle.heading_mean.specs.declared.Mean.{Mean}
 use Rattle.heading_mean.specs.declared.Mean.the-variants.{Is, Refused}
 use Rattle.heading_mean.specs.rules.Reference.{headingOf, referencePlace}
-use Rattle.heading_mean.specs.rules.Mean.{headingRefusal, bitsRefusal, numberRefusal, headingsRefusal, shownMean, meanFrom, meanIn}
+use Rattle.heading_mean.specs.rules.Mean.{bitsRefusal, numberRefusal, headingsRefusal, shownMean, meanFrom, meanIn}
 use Rattle.heading_mean.specs.notions.Accepted.{Accepted}
 
 -- ---- the number of them
@@ -57,30 +58,7 @@ headings-accepted headings e = by-number (some-or-none (numberRefusal (length he
 
 -- ---- each of them
 
-module _ (x : Deg) (e : headingRefusal x ≡ 0) where
-  finite-then : (t : Bool) (n : ℕ) → cond t n 1 ≡ 0 → (T t) × (n ≡ 0)
-  finite-then true n e = (tt, e)
-  finite-then false n e = absurd (omega arith)
-
-  within-then : (t : Bool) (n : ℕ) → cond t n 3 ≡ 0 → (T t) × (n ≡ 0)
-  within-then true n e = (tt, e)
-  within-then false n e = absurd (omega arith)
-
-  pub heading-finite : Finite (x .0)
-  unfolding headingRefusal
-  heading-finite = finite-then (isFinite (x .0)) _ e .0
-
-  rest : cond {A = ℕ} (le zero (x .0)) (cond (lt (x .0) turnInDegrees) 0 3) 3 ≡ 0
-  unfolding headingRefusal
-  rest = finite-then (isFinite (x .0)) _ e .1
-
-  pub heading-from-zero : zero ≼ x .0
-  heading-from-zero = within-then (le zero (x .0)) _ rest .0
-
-  pub heading-below-turn : T (lt (x .0) turnInDegrees)
-  heading-below-turn = within-then (lt (x .0) turnInDegrees) 0 (within-then (le zero (x .0)) _ rest .1) .0
-
-pub each-accepted : (headings : List ℕ) → Accepted headings → (i : ℕ) → i < length headings → headingRefusal (headingOf (getD headings i 0)) ≡ 0
+pub each-accepted : (headings : List ℕ) → Accepted headings → (i : ℕ) → i < length headings → circleRefusal (headingOf (getD headings i 0)) ≡ 0
 each-accepted headings a i h = least-accepted bitsRefusal headings i h (a .each)
 
 -- ---- the two ends of the work

@@ -12,13 +12,14 @@ use Rattle.double.specs.rules.Operations.{_⊘_}
 use Rattle.quantity.specs.declared.Deg.{Deg}
 use Rattle.quantity.specs.rules.Answer.{Answer, answered, refused}
 use Rattle.units.specs.rules.Degrees.{milliarcsecondsOfDegree}
+use Rattle.helpers.specs.rules.Circle.{circleRefusal}
 use Rattle.residual_sheet.specs.declared.Sheet.{Sheet}
 use Rattle.residual_sheet.specs.rules.Residual.{isAside}
 use Rattle.residual_sheet.specs.rules.Entry.{aside, taken}
 use Rattle.residual_sheet.specs.rules.Sheet.{takenIn, figuresOf}
 use Rattle.heading_mean.specs.rules.Residual.{residualFrom}
 use Rattle.heading_mean.specs.rules.Reference.{headingOf, vote, agreeing, isReference, firstReference, referencePlace}
-use Rattle.heading_mean.specs.rules.Mean.{headingRefusal, headingsRefusal, entryFrom, entriesFrom, figuresFrom, meanResidual, meanOf, MeanAndSheet, mean, meanFrom, meanIn, meanHeadingRule}
+use Rattle.heading_mean.specs.rules.Mean.{headingsRefusal, entryFrom, entriesFrom, figuresFrom, meanResidual, meanOf, MeanAndSheet, mean, meanFrom, meanIn, meanHeadingRule}
 use Rattle.heading_mean.specs.notions.Accepted.{Accepted}
 use Rattle.heading_mean.specs.notions.Near.{InTurn, referenceOf, Answered, IsOffset}
 use Rattle.heading_mean.specs.laws.Accepted.{headings-accepted, each-accepted}
@@ -91,7 +92,7 @@ answered-from headings m e = by-refusal (eqb (headingsRefusal headings) 0) refl 
     by-refusal false f e = absurd (refused-is-none e)
 
 module _ {headings : List ℕ} {m : MeanAndSheet} (a : Answered headings m) where
-  pub reference-accepted : headingRefusal (referenceOf headings) ≡ 0
+  pub reference-accepted : circleRefusal (referenceOf headings) ≡ 0
   reference-accepted = each-accepted headings (a .accepted) (referencePlace headings) (a .there)
 
   pub some-taken : 0 < figuresFrom (referenceOf headings) headings .count

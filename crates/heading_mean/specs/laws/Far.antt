@@ -32,13 +32,13 @@ use Rattle.units.specs.rules.Degrees.{milliarcseconds, milliarcsecondsOfDegree}
 use Rattle.units.specs.rules.Nearest.{nearestWhole}
 use Rattle.remainder.specs.laws.Remainder.{remainder-is-only}
 use Rattle.helpers.specs.rules.Angle.{turnInDegrees, within360, remainder, limited}
+use Rattle.helpers.specs.rules.Circle.{halfTurn, circleRefusal}
+use Rattle.helpers.specs.laws.Circle.{circle-from-zero, circle-below-turn}
 use Rattle.helpers.specs.laws.Limit.{limited-degrees}
 use Rattle.residual_sheet.specs.rules.Residual.{rounded, isAside, farthestTaken}
-use Rattle.heading_mean.specs.rules.Residual.{halfTurn, takenBack, across, residualFrom}
-use Rattle.heading_mean.specs.rules.Mean.{headingRefusal}
+use Rattle.heading_mean.specs.rules.Residual.{takenBack, across, residualFrom}
 use Rattle.heading_mean.specs.notions.Far.{Far, underHalf, overHalf, HalfATurnOff}
 use Rattle.heading_mean.specs.laws.Arc.{neg-rounds}
-use Rattle.heading_mean.specs.laws.Accepted.{heading-from-zero, heading-below-turn}
 
 -- ---- what is taken across the turn
 
@@ -53,13 +53,13 @@ taken-back-within x i =
     (known (between {a = halfTurn} {b = turnInDegrees} {z = x .0} tt (i .end) (le-of-lt halfTurn (x .0) t) (i .to)) ⊟ con turnInDegrees) tt)
     (λ t. between tt tt (≼-trans minusHalfTurn zero (x .0) tt (i .from)) (le-of-not-lt halfTurn (x .0) tt (i .finite) t))
 
-module _ (reference heading : Deg) (R : headingRefusal reference ≡ 0) (H : headingRefusal heading ≡ 0) where
+module _ (reference heading : Deg) (R : circleRefusal reference ≡ 0) (H : circleRefusal heading ≡ 0) where
   abbrev difference : Float
   difference = heading .0 ⊖ reference .0
 
-  within : (x : Deg) → headingRefusal x ≡ 0 → Between zero turnInDegrees (x .0)
+  within : (x : Deg) → circleRefusal x ≡ 0 → Between zero turnInDegrees (x .0)
   unfolding isFinite ofBits
-  within x e = between tt tt (heading-from-zero x e) (le-of-lt (x .0) turnInDegrees (heading-below-turn x e))
+  within x e = between tt tt (circle-from-zero x e) (le-of-lt (x .0) turnInDegrees (circle-below-turn x e))
 
   -- `limit_to_360` refuses no difference
   pub difference-within : Between (neg turnInDegrees) turnInDegrees difference
@@ -98,7 +98,7 @@ far-large a i (inr h) =
     let below = bounded binary64 (neg most) (neg milliarcsecondsOfDegree) (known (between {a = minusHalfTurn} {b = neg one} {z = a} (i .start) tt (i .from) h) ⊠ con milliarcsecondsOfDegree) tt in
     subst (λ (z : Float). 3600000 ≤ nearestWhole z) (size-neg y) (large (neg y) (between-neg below))
 
-pub far-is-aside : (reference heading : Deg) → headingRefusal reference ≡ 0 → headingRefusal heading ≡ 0 → Far reference heading
+pub far-is-aside : (reference heading : Deg) → circleRefusal reference ≡ 0 → circleRefusal heading ≡ 0 → Far reference heading
     → isAside (residualFrom reference heading) ≡ true
 unfolding residualFrom rounded
 far-is-aside reference heading R H f =
@@ -211,6 +211,6 @@ half-a-turn-turned reference heading p q (inr i) =
     (turned (heading .0) (reference .0) q p (neg overHalf) (neg underHalf) i)))
 
 -- a sight half a turn off is set aside
-pub half-a-turn-is-aside : (reference heading : Deg) → headingRefusal reference ≡ 0 → headingRefusal heading ≡ 0 → HalfATurnOff reference heading
+pub half-a-turn-is-aside : (reference heading : Deg) → circleRefusal reference ≡ 0 → circleRefusal heading ≡ 0 → HalfATurnOff reference heading
     → isAside (residualFrom reference heading) ≡ true
 half-a-turn-is-aside reference heading R H o = far-is-aside reference heading R H (half-a-turn-is-far reference heading o)

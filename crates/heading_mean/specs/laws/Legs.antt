@@ -30,13 +30,13 @@ use Rattle.quantity.specs.rules.Angle.{deg}
 use Rattle.units.specs.rules.Degrees.{milliarcseconds, milliarcsecondsOfDegree}
 use Rattle.units.specs.rules.Nearest.{nearestWhole}
 use Rattle.helpers.specs.rules.Angle.{turnInDegrees, limited}
+use Rattle.helpers.specs.rules.Circle.{halfTurn, circleRefusal}
+use Rattle.helpers.specs.laws.Circle.{circle-finite, circle-from-zero, circle-below-turn}
 use Rattle.helpers.specs.laws.Limit.{limited-degrees}
 use Rattle.residual_sheet.specs.rules.Residual.{rounded, isAside, farthestTaken}
-use Rattle.heading_mean.specs.rules.Residual.{halfTurn, takenBack, across, residualFrom}
-use Rattle.heading_mean.specs.rules.Mean.{headingRefusal}
+use Rattle.heading_mean.specs.rules.Residual.{takenBack, across, residualFrom}
 use Rattle.heading_mean.specs.notions.Near.{farthestOffset}
 use Rattle.heading_mean.specs.notions.Arc.{unit, over, under, Within, Counted, Near}
-use Rattle.heading_mean.specs.laws.Accepted.{heading-finite, heading-from-zero, heading-below-turn}
 use Rattle.heading_mean.specs.laws.Far.{nearest-from-whole, difference-within, across-within, folded}
 use Rattle.heading_mean.specs.laws.Arc.{counted, counts-order, neg-counted, sum-near, difference-near, cancelled-back, turn-counted}
 use Rattle.heading_mean.specs.laws.Arc.{turn-count, heading-counted}
@@ -124,7 +124,7 @@ limited-fits x F e =
     subst (λ (z : Float). T (fits binary64 z)) (sym e)
     (by-test (λ (z : Float). T (fits binary64 z)) (lt x operations.zero) (x ⊕ turnInDegrees) x (λ t. add-fits binary64 x turnInDegrees) (λ t. F))
 
-module _ (reference heading : Deg) (R : headingRefusal reference ≡ 0) (H : headingRefusal heading ≡ 0) (fr : T (fits binary64 (reference .0)))
+module _ (reference heading : Deg) (R : circleRefusal reference ≡ 0) (H : circleRefusal heading ≡ 0) (fr : T (fits binary64 (reference .0)))
     (fh : T (fits binary64 (heading .0))) where
   abbrev d : Float
   d = heading .0 ⊖ reference .0
@@ -136,16 +136,16 @@ module _ (reference heading : Deg) (R : headingRefusal reference ≡ 0) (H : hea
   r = count (reference .0)
 
   heading-counts : Counted (heading .0) h 0
-  heading-counts = heading-counted (heading .0) fh (heading-finite heading H) (heading-from-zero heading H)
+  heading-counts = heading-counted (heading .0) fh (circle-finite heading H) (circle-from-zero heading H)
 
   reference-counts : Counted (reference .0) r 0
-  reference-counts = heading-counted (reference .0) fr (heading-finite reference R) (heading-from-zero reference R)
+  reference-counts = heading-counted (reference .0) fr (circle-finite reference R) (circle-from-zero reference R)
 
   heading-most : h ≤ 360 * unit
-  heading-most = omega (arith, counts-order heading-counts turn-counted (le-of-lt (heading .0) turnInDegrees (heading-below-turn heading H)))
+  heading-most = omega (arith, counts-order heading-counts turn-counted (le-of-lt (heading .0) turnInDegrees (circle-below-turn heading H)))
 
   reference-most : r ≤ 360 * unit
-  reference-most = omega (arith, counts-order reference-counts turn-counted (le-of-lt (reference .0) turnInDegrees (heading-below-turn reference R)))
+  reference-most = omega (arith, counts-order reference-counts turn-counted (le-of-lt (reference .0) turnInDegrees (circle-below-turn reference R)))
 
   d-finite : Finite d
   d-finite = difference-within reference heading R H .finite

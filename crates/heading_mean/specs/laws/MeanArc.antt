@@ -25,6 +25,8 @@ use Rattle.quantity.specs.rules.Angle.{deg}
 use Rattle.quantity.specs.rules.Answer.{answered}
 use Rattle.units.specs.rules.Degrees.{milliarcsecondsOfDegree}
 use Rattle.helpers.specs.rules.Angle.{turnInDegrees, limited, remainder}
+use Rattle.helpers.specs.rules.Circle.{belowTurn, onCircle, circleRefusal}
+use Rattle.helpers.specs.laws.Circle.{circle-finite, circle-from-zero, circle-below-turn}
 use Rattle.helpers.specs.laws.Limit.{limited-degrees}
 use Rattle.remainder.specs.rules.Remainder.{IsRemainder}
 use Rattle.remainder.specs.laws.Exact.{remainder-is-exact}
@@ -32,12 +34,12 @@ use Rattle.residual_sheet.specs.declared.Sheet.{Sheet}
 use Rattle.residual_sheet.specs.rules.Residual.{isAside}
 use Rattle.heading_mean.specs.rules.Residual.{residualFrom}
 use Rattle.heading_mean.specs.rules.Reference.{headingOf, vote, isReference, referencePlace}
-use Rattle.heading_mean.specs.rules.Mean.{headingRefusal, figuresFrom, belowTurn, meanOf, MeanAndSheet, mean, meanFrom, meanHeadingRule}
+use Rattle.heading_mean.specs.rules.Mean.{figuresFrom, meanOf, MeanAndSheet, mean, meanFrom, meanHeadingRule}
 use Rattle.heading_mean.specs.notions.Accepted.{Accepted}
 use Rattle.heading_mean.specs.notions.Near.{farthestOffset, referenceOf, Answered}
 use Rattle.heading_mean.specs.notions.Order.{Reordered, Shared}
 use Rattle.heading_mean.specs.notions.Arc.{unit, over, under, Within, Counted, Near}
-use Rattle.heading_mean.specs.laws.Accepted.{heading-finite, heading-from-zero, heading-below-turn, each-accepted}
+use Rattle.heading_mean.specs.laws.Accepted.{each-accepted}
 use Rattle.heading_mean.specs.laws.Means.{offset-within, sum-finite}
 use Rattle.heading_mean.specs.laws.Answered.{agreeing-counted, more-than-half-agree, answered-from, reference-accepted}
 use Rattle.heading_mean.specs.laws.Order.{references-share-a-sight, reordered-references, reordered-mean}
@@ -118,12 +120,12 @@ module _ (s : Float) (F : T (fits binary64 s)) (p : Finite s) where
 abbrev Most : Deg → Type 0
 Most x = count (x .0) ≤ 360 * unit
 
-heading-most : (x : Deg) → headingRefusal x ≡ 0 → T (fits binary64 (x .0)) → Most x
+heading-most : (x : Deg) → circleRefusal x ≡ 0 → T (fits binary64 (x .0)) → Most x
 heading-most x e F =
-    let c = heading-counted (x .0) F (heading-finite x e) (heading-from-zero x e) in
-    omega (arith, counts-order c turn-counted (le-of-lt (x .0) turnInDegrees (heading-below-turn x e)))
+    let c = heading-counted (x .0) F (circle-finite x e) (circle-from-zero x e) in
+    omega (arith, counts-order c turn-counted (le-of-lt (x .0) turnInDegrees (circle-below-turn x e)))
 
-module _ (reference : Deg) (R : headingRefusal reference ≡ 0) (fr : T (fits binary64 (reference .0))) (o : Float) (fo : T (fits binary64 o))
+module _ (reference : Deg) (R : circleRefusal reference ≡ 0) (fr : T (fits binary64 (reference .0))) (o : Float) (fo : T (fits binary64 o))
     (i : Between (neg farthestOffset) farthestOffset o) (fin : Finite (reference .0 ⊕ o)) where
   abbrev r : ℕ
   r = count (reference .0)
@@ -138,7 +140,7 @@ module _ (reference : Deg) (R : headingRefusal reference ≡ 0) (fr : T (fits bi
   fs = add-fits binary64 (reference .0) o
 
   cr : Counted (reference .0) r 0
-  cr = heading-counted (reference .0) fr (heading-finite reference R) (heading-from-zero reference R)
+  cr = heading-counted (reference .0) fr (circle-finite reference R) (circle-from-zero reference R)
 
   r-most : r ≤ 360 * unit
   r-most = heading-most reference R fr
@@ -244,7 +246,7 @@ module _ (headings : List ℕ) (a : Accepted headings) where
       let f = figuresFrom (headingOf b) headings in
       meanOf (headingOf b) (f .sum) (f .count)
 
-  module _ (b : ℕ) (B : headingRefusal (headingOf b) ≡ 0) (is : isReference headings b ≡ true) where
+  module _ (b : ℕ) (B : circleRefusal (headingOf b) ≡ 0) (is : isReference headings b ≡ true) where
     some : 0 < figuresFrom (headingOf b) headings .count
     some = omega (arith, agreeing-counted (headingOf b) headings, more-than-half-agree headings b is)
 
@@ -256,19 +258,19 @@ module _ (headings : List ℕ) (a : Accepted headings) where
 
     -- within 1000.1 seconds of the reference
     pub mean-near : Within 1000100 (headingOf b) (meanBy b)
-    unfolding meanOf
+    unfolding meanOf onCircle
     mean-near =
         folded-near (headingOf b) B reference-fits _ (div-fits binary64 _ milliarcsecondsOfDegree)
         (offset-within (headingOf b) headings (a .few) some) (sum-finite (headingOf b) headings (a .few) some B)
 
     mean-most : Most (meanBy b)
-    unfolding meanOf
+    unfolding meanOf onCircle
     mean-most =
         folded-most (headingOf b) B reference-fits _ (div-fits binary64 _ milliarcsecondsOfDegree)
         (offset-within (headingOf b) headings (a .few) some) (sum-finite (headingOf b) headings (a .few) some B)
 
   -- two references share a sight, so that their means lie within 4001 seconds of each other
-  pub means-near : (b c : ℕ) → headingRefusal (headingOf b) ≡ 0 → headingRefusal (headingOf c) ≡ 0 → isReference headings b ≡ true
+  pub means-near : (b c : ℕ) → circleRefusal (headingOf b) ≡ 0 → circleRefusal (headingOf c) ≡ 0 → isReference headings b ≡ true
       → isReference headings c ≡ true → Within 4001000 (meanBy b) (meanBy c)
   means-near b c B C p q =
       around-longer (1296000000 * unit) (4000400 * unit) (4001000 * unit) _ _ (omega arith)
@@ -284,7 +286,7 @@ module _ (headings : List ℕ) (a : Accepted headings) where
       h : Deg
       h = headingOf (getD headings (common .place) 0)
 
-      H : headingRefusal h ≡ 0
+      H : circleRefusal h ≡ 0
       H = each-accepted headings a (common .place) (common .there)
 
       rb : Most (headingOf b)

@@ -20,6 +20,8 @@ use Rattle.quantity.specs.declared.Deg.{Deg}
 use Rattle.quantity.specs.rules.Angle.{deg}
 use Rattle.units.specs.rules.Degrees.{milliarcsecondsOfDegree}
 use Rattle.helpers.specs.rules.Angle.{turnInDegrees, within360}
+use Rattle.helpers.specs.rules.Circle.{belowTurn, onCircle, circleRefusal}
+use Rattle.helpers.specs.laws.Circle.{circle-from-zero, circle-below-turn}
 use Rattle.helpers.specs.laws.Limit.{limited-degrees}
 use Rattle.list.specs.rules.Stars.{mostStars}
 use Rattle.residual_sheet.specs.declared.Residual.{Residual}
@@ -30,9 +32,8 @@ use Rattle.residual_sheet.specs.notions.Sheet.{AllNear}
 use Rattle.residual_sheet.specs.laws.Running.{near-entries, sum-in-parts, whole-in-parts}
 use Rattle.heading_mean.specs.rules.Residual.{residualFrom}
 use Rattle.heading_mean.specs.rules.Reference.{headingOf}
-use Rattle.heading_mean.specs.rules.Mean.{headingRefusal, entryFrom, entriesFrom, figuresFrom, meanResidual, belowTurn, meanOf}
+use Rattle.heading_mean.specs.rules.Mean.{entryFrom, entriesFrom, figuresFrom, meanResidual, meanOf}
 use Rattle.heading_mean.specs.notions.Near.{AllFrom, AllTo, westmost, eastmost, farthestOffset, InTurn}
-use Rattle.heading_mean.specs.laws.Accepted.{heading-from-zero, heading-below-turn}
 use Rattle.heading_mean.specs.laws.Grown.{all-at-most}
 use Rattle.heading_mean.specs.laws.Quotient.{quotient-from, quotient-to}
 
@@ -132,10 +133,10 @@ module _ (reference : Deg) (headings : List ℕ) (few : length headings ≤ most
   offset-within = bounded binary64 (neg farthestOffset) farthestOffset (known mean-within ⧄ con milliarcsecondsOfDegree) tt
 
   -- `limit_to_360` refuses no sum
-  pub sum-finite : headingRefusal reference ≡ 0 → Finite (reference .0 ⊕ (meanHere ⊘ milliarcsecondsOfDegree))
+  pub sum-finite : circleRefusal reference ≡ 0 → Finite (reference .0 ⊕ (meanHere ⊘ milliarcsecondsOfDegree))
   unfolding isFinite le neg add ofBits
   sum-finite e =
-      let r = between {a = zero} {b = turnInDegrees} {z = reference .0} tt tt (heading-from-zero reference e) (le-of-lt (reference .0) turnInDegrees (heading-below-turn reference e)) in
+      let r = between {a = zero} {b = turnInDegrees} {z = reference .0} tt tt (circle-from-zero reference e) (le-of-lt (reference .0) turnInDegrees (circle-below-turn reference e)) in
       bounded binary64 (neg turnInDegrees) (bits 0x4086800000000000) (known r ⊞ known offset-within) tt .finite
 
 -- ---- in the turn
@@ -147,7 +148,7 @@ below-turn-in x i =
 
 pub mean-in-turn : (reference : Deg) (sum : ℤ) (count : ℕ) → Finite (reference .0 ⊕ (meanResidual sum count ⊘ milliarcsecondsOfDegree))
     → InTurn (meanOf reference sum count)
-unfolding meanOf
+unfolding meanOf onCircle
 mean-in-turn reference sum count F =
     let y = reference .0 ⊕ (meanResidual sum count ⊘ milliarcsecondsOfDegree) in
     below-turn-in (within360 (deg y)) (limited-degrees y F)

@@ -11,6 +11,7 @@ use borrow.Author.Tests.{lt-ltb, le-ltb}
 use Rattle.double.specs.laws.Numbers.{less-or-not}
 use Rattle.quantity.specs.declared.Deg.{Deg}
 use Rattle.quantity.specs.rules.Answer.{answered}
+use Rattle.helpers.specs.laws.Circle.{circle-finite}
 use Rattle.residual_sheet.specs.rules.Residual.{isAside}
 use Rattle.residual_sheet.specs.rules.Entry.{aside}
 use Rattle.heading_mean.specs.rules.Residual.{residualFrom}
@@ -20,7 +21,7 @@ use Rattle.heading_mean.specs.notions.Accepted.{Accepted}
 use Rattle.heading_mean.specs.notions.Near.{referenceOf}
 use Rattle.heading_mean.specs.notions.Far.{OneOff}
 use Rattle.heading_mean.specs.laws.Reference.{vote-within}
-use Rattle.heading_mean.specs.laws.Accepted.{heading-finite, each-accepted, with-reference}
+use Rattle.heading_mean.specs.laws.Accepted.{each-accepted, with-reference}
 use Rattle.heading_mean.specs.laws.Answered.{first-is}
 use Rattle.heading_mean.specs.laws.Far.{half-a-turn-turned, half-a-turn-is-aside}
 
@@ -75,7 +76,7 @@ module _ (headings : List ℕ) (j : ℕ) (o : OneOff headings j) (a : Accepted h
   aside-to i h d =
       let I = each-accepted headings a i h in
       let J = each-accepted headings a j (o .there) in
-      half-a-turn-is-aside (at j) (at i) J I (half-a-turn-turned (at i) (at j) (heading-finite (at i) I) (heading-finite (at j) J) (o .off i h d))
+      half-a-turn-is-aside (at j) (at i) J I (half-a-turn-turned (at i) (at j) (circle-finite (at i) I) (circle-finite (at j) J) (o .off i h d))
 
   -- none agrees with it but itself
   pub off-is-no-reference : isReference headings (getD headings j 0) ≡ false

@@ -15,10 +15,11 @@ use Rattle.quantity.specs.declared.Deg.{Deg}
 use Rattle.quantity.specs.rules.Answer.{Answer, answered, refused}
 use Rattle.quantity.specs.rules.Refusal.{lower}
 use Rattle.helpers.specs.rules.Angle.{turnInDegrees}
+use Rattle.helpers.specs.rules.Circle.{circleRefusal}
 use Rattle.list.specs.rules.Stars.{mostStars}
 use Rattle.residual_sheet.specs.rules.Residuals.{leastRefusal}
 use Rattle.heading_mean.specs.rules.Reference.{headingOf, isReference, firstReference, referencePlace}
-use Rattle.heading_mean.specs.rules.Mean.{headingRefusal, bitsRefusal, numberRefusal, headingsRefusal, MeanAndSheet, meanFrom, meanIn, meanHeadingRule}
+use Rattle.heading_mean.specs.rules.Mean.{bitsRefusal, numberRefusal, headingsRefusal, MeanAndSheet, meanFrom, meanIn, meanHeadingRule}
 use Rattle.heading_mean.specs.laws.Accepted.{with-reference, without-reference}
 use Rattle.heading_mean.specs.laws.OneOff.{not-after}
 
@@ -38,8 +39,8 @@ none-agree-refused headings e f =
 
 -- ---- no other refusal is above 8
 
-heading-most : (x : Deg) → headingRefusal x ≤ 8
-unfolding headingRefusal
+heading-most : (x : Deg) → circleRefusal x ≤ 8
+unfolding circleRefusal
 heading-most x = by-flags (isFinite (x .0)) (le operations.zero (x .0)) (lt (x .0) turnInDegrees)
   where
     by-flags : (p q r : Bool) → cond p (cond q (cond r 0 3) 3) 1 ≤ 8

@@ -13,11 +13,12 @@ use Rattle.quantity.specs.rules.Angle.{deg}
 use Rattle.quantity.specs.rules.Answer.{answered, with}
 use Rattle.quantity.specs.notions.Varies.{Varies}
 use Rattle.quantity.specs.notions.Code.{ofFloat, ofDeg, ofAnswer}
+use Rattle.helpers.specs.rules.Circle.{circleRefusal}
 use Rattle.residual_sheet.specs.notions.Wrong.{ofResidual}
 use Rattle.residual_sheet.specs.rules.Residuals.{leastRefusal}
 use Rattle.heading_mean.specs.rules.Residual.{residualFrom}
 use Rattle.heading_mean.specs.rules.Reference.{headingOf, vote}
-use Rattle.heading_mean.specs.rules.Mean.{headingRefusal, bitsRefusal, numberRefusal, meanOf, meanHeadingRule}
+use Rattle.heading_mean.specs.rules.Mean.{bitsRefusal, numberRefusal, meanOf, meanHeadingRule}
 use Rattle.heading_mean.specs.rules.Spread.{spreadOf, meanError}
 use Rattle.heading_mean.specs.notions.Computed.{computed, spread}
 use Rattle.heading_mean.specs.notions.Wrong.{ofMean, headingIn, rawMean, asideInTheCount, foldLeftOut, wholeTurnKept, otherWay, westNotTakenBack}
@@ -136,7 +137,7 @@ pub three-before-one-excluded : threeBeforeOne (turn ∷ nanBits ∷ []) ≢ lea
 unfolding computed
 three-before-one-excluded = apart ofNumber refl
 
-pub whole-turn-let-in-excluded : wholeTurnLetIn (headingOf turn) ≢ headingRefusal (headingOf turn)
+pub whole-turn-let-in-excluded : wholeTurnLetIn (headingOf turn) ≢ circleRefusal (headingOf turn)
 unfolding computed
 whole-turn-let-in-excluded = apart ofNumber refl
 

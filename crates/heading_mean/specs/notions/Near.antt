@@ -10,12 +10,13 @@ use Rattle.double.specs.rules.Operations.{bits, zero, _⊕_}
 use Rattle.double.specs.rules.Order.{_≼_, Between}
 use Rattle.quantity.specs.declared.Deg.{Deg}
 use Rattle.quantity.specs.rules.Angle.{deg}
-use Rattle.helpers.specs.rules.Angle.{turnInDegrees, within360}
+use Rattle.helpers.specs.rules.Angle.{turnInDegrees}
+use Rattle.helpers.specs.rules.Circle.{onCircle}
 use Rattle.residual_sheet.specs.declared.Residual.{Residual}
 use Rattle.residual_sheet.specs.rules.Residual.{farthestTaken}
 use Rattle.residual_sheet.specs.rules.Running.{above, below}
 use Rattle.heading_mean.specs.rules.Reference.{headingOf, isReference, referencePlace}
-use Rattle.heading_mean.specs.rules.Mean.{belowTurn, MeanAndSheet, meanFrom}
+use Rattle.heading_mean.specs.rules.Mean.{MeanAndSheet, meanFrom}
 use Rattle.heading_mean.specs.notions.Accepted.{Accepted}
 
 -- x ≤ y
@@ -64,4 +65,4 @@ pub record Answered (headings : List ℕ) (m : MeanAndSheet) : Type 0 where
 pub record IsOffset (reference x : Deg) : Type 0 where
   pub offset : Float
   pub within : Between (neg farthestOffset) farthestOffset offset
-  pub is : x ≡ belowTurn (within360 (deg (reference .0 ⊕ offset)))
+  pub is : x ≡ onCircle (deg (reference .0 ⊕ offset))

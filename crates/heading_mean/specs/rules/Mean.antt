@@ -4,15 +4,14 @@ use mathlib.Core.Bool.{cond}
 use mathlib.Core.List.{List}
 use lib.Dec.{eqb, leb, ltb}
 use lib.IntN.{ℤ, pos}
-use lib.Ieee.{Float, binary64, ofInt, le, lt}
+use lib.Ieee.{Float, binary64, ofInt}
 use lib.ListN.{length, getD}
-use Rattle.double.specs.rules.Operations.{zero, _⊕_, _⊘_}
-use Rattle.double.specs.rules.Sign.{isFinite}
+use Rattle.double.specs.rules.Operations.{_⊕_, _⊘_}
 use Rattle.quantity.specs.declared.Deg.{Deg}
 use Rattle.quantity.specs.rules.Angle.{deg}
 use Rattle.quantity.specs.rules.Answer.{Answer, answered, refused, unless}
 use Rattle.units.specs.rules.Degrees.{milliarcsecondsOfDegree}
-use Rattle.helpers.specs.rules.Angle.{turnInDegrees, within360}
+use Rattle.helpers.specs.rules.Circle.{onCircle, circleRefusal}
 use Rattle.lent.specs.rules.Rows.{upto}
 use Rattle.list.specs.rules.Stars.{mostStars}
 use Rattle.residual_sheet.specs.declared.Sheet.{Sheet}
@@ -26,12 +25,9 @@ use Rattle.heading_mean.specs.rules.Reference.{headingOf, referencePlace
 
 -- ---- refusals
 
--- of one heading: 1 where it is not finite, 3 where it is below 0 or not below 360.0
-unfoldable pub headingRefusal : Deg → ℕ
-headingRefusal x = cond (isFinite (x .0)) (cond (le zero (x .0)) (cond (lt (x .0) turnInDegrees) 0 3) 3) 1
-
+-- of one heading
 abbrev pub bitsRefusal : ℕ → ℕ
-bitsRefusal b = headingRefusal (headingOf b)
+bitsRefusal b = circleRefusal (headingOf b)
 
 -- of a set: 8 for none, or for more than a list has stars
 unfoldable pub numberRefusal : ℕ → ℕ
@@ -59,13 +55,9 @@ figuresFrom reference headings = figuresOf (entriesFrom reference headings)
 abbrev pub meanResidual : ℤ → ℕ → Float
 meanResidual sum count = ofInt binary64 sum ⊘ ofInt binary64 (pos count)
 
--- a whole turn is 0
-unfoldable pub belowTurn : Deg → Deg
-belowTurn x = cond (lt (x .0) turnInDegrees) x (deg zero)
-
--- `limit_to_360`(reference + (sum/count)/3600000.0)
+-- `limit_to_360`(reference + (sum/count)/3600000.0), a whole turn being 0
 unfoldable pub meanOf : Deg → ℤ → ℕ → Deg
-meanOf reference sum count = belowTurn (within360 (deg (reference .0 ⊕ (meanResidual sum count ⊘ milliarcsecondsOfDegree))))
+meanOf reference sum count = onCircle (deg (reference .0 ⊕ (meanResidual sum count ⊘ milliarcsecondsOfDegree)))
 
 -- ---- both, or a refusal
 

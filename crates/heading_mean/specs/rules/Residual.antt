@@ -1,17 +1,14 @@
 -- The residual of a heading from a reference, both in degrees, in whole milliarcseconds.
 use mathlib.Core.Bool.{cond}
-use lib.Ieee.{Float, lt}
-use Rattle.double.specs.rules.Operations.{bits, _⊖_}
+use lib.Ieee.{lt}
+use Rattle.double.specs.rules.Operations.{_⊖_}
 use Rattle.quantity.specs.declared.Deg.{Deg}
 use Rattle.quantity.specs.rules.Angle.{deg}
 use Rattle.units.specs.rules.Degrees.{milliarcseconds}
 use Rattle.helpers.specs.rules.Angle.{turnInDegrees, within360}
+use Rattle.helpers.specs.rules.Circle.{halfTurn}
 use Rattle.residual_sheet.specs.declared.Residual.{Residual}
 use Rattle.residual_sheet.specs.rules.Residual.{rounded}
-
--- 180.0
-abbrev pub halfTurn : Float
-halfTurn = bits 0x4066800000000000
 
 -- 360.0 taken from what exceeds 180.0
 unfoldable pub takenBack : Deg → Deg

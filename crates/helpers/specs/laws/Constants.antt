@@ -7,7 +7,7 @@ use Rattle.double.specs.rules.Table.{Row, _is_, Agrees, decimal}
 use Rattle.quantity.specs.rules.Angle.{PI}
 use Rattle.helpers.specs.rules.Time.{daysOfCentury}
 use Rattle.helpers.specs.rules.Angle.{secondsOfDegree, degreesOfHour, degree, turnInDegrees, turnInRadians}
-use Rattle.helpers.specs.rules.Earth.{ratio, radius}
+use Rattle.helpers.specs.rules.Circle.{halfTurn}
 
 abbrev rows : List (Row Float)
 rows =
@@ -17,8 +17,7 @@ rows =
     ∷ (degree is PI ⊘ decimal 180 0)
     ∷ (turnInDegrees is decimal 360 0)
     ∷ (turnInRadians is PI ⊕ PI)
-    ∷ (ratio is decimal 99664719 8)
-    ∷ (radius is decimal 6378140 0)
+    ∷ (halfTurn is decimal 180 0)
     ∷ []
 
 pub constants : Agrees rows

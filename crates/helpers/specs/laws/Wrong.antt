@@ -3,19 +3,18 @@
 use mathlib.Core.Path.{refl}
 use std.Logic.{_≢_}
 use lib.Ieee.{neg}
-use Rattle.double.specs.rules.Operations.{bits, zero, half, one}
+use Rattle.double.specs.rules.Operations.{bits, zero, one}
 use Rattle.double.specs.laws.Apart.{apart}
 use Rattle.quantity.specs.rules.Angle.{PI, deg, rad}
 use Rattle.quantity.specs.rules.Refusal.{epoch}
-use Rattle.quantity.specs.notions.Code.{ofFloat, ofDeg, ofRad, ofPair, ofAnswer}
+use Rattle.quantity.specs.notions.Code.{ofFloat, ofDeg, ofRad, ofAnswer}
 use Rattle.quantity.specs.notions.Varies.{Varies}
 use Rattle.quantity.specs.notions.Stated.{later}
 use Rattle.helpers.specs.rules.Time.{julianCentRule}
 use Rattle.helpers.specs.rules.Angle.{degFrmDmsRule, degFrmHmsRule, toRadiansRule, turnInDegrees, limitTo360Rule, limitToTwoPIRule}
-use Rattle.helpers.specs.rules.Earth.{rhoSinCosPhiRule}
 use Rattle.helpers.specs.notions.Computed.{computed}
 use Rattle.helpers.specs.notions.Wrong.{anotherCentury, centuryOfAnyDay, arcIsTime, timeRegrouped, radiansOfNothing, anotherTurn}
-use Rattle.helpers.specs.notions.Wrong.{remainderNotLifted, halfATurn, heightNotOverRadius, roundEarth, latitudeNotReduced, heightNotRefused}
+use Rattle.helpers.specs.notions.Wrong.{remainderNotLifted, halfATurn}
 
 -- ---- time
 
@@ -79,28 +78,3 @@ limit-to-two-PI-varies = record { here = refl; there = refl; apart = apart (ofAn
 pub half-a-turn-excluded : halfATurn (rad PI) ≢ limitToTwoPIRule (rad PI)
 unfolding computed
 half-a-turn-excluded = apart (ofAnswer ofRad) refl
-
--- ---- the figure of the Earth
-
-pub rho-sin-cos-phi-varies : Varies (rhoSinCosPhiRule (rad half) zero) (rhoSinCosPhiRule (rad zero) zero)
-unfolding computed
-rho-sin-cos-phi-varies = record { here = refl; there = refl; apart = apart (ofAnswer ofPair) refl }
-
-pub height-not-over-radius-excluded : heightNotOverRadius (rad half) one ≢ rhoSinCosPhiRule (rad half) one
-unfolding computed
-height-not-over-radius-excluded = apart (ofAnswer ofPair) refl
-
-pub round-earth-excluded : roundEarth (rad half) zero ≢ rhoSinCosPhiRule (rad half) zero
-unfolding computed
-round-earth-excluded = apart (ofAnswer ofPair) refl
-
-pub latitude-not-reduced-excluded : latitudeNotReduced (rad half) zero ≢ rhoSinCosPhiRule (rad half) zero
-unfolding computed
-latitude-not-reduced-excluded = apart (ofAnswer ofPair) refl
-
--- 1000000.0 metres
--- a height of 1000000.0
-pub height-not-refused-excluded : heightNotRefused (rad zero) (bits 0x412e848000000000)
-    ≢ rhoSinCosPhiRule (rad zero) (bits 0x412e848000000000)
-unfolding computed
-height-not-refused-excluded = apart (ofAnswer ofPair) refl

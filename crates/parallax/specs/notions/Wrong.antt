@@ -11,7 +11,7 @@ use Rattle.elementary.specs.rules.Fold.{fold}
 use Rattle.elementary.specs.rules.Sine.{sineOf, cosineOf}
 use Rattle.elementary_arc.specs.rules.Arcsine.{arcsineIn}
 use Rattle.helpers.specs.rules.Angle.{arc, radiansOf}
-use Rattle.helpers.specs.rules.Earth.{rhoIn}
+use Rattle.helpers_earth.specs.rules.Earth.{rhoIn}
 use Rattle.coords.specs.rules.HourAngle.{hrAnglFrmObserverLong}
 use Rattle.parallax.specs.rules.Horizontal.{sunParallax, eqHzParallaxIn}
 use Rattle.parallax.specs.rules.Equatorial.{topocentAt, topocentIn, topocentRefusal, topocentEqCoordsRule}

@@ -13,7 +13,7 @@ use Rattle.elementary.specs.declared.Folded.{Folded}
 use Rattle.elementary.specs.rules.Fold.{fold}
 use Rattle.elementary.specs.rules.Sine.{foldedSine, foldedCosine, cosineOf}
 use Rattle.elementary_arc.specs.rules.Arctangent.{arctangentIn}
-use Rattle.helpers.specs.rules.Earth.{rhoIn}
+use Rattle.helpers_earth.specs.rules.Earth.{rhoIn}
 use Rattle.coords.specs.rules.HourAngle.{hrAnglFrmObserverLong}
 use Rattle.parallax.specs.declared.Centre.{Centre}
 use Rattle.parallax.specs.rules.Observer.{centreOf, observerRefusal}

@@ -11,7 +11,7 @@ use Rattle.elementary.specs.declared.Folded.{Folded}
 use Rattle.elementary.specs.rules.Fold.{fold}
 use Rattle.elementary.specs.rules.Sine.{foldedSine, foldedCosine, cosineOf}
 use Rattle.elementary_arc.specs.rules.Arctangent.{arctangentIn}
-use Rattle.helpers.specs.rules.Earth.{rhoIn}
+use Rattle.helpers_earth.specs.rules.Earth.{rhoIn}
 use Rattle.parallax.specs.declared.Centre.{Centre}
 use Rattle.parallax.specs.rules.Observer.{centreOf}
 use Rattle.parallax_ecl.specs.rules.Ecliptic.{nearby, longTop, eclipticFrom, topopcentRefusal}

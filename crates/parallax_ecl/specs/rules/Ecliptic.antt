@@ -18,7 +18,7 @@ use Rattle.elementary.specs.rules.Sine.{foldedSine, foldedCosine, sineOf, cosin
 use Rattle.elementary_arc.specs.rules.Arctangent.{arctangentIn}
 use Rattle.elementary_arc.specs.rules.Arcsine.{arcsineIn}
 use Rattle.helpers.specs.rules.Angle.{withinTwoPI}
-use Rattle.helpers.specs.rules.Earth.{rhoIn}
+use Rattle.helpers_earth.specs.rules.Earth.{rhoIn}
 use Rattle.parallax.specs.declared.Centre.{Centre}
 use Rattle.parallax.specs.rules.Observer.{centreOf, observerRefusal}
 

@@ -7,14 +7,14 @@ use Rattle.lent.specs.laws.Put.{offset-inside}
 use Rattle.radio.proofs.main.Statement.{statement}
 use Rattle.radio.proofs.main.Tie as tie
 
-slice-aggregate-asked : tie.Need-slice-aggregate-asked
-slice-aggregate-asked c = search needs
+slice-aggregate-is-argument : tie.Need-slice-aggregate-is-argument
+slice-aggregate-is-argument c = search needs
 
-slice-aggregate-asked-2 : tie.Need-slice-aggregate-asked-2
-slice-aggregate-asked-2 c = search needs
+slice-aggregate-is-argument-2 : tie.Need-slice-aggregate-is-argument-2
+slice-aggregate-is-argument-2 c = search needs
 
-slice-aggregate-asked-3 : tie.Need-slice-aggregate-asked-3
-slice-aggregate-asked-3 c = search needs
+slice-aggregate-is-argument-3 : tie.Need-slice-aggregate-is-argument-3
+slice-aggregate-is-argument-3 c = search needs
 
 slice-aggregate-read-full : tie.Need-slice-aggregate-read-full
 slice-aggregate-read-full c = search needs
@@ -50,11 +50,11 @@ pub main-spec : {M : Type 1} → statement M
 main-spec =
     tie.close
     (tie.spec
-    slice-aggregate-asked
+    slice-aggregate-is-argument
     asks-nothing
-    slice-aggregate-asked-2
+    slice-aggregate-is-argument-2
     asks-nothing
-    slice-aggregate-asked-3
+    slice-aggregate-is-argument-3
     asks-nothing
     slice-aggregate-read-full
     asks-nothing

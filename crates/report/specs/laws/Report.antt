@@ -11,7 +11,7 @@ use borrow.Author.Tests.{eqb-true, eq-eqb, ne-eqb}
 use Rattle.double.specs.rules.Operations.{bits}
 use Rattle.quantity.specs.rules.Answer.{Answer, Pair}
 use Rattle.edition.specs.declared.Edition.{Edition}
-use Rattle.elementary.specs.laws.Accepted.{lower-none}
+use Rattle.quantity.specs.laws.Accepted.{lower-none}
 use Rattle.transit.specs.rules.Observer.{planRefusal}
 use Rattle.lent.specs.rules.Texts.{texts}
 use Rattle.lent.specs.laws.Texts.{texts-same}

@@ -11,7 +11,7 @@ returns c =
     let c1 = c2 .before in
     let at-lat = c1 .before in
     let at-long = at-lat .before in
-    let star = at-long .before .args .star in
+    let star = at-long .before .before .before .args .star in
     rw (
       at-lat .radians2 .ensures,
       at-long .radians .ensures,

@@ -13,7 +13,7 @@ returns c =
 returns-2 : tie.Need-returns-2
 returns-2 c =
     let c2 = c .before .before in
-    same (rw (c2 .before .before .before .bearings2 .given .1)) (c2 .put-refusal .ensures)
+    same (rw (c2 .before .before .before .bearings2 .given .1)) (c2 .put-sight-refusal .ensures)
 
 pub put-bearings-spec : {M : Type 1} → statement M
 put-bearings-spec =

@@ -16,7 +16,7 @@ returns c =
 returns-2 : tie.Need-returns-2
 returns-2 c =
     let c2 = c .before .before in
-    same (rw (c2 .before .before .before .mark2 .given .1)) (c2 .put-refusal .ensures)
+    same (rw (c2 .before .before .before .mark2 .given .1)) (c2 .put-mark-refusal .ensures)
 
 pub put-beside-spec : {M : Type 1} → statement M
 put-beside-spec =

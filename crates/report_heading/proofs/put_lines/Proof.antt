@@ -12,7 +12,8 @@ returns c =
     let c2 = c .before .before in
     let c6 = c2 .before .before .before .before in
     let c10 = c6 .before .before .before .before in
-    after (c10 .put-place .ensures) (after (c6 .put-star .ensures) (c2 .put-sky .ensures))
+    let c14 = c10 .before .before .before .before in
+    after (c14 .put-place .ensures) (after (c10 .put-edition .ensures) (after (c6 .put-star .ensures) (c2 .put-sky .ensures)))
 
 pub put-lines-spec : {M : Type 1} → statement M
-put-lines-spec = tie.close (tie.spec asks-nothing asks-nothing asks-nothing (λ c. search needs) returns)
+put-lines-spec = tie.close (tie.spec asks-nothing asks-nothing asks-nothing asks-nothing (λ c. search needs) returns)

@@ -1,15 +1,16 @@
 -- `report_residuals::put_sighted` meets its contract.
 use borrow.Author.Needs.{needs}
-use Prim.Native.Nat.{ℕ, _≤_}
+use Prim.Native.Nat.{ℕ}
 use mathlib.Core.Path.{_≡_, sym, _∙_}
 use native.Mathlib.Omega.{arith}
-use lib.ListN.{length, take}
 use Rattle.double.specs.laws.Calls.{asks-nothing}
 use Rattle.list.specs.rules.Stars.{mostStars}
-use Rattle.text_measured.specs.declared.Sights.the-variants as sights
-use Rattle.text_measured.specs.rules.Sights.{sightsRule}
+use Rattle.text_fields.specs.declared.Sights.the-variants as sights
+use Rattle.text_fields.specs.laws.Stored.{few-sights, lines-long, stars-long, firsts-long, seconds-long}
+use Rattle.text_measured.specs.rules.Sight.{sightRule}
+use Rattle.text_measured.specs.rules.Sights.{entryOf, sightsRule}
 use Rattle.report_residuals.specs.rules.Text.{unclearLine, tooMany}
-use Rattle.report_residuals.specs.laws.Report.{as-said, reported-as, few-sights, lines-long, stars-long, ascs-long, decs-long, read-sighted, sighted-by}
+use Rattle.report_residuals.specs.laws.Report.{as-said, reported-as, read-sighted, sighted-by}
 use Rattle.report_residuals.proofs.put_sighted.Statement.{statement}
 use Rattle.report_residuals.proofs.put_sighted.Tie as tie
 
@@ -39,7 +40,7 @@ put-matched-requires : tie.Need-put-matched-requires
 put-matched-requires c κs =
     let at-n = c .before .before .before .before .before .before in
     let e = all-read at-n in
-    omega (arith, stars-long _ _ e (at-read at-n .read-sights .ensures) .1, few-sights _ _ e)
+    omega (arith, stars-long sightRule entryOf mostStars _ _ e (at-read at-n .read-sights .ensures) .1, few-sights sightRule entryOf mostStars _ _ e)
 
 pub put-sighted-spec : {M : Type 1} → statement M
 put-sighted-spec =
@@ -51,14 +52,14 @@ put-sighted-spec =
     (λ c. search needs)
     asks-nothing
     (λ c. search needs)
-    (λ c. let k = c .before .before in lines-long _ _ (all-read k) (at-read k .read-sights .ensures) .0)
-    (λ c. let k = c .before .before .before in lines-long _ _ (all-read k) (at-read k .read-sights .ensures) .1)
-    (λ c. let k = c .before .before .before in stars-long _ _ (all-read k) (at-read k .read-sights .ensures) .0)
-    (λ c. let k = c .before .before .before .before in stars-long _ _ (all-read k) (at-read k .read-sights .ensures) .1)
-    (λ c. let k = c .before .before .before .before in ascs-long _ _ (all-read k) (at-read k .read-sights .ensures) .0)
-    (λ c. let k = c .before .before .before .before .before in ascs-long _ _ (all-read k) (at-read k .read-sights .ensures) .1)
-    (λ c. let k = c .before .before .before .before .before in decs-long _ _ (all-read k) (at-read k .read-sights .ensures) .0)
-    (λ c. let k = c .before .before .before .before .before .before in decs-long _ _ (all-read k) (at-read k .read-sights .ensures) .1)
+    (λ c. let k = c .before .before in lines-long sightRule entryOf mostStars _ _ (all-read k) (at-read k .read-sights .ensures) .0)
+    (λ c. let k = c .before .before .before in lines-long sightRule entryOf mostStars _ _ (all-read k) (at-read k .read-sights .ensures) .1)
+    (λ c. let k = c .before .before .before in stars-long sightRule entryOf mostStars _ _ (all-read k) (at-read k .read-sights .ensures) .0)
+    (λ c. let k = c .before .before .before .before in stars-long sightRule entryOf mostStars _ _ (all-read k) (at-read k .read-sights .ensures) .1)
+    (λ c. let k = c .before .before .before .before in firsts-long sightRule entryOf mostStars _ _ (all-read k) (at-read k .read-sights .ensures) .0)
+    (λ c. let k = c .before .before .before .before .before in firsts-long sightRule entryOf mostStars _ _ (all-read k) (at-read k .read-sights .ensures) .1)
+    (λ c. let k = c .before .before .before .before .before in seconds-long sightRule entryOf mostStars _ _ (all-read k) (at-read k .read-sights .ensures) .0)
+    (λ c. let k = c .before .before .before .before .before .before in seconds-long sightRule entryOf mostStars _ _ (all-read k) (at-read k .read-sights .ensures) .1)
     put-matched-requires
     (λ c. search needs)
     (λ c. search needs)

@@ -1,11 +1,11 @@
 -- A walk that stores what each sight's star came to.
 use Prim.Native.Nat.{ℕ, _+_, _≤_, _<_}
-use mathlib.Core.Path.{_≡_, refl, sym, ap, _∙_}
+use mathlib.Core.Path.{_≡_, sym, ap, _∙_}
 use mathlib.Core.List.{List, map}
 use native.Mathlib.Omega.{arith}
 use lib.ListN.{length, take, getD, set, length-map, List·getD-map}
-use lib.Seq.{take-at}
-use Rattle.text_measured.specs.rules.Sights.{over}
+use Rattle.text_fields.specs.rules.Stored.{over}
+use Rattle.text_fields.specs.laws.Stored.{front}
 use Rattle.report_residuals.specs.declared.Style.{Style}
 use Rattle.report_residuals.specs.rules.Text.{sheetsReport}
 use Rattle.lent.specs.notions.Rows.{Row}
@@ -14,9 +14,6 @@ use Rattle.report_residuals.specs.declared.Came.{Came}
 use Rattle.report_residuals.specs.notions.Matched.{Matched, Upto}
 
 -- ---- values over a slice's front
-
-pub front : {A : Type 0} (f : A → ℕ) (l : List A) (old cur : List ℕ) → cur ≡ over (map f l) old → take (length l) cur ≡ map f l
-front f l old cur e = ap (take (length l)) e ∙ take-at (map f l) _ (length l) (length-map l f)
 
 front-long : {A : Type 0} (f : A → ℕ) (l : List A) (old cur : List ℕ) → cur ≡ over (map f l) old → length l ≡ length (take (length l) cur)
 front-long f l old cur e = sym (ap length (front f l old cur e) ∙ length-map l f)

@@ -1,24 +1,22 @@
 -- What the parts of the work answer and leave is the report of the night.
-use Prim.Native.Nat.{ℕ, suc, _≤_, _<_}
+use Prim.Native.Nat.{ℕ, _≤_, _<_}
 use mathlib.Core.Path.{_≡_, refl, sym, ap, _∙_}
 use mathlib.Core.Bool.{Bool, true, false, cond}
-use mathlib.Core.List.{List, [], _∷_, map, map-map}
+use mathlib.Core.List.{List, [], _∷_, map}
 use native.Mathlib.Omega.{arith}
 use lib.Dec.{eqb, ltb}
 use lib.Ieee.{Float}
-use lib.ListN.{length, take, getD, length-map, length-take}
-use lib.Seq.{take-all}
+use lib.ListN.{length, take}
 use std.Logic.{_≢_}
-use borrow.Author.Tests.{ltb-true, ltb-false, ne-eqb}
+use borrow.Author.Tests.{ltb-true, ne-eqb}
 use Rattle.double.specs.laws.ReadBack.{zero-bits}
 use Rattle.quantity.specs.rules.Answer.{Answer, answered, refused, Pair, then, statusOf}
 use Rattle.edition.specs.declared.Edition.{Edition}
 use Rattle.lent.specs.rules.Writing.{Wrote, offsetAfter}
 use Rattle.lent.specs.laws.Writing.{inside}
-use Rattle.list.specs.declared.Star.{Star}
 use Rattle.list.specs.rules.Record.{inRange}
-use Rattle.list.specs.rules.Stars.{mostStars, isList, countOf, stars, nth, nought}
-use Rattle.list.specs.rules.Find.{Entry, entry, entryAt, findIn, findRule, indexOf}
+use Rattle.list.specs.rules.Stars.{mostStars, isList, countOf, stars, nth}
+use Rattle.list.specs.rules.Find.{Entry, entryAt, indexOf}
 use Rattle.list.specs.laws.Stars.{length-stars}
 use Rattle.star_store.specs.declared.Tallied.{Tallied}
 use Rattle.star_store.specs.rules.Star.{firstBits, secondBits}
@@ -26,19 +24,18 @@ use Rattle.star_store.specs.rules.Stored.{storeRefusal}
 use Rattle.star_store.specs.laws.Stored.{status-at, asc-at, dec-at}
 use Rattle.batch.specs.rules.Star.{starRule}
 use Rattle.batch.specs.rules.Batch.{Batch}
-use Rattle.residual_sheet.specs.declared.Sheets.{Sheets}
-use Rattle.residual_sheet.specs.rules.Residuals.{shownSheets, residualsRule}
-use Rattle.text_measured.specs.declared.Sights.{Sights}
-use Rattle.text_measured.specs.declared.Sights.the-variants as sights
+use Rattle.text_fields.specs.declared.Sights.{Sights}
+use Rattle.text_fields.specs.declared.Sights.the-variants as sights
+use Rattle.text_fields.specs.laws.Stored.{lines-front, stars-front, firsts-front, seconds-front}
+use Rattle.text_measured.specs.rules.Sight.{sightRule}
 use Rattle.text_measured.specs.rules.Sights as measured
-use Rattle.text_measured.specs.rules.Sights.{entriesOf, Ending, allRead, unclearIn, endingOf, sightsWith, sightsRule, over, ascBits, decBits, ReadSights}
+use Rattle.text_measured.specs.rules.Sights.{entryOf, entriesOf, sightsRule, ascBits, decBits, ReadSights}
 use Rattle.report_residuals.specs.declared.Style.{Style}
 use Rattle.report_residuals.specs.declared.Came.{Came}
 use Rattle.report_residuals.specs.declared.Told.{Told}
 use Rattle.report_residuals.specs.declared.Told.the-variants.{Text}
 use Rattle.report_residuals.specs.rules.Came.{cameTo, cameAt, lentCame}
 use Rattle.report_residuals.specs.rules.Text.{Report, says, listRefused, unclearLine, tooMany, sheetRefused, toldOf, sliceOf, lengthOf, Reported, sheetsReport}
-use Rattle.report_residuals.specs.laws.Matched.{front}
 use Rattle.report_residuals.specs.rules.Report.{nightReport, sightsReport, reportOf, matchedReport, sightedReport}
 
 -- ---- what is reported
@@ -83,67 +80,17 @@ sighted-by style s status asc dec text r e =
     (map (λ (e : measured.Entry). e .number) (entriesOf text)) (map ascBits (entriesOf text)) (map decBits (entriesOf text))))
     (sym e)
 
--- ---- sights that are all read
-
-module _ (text : List ℕ) (n : ℕ) (e : sights.Are n ≡ sightsRule mostStars text) where
-  abbrev es : List measured.Entry
-  es = entriesOf text
-
-  -- one more than how many there are, 0 where there is no such number
-  abbrev many : Sights → ℕ
-  many (sights.Are k) = suc k
-  many (sights.Unclear line) = 0
-  many sights.Full = 0
-
-  counted : (t : Bool) (b : Ending) → ltb mostStars (length es) ≡ t → sights.Are n ≡ cond t sights.Full (sightsWith (length es) b)
-      → (n ≡ length es) × (length es ≤ mostStars)
-  counted true b h q = absurd (omega (arith, ap many q))
-  counted false allRead h q = (omega (arith, ap many q), ltb-false mostStars (length es) h)
-  counted false (unclearIn line) h q = absurd (omega (arith, ap many q))
-
-  known : (n ≡ length es) × (length es ≤ mostStars)
-  unfolding sightsRule
-  known = counted (ltb mostStars (length es)) (endingOf text) refl e
-
-  pub few-sights : n ≤ mostStars
-  few-sights = omega (arith, known .0, known .1)
-
-  -- a slice's front is the sights' values
-  read-front : (f : measured.Entry → ℕ) (old cur : List ℕ) → cur ≡ over (map f (take mostStars es)) old → take n cur ≡ map f es
-  read-front f old cur h =
-      ap (λ (k : ℕ). take k cur) (known .0)
-      ∙ front f es old cur (h ∙ ap (λ (l : List measured.Entry). over (map f l) old) (take-all mostStars es (known .1)))
-
-  read-long : (f : measured.Entry → ℕ) (old cur : List ℕ) → cur ≡ over (map f (take mostStars es)) old → n ≡ length (take n cur)
-  read-long f old cur h = omega (arith, ap length (read-front f old cur h), length-map es f, known .0)
-
-  read-there : (f : measured.Entry → ℕ) (old cur : List ℕ) → cur ≡ over (map f (take mostStars es)) old → n ≤ length cur
-  read-there f old cur h = omega (arith, read-long f old cur h, length-take n cur)
-
-  module _ {line star asc dec : List ℕ} {r : Sights} {line′ star′ asc′ dec′ : List ℕ}
-      (rs : ReadSights mostStars text line star asc dec r line′ star′ asc′ dec′) where
-    pub lines-long : (n ≤ length line′) × (n ≡ length (take n line′))
-    lines-long = (read-there _ _ _ (rs .lines-are), read-long _ _ _ (rs .lines-are))
-
-    pub stars-long : (n ≤ length star′) × (n ≡ length (take n star′))
-    stars-long = (read-there _ _ _ (rs .stars-are), read-long _ _ _ (rs .stars-are))
-
-    pub ascs-long : (n ≤ length asc′) × (n ≡ length (take n asc′))
-    ascs-long = (read-there ascBits _ _ (rs .ascs-are), read-long ascBits _ _ (rs .ascs-are))
-
-    pub decs-long : (n ≤ length dec′) × (n ≡ length (take n dec′))
-    decs-long = (read-there decBits _ _ (rs .decs-are), read-long decBits _ _ (rs .decs-are))
-
-    -- a text that was read whole leads on with its sights
-    pub read-sighted : (style : Style) (s status ascs decs : List ℕ)
-        → sightedReport style s status ascs decs text ≡ matchedReport style s status ascs decs (take n line′) (take n star′) (take n asc′) (take n dec′)
-    read-sighted style s status ascs decs =
-        let p = read-front _ _ _ (rs .lines-are) in
-        let q = read-front _ _ _ (rs .stars-are) in
-        let t = read-front ascBits _ _ (rs .ascs-are) in
-        let u = read-front decBits _ _ (rs .decs-are) in
-        sighted-by style s status ascs decs text (sights.Are n) e
-        ∙ sym (λ j. matchedReport style s status ascs decs (p j) (q j) (t j) (u j))
+-- a text that was read whole leads on with its sights
+pub read-sighted : (text : List ℕ) (n : ℕ) (e : sights.Are n ≡ sightsRule mostStars text) {line star asc dec : List ℕ} {r : Sights} {line′ star′ asc′ dec′ : List ℕ}
+    → ReadSights mostStars text line star asc dec r line′ star′ asc′ dec′ → (style : Style) (s status ascs decs : List ℕ)
+    → sightedReport style s status ascs decs text ≡ matchedReport style s status ascs decs (take n line′) (take n star′) (take n asc′) (take n dec′)
+read-sighted text n e rs style s status ascs decs =
+    let p = lines-front sightRule entryOf mostStars text n e rs in
+    let q = stars-front sightRule entryOf mostStars text n e rs in
+    let t = firsts-front sightRule entryOf mostStars text n e rs in
+    let u = seconds-front sightRule entryOf mostStars text n e rs in
+    sighted-by style s status ascs decs text (sights.Are n) e
+    ∙ sym (λ j. matchedReport style s status ascs decs (p j) (q j) (t j) (u j))
 
 -- ---- what a star came to
 

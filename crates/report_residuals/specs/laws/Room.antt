@@ -1,5 +1,5 @@
 -- Every text has room in the bytes that are named for it.
-use Prim.Native.Nat.{ℕ, _≤_, _*_}
+use Prim.Native.Nat.{ℕ, _≤_}
 use mathlib.Core.Bool.{Bool, true, false, cond}
 use mathlib.Core.Path.{_≡_, refl}
 use mathlib.Core.List.{List, map}
@@ -14,8 +14,10 @@ use Rattle.list.specs.rules.Stars.{mostStars}
 use Rattle.star_store.specs.rules.Stored.{storeRefusal}
 use Rattle.residual_sheet.specs.declared.Sheet.{Sheet}
 use Rattle.residual_sheet.specs.rules.Residuals.{TwoSheets, two, residualsRule}
-use Rattle.text_measured.specs.rules.Sights.{Entry, entriesOf, Ending, allRead, unclearIn, endingOf, sightsWith, sightsRule}
-use Rattle.text_measured.specs.declared.Sights.the-variants as sights
+use Rattle.text_fields.specs.declared.Sights.the-variants as sights
+use Rattle.text_fields.specs.rules.Walk.{Ending, allRead, unclearIn}
+use Rattle.text_fields.specs.rules.Stored.{sightsWith, storedRule}
+use Rattle.text_measured.specs.rules.Sights.{Entry, entriesOf, endingOf}
 use Rattle.text_residuals.specs.laws.Room.{figures-short}
 use Rattle.text_sights.specs.laws.Room.{sights-short, lefts-short, people-short}
 use Rattle.report_residuals.specs.declared.Style.{Style}
@@ -49,7 +51,7 @@ module _ (line star status asc dec measuredAsc measuredDec : List ℕ) (few : le
       by-case (refused n) = tt
 
 pub has-room : (style : Style) (edition : Edition) (s : List ℕ) (day1 day2 : Float) (text : List ℕ) → Short room (reportOf style edition s day1 day2 text)
-unfolding reportOf sightsRule nightReport
+unfolding reportOf storedRule nightReport
 has-room style edition s day1 day2 text = by-case (eqb (storeRefusal s day1 day2 mostStars mostStars mostStars) 0) (ltb mostStars (length (entriesOf text))) (endingOf text) refl
   where
     by-case : (t u : Bool) (e : Ending) → ltb mostStars (length (entriesOf text)) ≡ u

@@ -4,7 +4,7 @@ use mathlib.Core.Path.{_≡_}
 use mathlib.Core.List.{List, map}
 use lib.ListN.{length}
 use Rattle.lent.specs.notions.Rows.{Row}
-use Rattle.text_measured.specs.rules.Sights.{over}
+use Rattle.text_fields.specs.rules.Stored.{over}
 use Rattle.report_residuals.specs.declared.Came.{Came}
 
 -- by what each number came to

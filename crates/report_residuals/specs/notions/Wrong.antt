@@ -1,15 +1,11 @@
 -- Wrong variants of a night's report.
 use Prim.Native.Nat.{ℕ}
-use mathlib.Core.Bool.{cond}
-use mathlib.Core.List.{List, map}
-use lib.Dec.{eqb}
+use mathlib.Core.List.{List}
 use lib.Ieee.{Float}
-use Rattle.quantity.specs.rules.Answer.{Answer, Pair, statusOf}
+use Rattle.quantity.specs.rules.Answer.{Answer, Pair}
 use Rattle.edition.specs.declared.Edition.{Edition}
 use Rattle.list.specs.rules.Stars.{mostStars, nth}
 use Rattle.batch.specs.rules.Star.{starRule}
-use Rattle.text_measured.specs.declared.Sights.{Sights}
-use Rattle.text_measured.specs.declared.Sights.the-variants as sights
 use Rattle.text_measured.specs.rules.Sights.{entriesOf, sightsRule}
 use Rattle.report_residuals.specs.declared.Style.{Style}
 use Rattle.report_residuals.specs.rules.Text.{Report, says, listRefused, unclearLine, tooMany, sheetRefused}

@@ -9,12 +9,12 @@ use Rattle.edition.specs.declared.Edition.{Edition}
 use Rattle.list.specs.rules.Stars.{mostStars}
 use Rattle.star_store.specs.rules.Star.{firstBits, secondBits}
 use Rattle.star_store.specs.rules.Stored.{storeRefusal}
-use Rattle.text_measured.specs.declared.Sights.{Sights}
-use Rattle.text_measured.specs.declared.Sights.the-variants as sights
+use Rattle.text_fields.specs.declared.Sights.{Sights}
+use Rattle.text_fields.specs.declared.Sights.the-variants as sights
 use Rattle.text_measured.specs.rules.Sights.{Entry, entriesOf, sightsRule, ascBits, decBits}
 use Rattle.report_residuals.specs.declared.Style.{Style}
 use Rattle.report_residuals.specs.rules.Came.{cameTo, lentCame}
-use Rattle.report_residuals.specs.rules.Text.{Report, says, listRefused, unclearLine, tooMany, sheetsReport}
+use Rattle.report_residuals.specs.rules.Text.{Report, listRefused, unclearLine, tooMany, sheetsReport}
 
 -- of sights that all have a place
 unfoldable pub nightReport : Style → Edition → List ℕ → Float → Float → List Entry → Report

@@ -22,7 +22,7 @@ use Rattle.quantity.specs.rules.Angle.{rad}
 use Rattle.quantity.specs.rules.Refusal.{lower, farthest, angleRefusal}
 use Rattle.quantity.specs.laws.Refusal.{finite-farthest, past-none}
 use Rattle.units.specs.notions.Nearest.{IsNearest}
-use Rattle.elementary.specs.laws.Accepted.{lower-none, angle-accepted}
+use Rattle.quantity.specs.laws.Accepted.{lower-none, angle-accepted}
 use Rattle.list.specs.rules.Stars.{mostStars}
 use Rattle.residual_sheet.specs.rules.Residual.{difference, acrossTurn, unrounded, residualOf}
 use Rattle.residual_sheet.specs.laws.Residual.{asc-nearest, dec-nearest}

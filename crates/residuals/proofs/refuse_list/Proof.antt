@@ -12,5 +12,5 @@ array-share-prefix-out c = search needs
 pub refuse-list-spec : {M : Type 1} → statement M
 refuse-list-spec =
     tie.close
-    (tie.spec (λ c. search needs) asks-nothing array-share-prefix-out (λ c. sym (length-take-le _ _ (array-share-prefix-out (c .before)))) asks-nothing
-    (λ c. search needs) (λ c. search needs) asks-nothing (λ c. search needs))
+    (tie.spec asks-nothing (λ c. tt) (λ c. search needs) asks-nothing array-share-prefix-out
+    (λ c. sym (length-take-le _ _ (array-share-prefix-out (c .before)))) asks-nothing (λ c. tt))

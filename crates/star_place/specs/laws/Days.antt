@@ -14,7 +14,7 @@ use Rattle.double.specs.laws.Between.{between, size→between}
 use Rattle.double.specs.laws.Monotone.{sub-mono}
 use Rattle.double.specs.laws.Interval.{bounded}
 use Rattle.quantity.specs.rules.Refusal.{epoch, daysAround, dayRefusal}
-use Rattle.elementary.specs.laws.Accepted.{day-accepted}
+use Rattle.quantity.specs.laws.Accepted.{day-accepted}
 use Rattle.star_place.specs.rules.Place.{daysOfYear, yearsBetween}
 
 finite-epoch : Finite epoch

@@ -12,7 +12,7 @@ use Rattle.quantity.specs.rules.Angle.{HALF}
 use Rattle.quantity.specs.rules.Answer.{Answer, answered, refused, Pair, unless}
 use Rattle.quantity.specs.rules.Refusal.{dayRefusal, angleRefusal, latitudeRefusal}
 use Rattle.quantity.specs.laws.Refusal.{past-none, finite-half}
-use Rattle.elementary.specs.laws.Accepted.{lower-none}
+use Rattle.quantity.specs.laws.Accepted.{lower-none}
 use Rattle.precess_angles.specs.rules.Days.{daysRefusal}
 use Rattle.list.specs.declared.Star.{Star}
 use Rattle.list.specs.rules.Record.{inRange}

@@ -1,6 +1,6 @@
 -- `text_measured::found_on` meets its contract.
 use borrow.Author.Needs.{needs}
-use mathlib.Core.Path.{_≡_, sym, ap}
+use mathlib.Core.Path.{sym, ap}
 use Rattle.text_measured.specs.declared.Line.{Line}
 use Rattle.text_measured.specs.rules.Sight.{shownLine}
 use Rattle.text_measured.specs.rules.Next.{nextAt}

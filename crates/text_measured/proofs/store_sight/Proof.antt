@@ -13,8 +13,8 @@ returns c =
     record {
       line-set = refl;
       star-set = refl;
-      asc-set = ap (set (begin .asc .now) (begin .i)) (rw (at-asc .before .before .radians .ensures) at (at-asc .pattern .ensures));
-      dec-set = ap (set (begin .dec .now) (begin .i)) (rw (at-asc .before .radians2 .ensures) at (c .pattern2 .ensures));
+      first-set = ap (set (begin .asc .now) (begin .i)) (rw (at-asc .before .before .radians .ensures) at (at-asc .pattern .ensures));
+      second-set = ap (set (begin .dec .now) (begin .i)) (rw (at-asc .before .radians2 .ensures) at (c .pattern2 .ensures));
     }
 
 pub store-sight-spec : {M : Type 1} → statement M

@@ -2,9 +2,8 @@
 use Rattle.double.specs.laws.Calls.{asks-nothing}
 use borrow.Author.Needs.{needs}
 use native.Mathlib.Omega.{arith}
-use mathlib.Core.Path.{_≡_, sym, ap, _∙_}
 use Rattle.text_measured.specs.rules.Sight.{withAsc}
-use Rattle.text_measured.specs.laws.Fields.{field-end-short, behind-field}
+use Rattle.text_fields.specs.laws.Fields.{field-end-short, behind-field}
 use Rattle.text_measured.proofs.with_asc.Statement.{statement}
 use Rattle.text_measured.proofs.with_asc.Tie as tie
 

@@ -3,9 +3,9 @@ use Rattle.double.specs.laws.Calls.{asks-nothing}
 use borrow.Author.Needs.{needs}
 use native.Mathlib.Omega.{arith}
 use mathlib.Core.Path.{_≡_, sym, _∙_}
-use Rattle.text_measured.specs.rules.Fields.{isBare, afterField}
+use Rattle.text_fields.specs.rules.Fields.{isBare, afterField}
 use Rattle.text_measured.specs.rules.Sight.{withDec}
-use Rattle.text_measured.specs.laws.Fields.{field-end-short, behind-field}
+use Rattle.text_fields.specs.laws.Fields.{field-end-short, behind-field}
 use Rattle.text_measured.proofs.with_dec.Statement.{statement}
 use Rattle.text_measured.proofs.with_dec.Tie as tie
 

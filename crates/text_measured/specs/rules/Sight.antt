@@ -5,45 +5,39 @@ use mathlib.Core.Bool.{cond}
 use mathlib.Core.List.{List}
 use Rattle.quantity.specs.declared.Deg.{Deg}
 use Rattle.text_whole.specs.rules.Unsigned.{Reading, is, none, unsignedRule}
-use Rattle.text_degrees.specs.rules.Degrees as degrees
-use Rattle.text_degrees.specs.rules.Degrees.{Angle, of, degreesRule}
+use Rattle.text_degrees.specs.rules.Degrees.{Angle, of, unclear, degreesRule}
+use Rattle.text_fields.specs.rules.Fields.{isBare, fieldOf, afterField}
+use Rattle.text_fields.specs.rules.Walk as walk
+use Rattle.text_fields.specs.rules.Walk.{Told, toldOf}
 use Rattle.text_measured.specs.declared.Line.{Line}
 use Rattle.text_measured.specs.declared.Line.the-variants as line
-use Rattle.text_measured.specs.declared.Stop.the-variants.{LineEnd, Hash}
-use Rattle.text_measured.specs.rules.Fields.{before, isBare, fieldOf, afterField}
 
-pub data Said : Type 0 where
-  sight : ℕ → Deg → Deg → Said
-  nothing : Said
-  unclear : Said
+pub data Sight : Type 0 where
+  sight : ℕ → Deg → Deg → Sight
 
-abbrev pub shownLine : Line → Said
-shownLine (line.Sight n a d) = sight n a d
-shownLine line.Bare = nothing
-shownLine line.Unclear = unclear
+abbrev pub shownLine : Line → Told Sight
+shownLine (line.Sight n a d) = walk.told (sight n a d)
+shownLine line.Bare = walk.nothing
+shownLine line.Unclear = walk.unclear
 
 -- each of three fields clear
-unfoldable pub sightFrom : Reading ℕ → Angle → Angle → Said
-sightFrom (is n) (of a) (of d) = sight n a d
-sightFrom (is n) (of a) degrees.unclear = unclear
-sightFrom (is n) degrees.unclear d = unclear
-sightFrom none a d = unclear
+unfoldable pub sightFrom : Reading ℕ → Angle → Angle → Reading Sight
+sightFrom (is n) (of a) (of d) = is (sight n a d)
+sightFrom (is n) (of a) unclear = none
+sightFrom (is n) unclear d = none
+sightFrom none a d = none
 
 -- the declination, and no field behind it
-unfoldable pub withDec : Reading ℕ → Angle → List ℕ → Said
-withDec n a text = cond (isBare (afterField text)) (sightFrom n a (degreesRule (fieldOf text))) unclear
+unfoldable pub withDec : Reading ℕ → Angle → List ℕ → Reading Sight
+withDec n a text = cond (isBare (afterField text)) (sightFrom n a (degreesRule (fieldOf text))) none
 
 -- the right ascension, then that
-unfoldable pub withAsc : Reading ℕ → List ℕ → Said
+unfoldable pub withAsc : Reading ℕ → List ℕ → Reading Sight
 withAsc n text = withDec n (degreesRule (fieldOf text)) (afterField text)
 
 -- the number, then both
-unfoldable pub saidRule : List ℕ → Said
-saidRule text = cond (isBare text) nothing (withAsc (unsignedRule (fieldOf text)) (afterField text))
+unfoldable pub sightRule : List ℕ → Reading Sight
+sightRule text = withAsc (unsignedRule (fieldOf text)) (afterField text)
 
-unfoldable pub lineRule : List ℕ → Said
-lineRule text = saidRule (before Hash text)
-
--- of a text's first line
-unfoldable pub firstLine : List ℕ → Said
-firstLine text = lineRule (before LineEnd text)
+unfoldable pub lineRule : List ℕ → Told Sight
+lineRule text = toldOf sightRule text

@@ -23,7 +23,7 @@ call-words-short n =
     (either-short 50 (eqb n 2) _ _ (omega arith)
     (either-short 50 (eqb n 8) _ [] (omega arith) (omega arith)))
 
-star-words-short : (n : ℕ) → length (starWords n) ≤ 44
+pub star-words-short : (n : ℕ) → length (starWords n) ≤ 44
 unfolding starWords
 star-words-short n =
     either-short 44 (eqb n 3) _ _ (omega arith)
@@ -52,7 +52,7 @@ number-words-short n =
 
 -- with such words and the line's end
 module _ (n : ℕ) (words : List ℕ) where
-  with-words : (k : ℕ) → length words ≤ k → length (numberWords n ++ (words ++ (lineEnd ∷ []))) ≤ 79 + k
+  pub with-words : (k : ℕ) → length words ≤ k → length (numberWords n ++ (words ++ (lineEnd ∷ []))) ≤ 79 + k
   with-words k h =
       let end : List ℕ = lineEnd ∷ [] in
       omega (arith, length-append (numberWords n) (words ++ end), length-append words end, number-words-short n)

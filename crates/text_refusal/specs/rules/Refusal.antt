@@ -30,7 +30,7 @@ observerWords n =
     cond (eqb n 3) (ascii ": LATITUDE or ALTITUDE is past 90 degrees, or an angle past 3666: check them")
     (cond (eqb n 4) (ascii ": LATITUDE is within 0.05 degrees of a pole: check it") [])
 
--- the number, and the words that both calls share
+-- the number, and the words that all calls share
 unfoldable pub numberWords : ℕ → List ℕ
 numberWords n = refusedWord ++ (decimalText n ++ callWords n)
 

@@ -1,45 +1,21 @@
 -- A place in its columns: a right ascension has twelve bytes, and so has a declination below a hundred degrees; what the parts say is the
 -- whole number that was rounded to; and a whole turn is shown as none.
-use Prim.Native.Nat.{ℕ, suc, _+_, _*_, _/_, _%_, _≤_, _<_}
+use Prim.Native.Nat.{ℕ, _+_, _*_, _/_, _%_, _<_}
 use mathlib.Core.Path.{_≡_, refl}
-use mathlib.Core.Bool.{Bool, true, false, cond}
+use mathlib.Core.Bool.{Bool}
 use mathlib.Core.List.{_∷_, []}
 use native.Mathlib.Nat.{mod-lt}
 use native.Mathlib.Omega.{arith}
-use lib.Dec.{ltb}
 use lib.Ieee.{neg}
 use lib.ListN.{length, length-append}
-use borrow.Author.Tests.{le-ltb, ltb-true, ltb-false}
 use Rattle.double.specs.rules.Operations.{bits}
 use Rattle.quantity.specs.declared.Rad.{Rad}
 use Rattle.quantity.specs.rules.Angle.{rad}
-use Rattle.text_number.specs.rules.Bytes.{ascii, point, digit0}
-use Rattle.text_number.specs.rules.Number.{decimalIn, decimalText}
-use Rattle.text_time.specs.rules.Time.{twoDigits, clockText}
-use Rattle.text_time.specs.laws.Clock.{one-digit, two-digits, clock-eight-bytes}
-use Rattle.text_row.specs.rules.Place.{millisecondsOf, threeDigits, hoursText, arcText, degreesText}
+use Rattle.text_number.specs.rules.Bytes.{ascii, point}
+use Rattle.text_time.specs.rules.Time.{twoDigits, threeDigits, clockText}
+use Rattle.text_time.specs.laws.Clock.{two-digits, three-digits, clock-eight-bytes}
+use Rattle.text_row.specs.rules.Place.{millisecondsOf, hoursText, arcText, degreesText}
 use Rattle.text_row.specs.notions.Computed.{computed}
-
--- ---- digits
-
-one-more-digit : (f n : ℕ) → 10 ≤ n → length (decimalIn (suc f) n) ≡ suc (length (decimalIn f (n / 10)))
-unfolding decimalIn
-one-more-digit f n h = rw (le-ltb n 10 h) (omega (arith, length-append (decimalIn f (n / 10)) ((digit0 + n % 10) ∷ [])))
-
-three-digits : (n : ℕ) → n < 1000 → length (threeDigits n) ≡ 3
-unfolding threeDigits
-three-digits n h = by-case (ltb n 100) refl
-  where
-    by-case : (b : Bool) → ltb n 100 ≡ b → length (cond b (digit0 ∷ twoDigits n) (decimalText n)) ≡ 3
-    by-case true e = omega (arith, two-digits n (ltb-true n 100 e))
-    by-case false e =
-        let k : 100 ≤ n = ltb-false n 100 e in
-        omega (
-          arith,
-          one-more-digit 19 n (omega arith),
-          one-more-digit 18 (n / 10) (omega arith),
-          one-digit 17 (n / 10 / 10) (omega arith),
-        )
 
 -- ---- a right ascension
 

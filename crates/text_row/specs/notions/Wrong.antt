@@ -15,10 +15,10 @@ use Rattle.units.specs.rules.Nearest.{nearestWhole}
 use Rattle.helpers.specs.rules.Angle.{withinTwoPI}
 use Rattle.text_number.specs.rules.Bytes.{ascii, colon, point}
 use Rattle.text_number.specs.rules.Number.{decimalText}
-use Rattle.text_time.specs.rules.Time.{twoDigits, clockText}
+use Rattle.text_time.specs.rules.Time.{twoDigits, threeDigits, clockText}
 use Rattle.text_time.specs.rules.Line.{outcomeText}
 use Rattle.text_refusal.specs.rules.Refusal.{refusalText}
-use Rattle.text_row.specs.rules.Place.{milliseconds, threeDigits, hundredths, arcText}
+use Rattle.text_row.specs.rules.Place.{milliseconds, hundredths, arcText}
 use Rattle.text_row.specs.rules.Row.{columnText, placeText}
 use Rattle.text_row.specs.rules.PlanRow.{timesRow, planRow}
 

@@ -3,7 +3,6 @@
 use Prim.Native.Nat.{ℕ, _/_, _%_}
 use mathlib.Core.Bool.{Bool, cond}
 use mathlib.Core.List.{List, _∷_, _++_}
-use lib.Dec.{ltb}
 use lib.Ieee.{Float}
 use Rattle.double.specs.rules.Operations.{bits, _⊗_}
 use Rattle.double.specs.rules.Sign.{size}
@@ -12,9 +11,8 @@ use Rattle.quantity.specs.declared.Rad.{Rad}
 use Rattle.units.specs.rules.Degrees.{toDegrees}
 use Rattle.units.specs.rules.Nearest.{nearestWhole, hasMinus}
 use Rattle.helpers.specs.rules.Angle.{withinTwoPI}
-use Rattle.text_number.specs.rules.Bytes.{minusSign, plusSign, point, digit0}
-use Rattle.text_number.specs.rules.Number.{decimalText}
-use Rattle.text_time.specs.rules.Time.{twoDigits, clockText}
+use Rattle.text_number.specs.rules.Bytes.{minusSign, plusSign, point}
+use Rattle.text_time.specs.rules.Time.{twoDigits, threeDigits, clockText}
 
 -- 240000.0: a degree is four minutes of time
 abbrev pub millisecondsOfDegree : Float
@@ -26,10 +24,6 @@ milliseconds x = x .0 ⊗ millisecondsOfDegree
 -- to the nearest millisecond within one turn: what rounds to 24 hours is 0
 unfoldable pub millisecondsOf : Rad → ℕ
 millisecondsOf x = nearestWhole (milliseconds (toDegrees (withinTwoPI x))) % 86400000
-
--- zeros in front of fewer than three digits
-unfoldable pub threeDigits : ℕ → List ℕ
-threeDigits n = cond (ltb n 100) (digit0 ∷ twoDigits n) (decimalText n)
 
 -- hh:mm:ss.sss
 unfoldable pub hoursText : Rad → List ℕ

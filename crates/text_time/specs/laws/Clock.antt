@@ -1,6 +1,6 @@
 -- A clock below a hundred hours, as a time up to the end of a day is, has eight bytes, two digits to each part; and what the parts say is
 -- the seconds.
-use Prim.Native.Nat.{ℕ, suc, _+_, _*_, _/_, _%_, _<_}
+use Prim.Native.Nat.{ℕ, suc, _+_, _*_, _/_, _%_, _≤_, _<_}
 use mathlib.Core.Path.{_≡_, refl}
 use mathlib.Core.Bool.{Bool, true, false, cond}
 use mathlib.Core.List.{[], _∷_, _++_}
@@ -8,12 +8,12 @@ use native.Mathlib.Omega.{arith}
 use lib.Dec.{ltb}
 use lib.ListN.{length, length-append}
 use lib.Ieee.{Float}
-use borrow.Author.Tests.{lt-ltb, ltb-false}
+use borrow.Author.Tests.{lt-ltb, le-ltb, ltb-true, ltb-false}
 use Rattle.double.specs.rules.Operations.{zero, one}
 use Rattle.double.specs.rules.Order.{Between}
 use Rattle.text_number.specs.rules.Bytes.{ascii, colon, digit0}
-use Rattle.text_number.specs.rules.Number.{decimalIn}
-use Rattle.text_time.specs.rules.Time.{twoDigits, clockText, timeText, secondsOf}
+use Rattle.text_number.specs.rules.Number.{decimalIn, decimalText}
+use Rattle.text_time.specs.rules.Time.{twoDigits, threeDigits, clockText, timeText, secondsOf}
 use Rattle.text_time.specs.notions.Computed.{computed}
 use Rattle.text_time.specs.laws.Seconds.{seconds-at-most}
 
@@ -32,6 +32,25 @@ two-digits n h = by-case (ltb n 10) refl
     by-case true e = refl
     by-case false e =
         omega (arith, length-append (decimalIn 19 (n / 10)) ((digit0 + n % 10) ∷ []), one-digit 18 (n / 10) (omega arith), ltb-false n 10 e)
+
+one-more-digit : (f n : ℕ) → 10 ≤ n → length (decimalIn (suc f) n) ≡ suc (length (decimalIn f (n / 10)))
+unfolding decimalIn
+one-more-digit f n h = rw (le-ltb n 10 h) (omega (arith, length-append (decimalIn f (n / 10)) ((digit0 + n % 10) ∷ [])))
+
+pub three-digits : (n : ℕ) → n < 1000 → length (threeDigits n) ≡ 3
+unfolding threeDigits
+three-digits n h = by-case (ltb n 100) refl
+  where
+    by-case : (b : Bool) → ltb n 100 ≡ b → length (cond b (digit0 ∷ twoDigits n) (decimalText n)) ≡ 3
+    by-case true e = omega (arith, two-digits n (ltb-true n 100 e))
+    by-case false e =
+        let k : 100 ≤ n = ltb-false n 100 e in
+        omega (
+          arith,
+          one-more-digit 19 n (omega arith),
+          one-more-digit 18 (n / 10) (omega arith),
+          one-digit 17 (n / 10 / 10) (omega arith),
+        )
 
 pub clock-eight-bytes : (n : ℕ) → n < 360000 → length (clockText n) ≡ 8
 unfolding clockText

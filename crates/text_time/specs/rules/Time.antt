@@ -22,6 +22,10 @@ secondsOf x = wholePart (x ⊗ secondsOfDay ⊕ half)
 unfoldable pub twoDigits : ℕ → List ℕ
 twoDigits n = cond (ltb n 10) (digit0 ∷ decimalText n) (decimalText n)
 
+-- zeros in front of fewer than three digits
+unfoldable pub threeDigits : ℕ → List ℕ
+threeDigits n = cond (ltb n 100) (digit0 ∷ twoDigits n) (decimalText n)
+
 -- hh:mm:ss of so many seconds
 unfoldable pub clockText : ℕ → List ℕ
 clockText n = twoDigits (n / 3600) ++ (colon ∷ (twoDigits (n / 60 % 60) ++ (colon ∷ twoDigits (n % 60))))

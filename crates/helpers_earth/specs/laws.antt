@@ -1,0 +1,3 @@
+-- What is proved of the figure of the Earth, for callers to cite. Theorems only.
+pub mod Constants
+pub mod Wrong

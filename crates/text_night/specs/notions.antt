@@ -1,0 +1,4 @@
+-- What theorems on the text of a night's sights speak of, and no promise mentions. Definitions only.
+pub mod Code
+pub mod Computed
+pub mod Wrong
