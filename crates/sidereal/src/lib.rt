@@ -1,9 +1,12 @@
 // Sidereal time at Greenwich, mean (Meeus 12.4) and apparent. The day is one of universal time. Angles are in radians.
 // Rules: specs/rules, in reading order in specs/rules.antt.
 ghost use mathlib.Core.Path.{_≡_};
+ghost use Rattle.double.specs.rules.Operations.{_⊕_, _⊗_};
 ghost use Rattle.quantity.specs.rules.Angle.{rad};
 ghost use Rattle.quantity.specs.rules.Answer.{shownRadians};
+ghost use Rattle.elementary.specs.rules.Sine.{cosineOf};
 ghost use Rattle.helpers.specs.rules.Angle.{withinTwoPI};
+ghost use Rattle.chain.specs.rules.Obliquity.{trueObliquity};
 ghost use Rattle.sidereal.specs.rules.Mean.{meanInDegrees, meanOf, meanSiderealRule};
 ghost use Rattle.sidereal.specs.rules.Apparent.{apparentFrom, apparentOf, apparentSiderealRule};
 use helpers::angle;
@@ -54,26 +57,34 @@ fn folded(x: f64) -> Rad
     angle::within_two_PI(Rad(x))
 }
 
-// From the mean one, nutation and the mean obliquity.
+// From the mean one, nutation in longitude and in obliquity, and the mean obliquity: numbers, which stay in registers of floats.
+fn apparent_in(mean: f64, long: f64, in_oblq: f64, mean_oblq: f64) -> f64
+    ensures { λ r. ⌜ rad r ≡ withinTwoPI (rad (mean ⊕ (long ⊗ cosineOf (trueObliquity (rad «mean_oblq») (rad «in_oblq»))))) ⌝ }
+{
+    let f = elementary::fold(chain::true_obliquity(Rad(mean_oblq), Rad(in_oblq)));
+    let x = folded(mean + long * f.cosine());
+    x.0
+}
+
+// The same of angles.
 pub fn apparent_from(mean: Rad, n: Nutations, mean_oblq: Rad) -> Rad
     ensures { λ r. ⌜ r ≡ apparentFrom mean n «mean_oblq» ⌝ }
 {
-    let from = mean.0;
     let long = n.long.0;
-    let in_oblq = n.oblq;
-    let f = elementary::fold(chain::true_obliquity(mean_oblq, in_oblq));
-    folded(from + long * f.cosine())
+    let in_oblq = n.oblq.0;
+    Rad(apparent_in(mean.0, long, in_oblq, mean_oblq.0))
 }
 
 // Apparent sidereal time on a day that is not refused.
 pub fn apparent_on(day: f64) -> Rad
     ensures { λ r. ⌜ r ≡ apparentOf day ⌝ }
 {
-    apparent_from(
-        mean_on(day),
-        nutation_table::nutation_on(day),
-        chain::mean_obliquity_on(day),
-    )
+    let n = nutation_table::nutation_on(day);
+    let mean_oblq = chain::mean_obliquity_on(day);
+    let mean = mean_on(day);
+    let long = n.long.0;
+    let in_oblq = n.oblq.0;
+    Rad(apparent_in(mean.0, long, in_oblq, mean_oblq.0))
 }
 
 // Apparent sidereal time at Greenwich. Refusals: 1; 2.

@@ -192,6 +192,9 @@ lt-or-le x y p q =
 pub le-of-not-lt : (x y : Float) → Finite x → Finite y → T (not (lt x y)) → y ≼ x
 le-of-not-lt x y p q h = elim (lt-or-le x y p q) [ inl t ↦ absurd (T-not (lt x y) h t) | inr t ↦ t ]
 
+pub lt-of-not-le : (x y : Float) → Finite x → Finite y → T (not (le x y)) → T (lt y x)
+lt-of-not-le x y p q h = elim (lt-or-le y x q p) [ inl t ↦ t | inr t ↦ absurd (T-not (le x y) h t) ]
+
 lt→below : (x y : Float) → Finite x → Finite y → T (lt x y)
     → plusPart x * den y + minusPart y * den x < plusPart y * den x + minusPart x * den y
 unfolding lt isFinite
