@@ -37,9 +37,9 @@ module _ (n : ℕ) (h : n < 4294967296) where
       let low : n / 2 < 2147483648 = omega arith in
       ap (λ (z : ℤ). negsuc 0 -ℤ z) (to_z_pos w32 low) ∙ under (n / 2)
 
-  pub odd-fits : SFits w32 (negsuc 0 -ℤ to_z w32 (n / 2))
-  odd-fits = rw minus (record { sfits = omega arith })
+  pub odd_fits : SFits w32 (negsuc 0 -ℤ to_z w32 (n / 2))
+  odd_fits = rw minus (record { sfits = omega arith })
 
   pub odd : (n % 2 ≡ 0 → ⊥) → to_z w32 (of_z w32 (negsuc 0 -ℤ to_z w32 (n / 2))) ≡ unfolded n
   unfolding unfolded
-  odd e = to_z-of_z odd-fits ∙ minus ∙ rw (ne_eqb (n % 2) 0 e)
+  odd e = to_z-of_z odd_fits ∙ minus ∙ rw (ne_eqb (n % 2) 0 e)

@@ -81,8 +81,8 @@ module _ (s : List ℕ) (at more least low w p : ℕ) (m : Midway s at more leas
     pub stops : Ends → least ≤ b → answered (record { value = low + w * b; offset = p + 1 }) ≡ read_at read_number s at
     stops q z = shows read_number s at (low + w * b) (p + 1) (omega arith) (here ∙ ap (with (over low w)) q ∙ rw (le-ltb b least z))
 
-    pub too-high : more ≡ 0 → 16 ≤ b → refused 12 ≡ read_at read_number s at
-    too-high h k = refuses read_number s at 12 (here ∙ ap (with (over low w)) (go more h))
+    pub too_high_lem : more ≡ 0 → 16 ≤ b → refused 12 ≡ read_at read_number s at
+    too_high_lem h k = refuses read_number s at 12 (here ∙ ap (with (over low w)) (go more h))
       where
         go : (l : ℕ) → l ≡ 0 → number_within l least (b ∷ drop (p + 1) s) ≡ refused 12
         go zero h = rw (le-ltb b 16 k)

@@ -13,7 +13,7 @@ use Rattle.list.specs.rules.Record.{star_bytes}
 use Rattle.list.specs.rules.Stars.{list_bytes}
 use Rattle.list_radio.specs.rules.Star.{read_star}
 use Rattle.list_moves.specs.rules.Moves.{stars_upto}
-use Rattle.list_moves.specs.laws.Moves.{upto-none, upto-refused, upto-more}
+use Rattle.list_moves.specs.laws.Moves.{upto_none, upto_refused, upto_more}
 
 -- the records of so many stars from an offset on
 abbrev records : Bool → List ℕ → ℕ → ℕ → List ℕ
@@ -40,10 +40,10 @@ module _ (old s : List ℕ) (moving : Bool) (n at : ℕ) (out : List ℕ) (p off
   finished e = same (sym (m.all ∙ ap (λ (l : List ℕ). m.done ++ l) e ∙ append-nil m.done)) m.wrote
 
   pub stops : (k : ℕ) → read_star moving (drop p s) ≡ refused k → Wrote old 0 (records moving s n at) out offset
-  stops k e = finished (ap list_bytes (upto-refused moving (n - i) (drop p s) k e))
+  stops k e = finished (ap list_bytes (upto_refused moving (n - i) (drop p s) k e))
 
   pub ends : n ≤ i → Wrote old 0 (records moving s n at) out offset
-  ends h = finished (ap list_bytes (upto-none moving (n - i) (drop p s) (omega arith)))
+  ends h = finished (ap list_bytes (upto_none moving (n - i) (drop p s) (omega arith)))
 
   pub on : (r : Star) (next : ℕ) (new : List ℕ) (after-it : ℕ) → i < n → read_star moving (drop p s) ≡ answered (record { value = r; rest = drop next s })
       → Wrote out offset (star_bytes r) new after-it → Laying old s moving n at new next after-it (i + 1)
@@ -53,7 +53,7 @@ module _ (old s : List ℕ) (moving : Bool) (n at : ℕ) (out : List ℕ) (p off
         done = m.done ++ star_bytes r;
         all =
             m.all
-            ∙ ap (λ (rs : List Star). m.done ++ list_bytes rs) (upto-more moving (n - i) (drop p s) (record { value = r; rest = drop next s }) (omega arith) e)
+            ∙ ap (λ (rs : List Star). m.done ++ list_bytes rs) (upto_more moving (n - i) (drop p s) (record { value = r; rest = drop next s }) (omega arith) e)
             ∙ ap (λ (k : ℕ). m.done ++ (star_bytes r ++ records moving s k next)) (let q : n - i - 1 ≡ n - (i + 1) = omega arith in q)
             ∙ sym (append_assoc m.done (star_bytes r) (records moving s (n - (i + 1)) next));
         wrote = after m.wrote w;

@@ -9,12 +9,12 @@ use Rattle.quantity.specs.rules.Answer.{answered, refused}
 use Rattle.list.specs.declared.Star.{Star}
 use Rattle.list.specs.rules.Record.{in_range}
 use Rattle.list.specs.rules.Stars.{is_list, count_of, stars, nth, all_in_range}
-use Rattle.list.specs.laws.Stars.{length-stars, all-stars, few}
+use Rattle.list.specs.laws.Stars.{length_stars, all_stars, few}
 use Rattle.list_groups.specs.rules.Several.{spell_all}
 use Rattle.list_radio.specs.rules.Star.{star_groups}
 use Rattle.list_moves.specs.rules.Moves.{size_of}
 use Rattle.list_radio.specs.laws.Star.{at_most_twenty_five}
-use Rattle.list_moves.specs.laws.Moves.{groups-more, ranges_more}
+use Rattle.list_moves.specs.laws.Moves.{groups_more, ranges_more}
 
 pub record Measuring (s : List ℕ) (n size i : ℕ) : Type 0 where
   pub list : is_list s ≡ true
@@ -55,15 +55,15 @@ module _ (s : List ℕ) (n size i : ℕ) (m : Measuring s n size i) where
           is =
               (λ j. m.is j + (l ∙ ap (λ (x : Star). length (star_groups x)) e) j)
               ∙ sym (length-append (spell_all star_groups (take i (stars s))) (star_groups (nth s i)))
-              ∙ ap length (groups-more s i index);
+              ∙ ap length (groups_more s i index);
           small = omega (arith, m.small, at_most_twenty_five r);
         }
 
   pub measured : n ≤ i → answered size ≡ size_of (stars s)
   unfolding size_of
   measured h =
-      let at-end : i ≡ count_of s = omega (arith, m.so_far, m.many) in
-      let none = ap all_in_range (drop_of_length-le (stars s) {i = i} (omega (arith, length-stars s))) in
+      let at_end_lem : i ≡ count_of s = omega (arith, m.so_far, m.many) in
+      let none = ap all_in_range (drop_of_length-le (stars s) {i = i} (omega (arith, length_stars s))) in
       sym
       (ap (λ (t : Bool). cond t (answered (length (spell_all star_groups (stars s)))) (refused 9)) (m.ranges ∙ none)
-      ∙ ap answered (ap (λ (l : List Star). length (spell_all star_groups l)) (sym (all-stars s i at-end)) ∙ sym m.is))
+      ∙ ap answered (ap (λ (l : List Star). length (spell_all star_groups l)) (sym (all_stars s i at_end_lem)) ∙ sym m.is))

@@ -70,9 +70,9 @@ module _ (s : List ℕ) (moving : Bool) (n at p i : ℕ) (c : Checking s moving 
             ∙ ap (λ (k : ℕ). counted (i + 1) (stars_of moving k (drop next s))) (let q : n - i - 1 ≡ n - (i + 1) = omega arith in q);
       }
 
-  pub star-bad : (k : ℕ) → i < n → read_star moving (drop p s) ≡ refused k → refused k ≡ with length (stars_of moving n (drop at s))
+  pub star_bad : (k : ℕ) → i < n → read_star moving (drop p s) ≡ refused k → refused k ≡ with length (stars_of moving n (drop at s))
   unfolding stars_of
-  star-bad k h e =
+  star_bad k h e =
       sym (c.same ∙ ap (λ (x : Answer (Got (List Star))). counted i (then x nothing_over)) (stops (read_star moving) (n - i) (drop p s) k (omega arith) e) ∙ refl)
 
   left : n ≤ i → stars_of moving (n - i) (drop p s) ≡ nothing_over (record { value = []; rest = drop p s })
@@ -89,6 +89,6 @@ module _ (s : List ℕ) (moving : Bool) (n at p i : ℕ) (c : Checking s moving 
       ∙ ap (counted i) (left h ∙ ap (λ (t : Bool). cond t (answered []) (refused 13)) (eq-eqb (length (drop p s)) 0 (omega (arith, length-drop p s))))
       ∙ ap answered (let q : i + 0 ≡ n = omega arith in q))
 
-  pub bytes-over : n ≤ i → p < length s → refused 13 ≡ with length (stars_of moving n (drop at s))
-  bytes-over h e =
+  pub bytes_over : n ≤ i → p < length s → refused 13 ≡ with length (stars_of moving n (drop at s))
+  bytes_over h e =
       sym (c.same ∙ ap (counted i) (left h ∙ ap (λ (t : Bool). cond t (answered []) (refused 13)) (ne_eqb (length (drop p s)) 0 (λ z. omega (arith, length-drop p s)))))

@@ -21,7 +21,7 @@ use Rattle.list_groups.specs.laws.Several.{none, first, stops}
 use Rattle.list_radio.specs.rules.Star.{number_count, star_of, read_star}
 use Rattle.list_radio.specs.rules.Radio.{mark, mark_refusal, is_moving, read_count, stars_of}
 use Rattle.list_radio.specs.rules.Reader.{ranged_at}
-use Rattle.list_radio.specs.laws.Mark.{mark-taken}
+use Rattle.list_radio.specs.laws.Mark.{mark_taken}
 use Rattle.list_radio.specs.laws.Order.{numbers_first}
 
 -- ---- the first byte
@@ -33,7 +33,7 @@ mark_empty (b ∷ s) h = absurd (omega arith)
 
 pub mark_there : (s : List ℕ) (moving : Bool) → 0 < length s → get_or s 0 0 ≡ mark moving → 0 ≡ mark_refusal s
 mark_there [] moving h e = absurd (omega arith)
-mark_there (b ∷ s) moving h e = sym (ap (λ (x : ℕ). mark_refusal (x ∷ s)) e ∙ mark-taken moving s)
+mark_there (b ∷ s) moving h e = sym (ap (λ (x : ℕ). mark_refusal (x ∷ s)) e ∙ mark_taken moving s)
 
 pub mark_other : (s : List ℕ) → 0 < length s → (get_or s 0 0 ≡ mark true → ⊥) → (get_or s 0 0 ≡ mark false → ⊥) → 11 ≡ mark_refusal s
 unfolding mark_refusal
@@ -48,14 +48,14 @@ empty_still (b ∷ s) h = absurd (omega arith)
 -- ---- the count
 
 module _ (s : List ℕ) (at : ℕ) where
-  pub count-refused : (k : ℕ) → read_number (drop at s) ≡ refused k → refused k ≡ read_at read_count s at
+  pub count_refused : (k : ℕ) → read_number (drop at s) ≡ refused k → refused k ≡ read_at read_count s at
   unfolding read_count
-  count-refused k e = refuses read_count s at k (rw e)
+  count_refused k e = refuses read_count s at k (rw e)
 
   module _ (n next : ℕ) (f : Found read_number s at n next) where
-    pub few-enough : n ≤ most_stars → answered (record { value = n; offset = next }) ≡ read_at read_count s at
+    pub few_enough : n ≤ most_stars → answered (record { value = n; offset = next }) ≡ read_at read_count s at
     unfolding read_count
-    few-enough h = shows read_count s at n next f.inside (rw (f.read_so, le-leb n most_stars h))
+    few_enough h = shows read_count s at n next f.inside (rw (f.read_so, le-leb n most_stars h))
 
     pub too_many : most_stars < n → refused 8 ≡ read_at read_count s at
     unfolding read_count
@@ -72,13 +72,13 @@ module _ (n a d u v next : ℕ) (x y z : ℤ) (p : x ≡ unfolded d) (q : y ≡ 
   same : star ≡ star_of (n ∷ a ∷ d ∷ u ∷ v ∷ [])
   same = λ i. record { number = n; asc = a; dec = p i; asc_rate = q i; dec_rate = r i }
 
-  pub star-here : in_range star ≡ true → answered (record { value = star; offset = next }) ≡ ranged_at (n ∷ a ∷ d ∷ u ∷ v ∷ []) next
+  pub star_here : in_range star ≡ true → answered (record { value = star; offset = next }) ≡ ranged_at (n ∷ a ∷ d ∷ u ∷ v ∷ []) next
   unfolding ranged_at
-  star-here t = ap (tested star) (sym t) ∙ ap (λ (m : Star). tested m (in_range m)) same
+  star_here t = ap (tested star) (sym t) ∙ ap (λ (m : Star). tested m (in_range m)) same
 
-  pub star-out : in_range star ≡ false → refused 9 ≡ ranged_at (n ∷ a ∷ d ∷ u ∷ v ∷ []) next
+  pub star_out : in_range star ≡ false → refused 9 ≡ ranged_at (n ∷ a ∷ d ∷ u ∷ v ∷ []) next
   unfolding ranged_at
-  star-out t = ap (tested star) (sym t) ∙ ap (λ (m : Star). tested m (in_range m)) same
+  star_out t = ap (tested star) (sym t) ∙ ap (λ (m : Star). tested m (in_range m)) same
 
 -- ---- with yearly changes or without
 
@@ -94,27 +94,27 @@ abbrev before_at : ℕ → AtOffset (List ℕ) → AtOffset (List ℕ)
 before_at n x = record { value = n ∷ x.value; offset = x.offset }
 
 module _ (s : List ℕ) (at m : ℕ) where
-  pub now-refused : (k : ℕ) → read_number (drop at s) ≡ refused k → refused k ≡ read_at (read_all read_number (suc m)) s at
-  now-refused k e = refuses (read_all read_number (suc m)) s at k (stops read_number (suc m) (drop at s) k (omega arith) e)
+  pub now_refused : (k : ℕ) → read_number (drop at s) ≡ refused k → refused k ≡ read_at (read_all read_number (suc m)) s at
+  now_refused k e = refuses (read_all read_number (suc m)) s at k (stops read_number (suc m) (drop at s) k (omega arith) e)
 
   module _ (n next : ℕ) (f : Found read_number s at n next) where
-    read-on : with (before_at n) (read_at (read_all read_number m) s next) ≡ read_at (read_all read_number (suc m)) s at
+    read_on : with (before_at n) (read_at (read_all read_number m) s next) ≡ read_at (read_all read_number (suc m)) s at
     unfolding read_at
-    read-on =
-        offset-before (read_all read_number m (drop next s))
+    read_on =
+        offset_before (read_all read_number m (drop next s))
         ∙ ap (λ (k : ℕ). with (with_offset s) (with (before n) (read_all read_number k (drop next s)))) (let q : m ≡ suc m - 1 = omega arith in q)
         ∙ ap (with (with_offset s)) (sym (first read_number (suc m) (drop at s) (record { value = n; rest = drop next s }) (omega arith) f.read_so))
       where
-        offset-before : (x : Answer (Got (List ℕ))) → with (before_at n) (with (with_offset s) x) ≡ with (with_offset s) (with (before n) x)
-        offset-before (answered g) = refl
-        offset-before (refused k) = refl
+        offset_before : (x : Answer (Got (List ℕ))) → with (before_at n) (with (with_offset s) x) ≡ with (with_offset s) (with (before n) x)
+        offset_before (answered g) = refl
+        offset_before (refused k) = refl
 
-    pub on-refused : (k : ℕ) → refused k ≡ read_at (read_all read_number m) s next → refused k ≡ read_at (read_all read_number (suc m)) s at
-    on-refused k e = ap (with (before_at n)) e ∙ read-on
+    pub on_refused : (k : ℕ) → refused k ≡ read_at (read_all read_number m) s next → refused k ≡ read_at (read_all read_number (suc m)) s at
+    on_refused k e = ap (with (before_at n)) e ∙ read_on
 
     pub on_read : (x : AtOffset (List ℕ)) → answered x ≡ read_at (read_all read_number m) s next
         → answered (before_at n x) ≡ read_at (read_all read_number (suc m)) s at
-    on_read x e = ap (with (before_at n)) e ∙ read-on
+    on_read x e = ap (with (before_at n)) e ∙ read_on
 
 -- the last of them
 pub last_read : (s : List ℕ) (at n next : ℕ) → Found read_number s at n next
@@ -184,13 +184,13 @@ ranged_shows moving s at ns next h e = rw e (go (in_range (star_of ns)))
     go false = refl
 
 module _ (s : List ℕ) (at : ℕ) where
-  numbers-refused : (moving : Bool) (k : ℕ) → read_all read_number (number_count moving) (drop at s) ≡ refused k
+  numbers_refused : (moving : Bool) (k : ℕ) → read_all read_number (number_count moving) (drop at s) ≡ refused k
       → refused k ≡ read_at (read_star moving) s at
-  numbers-refused moving k e = refuses (read_star moving) s at k (numbers_first moving (drop at s) k e)
+  numbers_refused moving k e = refuses (read_star moving) s at k (numbers_first moving (drop at s) k e)
 
-  pub place-refused : (moving : Bool) (k : ℕ) → read_all read_number 3 (drop at s) ≡ refused k → refused k ≡ read_at (read_star moving) s at
-  place-refused true k e = numbers-refused true k (some_refused 3 2 (drop at s) k e)
-  place-refused false k e = numbers-refused false k e
+  pub place_refused : (moving : Bool) (k : ℕ) → read_all read_number 3 (drop at s) ≡ refused k → refused k ≡ read_at (read_star moving) s at
+  place_refused true k e = numbers_refused true k (some_refused 3 2 (drop at s) k e)
+  place_refused false k e = numbers_refused false k e
 
   module _ (n a d next : ℕ) (f : Found (read_all read_number 3) s at (n ∷ a ∷ d ∷ []) next) where
     pub still_read : (r : Answer (AtOffset Star)) (moving : Bool) → moving ≡ false → r ≡ ranged_at (n ∷ a ∷ d ∷ 0 ∷ 0 ∷ []) next
@@ -203,12 +203,12 @@ module _ (s : List ℕ) (at : ℕ) where
     place_read = some_then 3 2 (drop at s) (record { value = n ∷ a ∷ d ∷ []; rest = drop next s }) f.read_so
 
     module _ (moving : Bool) (e : moving ≡ true) where
-      pub rates-refused : (k : ℕ) → read_all read_number 2 (drop next s) ≡ refused k → refused k ≡ read_at (read_star moving) s at
-      rates-refused k h =
-          numbers-refused true k (place_read ∙ ap (with (before_all (n ∷ a ∷ d ∷ []))) h) ∙ star_as true moving s at (sym e)
+      pub rates_refused : (k : ℕ) → read_all read_number 2 (drop next s) ≡ refused k → refused k ≡ read_at (read_star moving) s at
+      rates_refused k h =
+          numbers_refused true k (place_read ∙ ap (with (before_all (n ∷ a ∷ d ∷ []))) h) ∙ star_as true moving s at (sym e)
 
-      pub rates-read : (r : Answer (AtOffset Star)) (u v end : ℕ) → Found (read_all read_number 2) s next (u ∷ v ∷ []) end
+      pub rates_read : (r : Answer (AtOffset Star)) (u v end : ℕ) → Found (read_all read_number 2) s next (u ∷ v ∷ []) end
           → r ≡ ranged_at (n ∷ a ∷ d ∷ u ∷ v ∷ []) end → r ≡ read_at (read_star moving) s at
-      rates-read r u v end g h =
+      rates_read r u v end g h =
           let all = place_read ∙ ap (with (before_all (n ∷ a ∷ d ∷ []))) g.read_so in
           h ∙ ranged_shows true s at (n ∷ a ∷ d ∷ u ∷ v ∷ []) end g.inside all ∙ star_as true moving s at (sym e)

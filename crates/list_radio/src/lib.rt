@@ -63,7 +63,7 @@ const MOST_STARS: u32 = list::MOST_STARS as u32;
 // of three.
 pub const MOST_BYTES: usize = 3 + 21 * list::MOST_STARS;
 
-// Bytes to read where a radio list is expected: four more than the longest has, which decide for all after them (`stars-decided`). The
+// Bytes to read where a radio list is expected: four more than the longest has, which decide for all after them (`stars_decided`). The
 // last star may have yearly changes of five groups each, and is refused by 9 after the last of them.
 pub const READ: usize = MOST_BYTES + 4;
 

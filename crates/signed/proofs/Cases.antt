@@ -50,17 +50,17 @@ flip (pos n) h = absurd (omega (arith, ltb-true n 0 h))
 flip (negsuc n) h = ap (λ (b : Bool). cond b (negsuc (1 - suc (suc n))) (pos (suc n - 1))) (le-ltb (suc n) 1 (omega arith)) ∙ ap pos (let e : suc n - 1 ≡ n = omega arith in e)
 
 module _ (y : ℤ) (f : SFits w32 y) (h : negative y ≡ true) where
-  pub fits-flipped : SFits w32 (negsuc 0 -ℤ y)
-  fits-flipped = rw (flip y h) (record { sfits = f.sfits })
+  pub fits_flipped : SFits w32 (negsuc 0 -ℤ y)
+  fits_flipped = rw (flip y h) (record { sfits = f.sfits })
 
   flipped : to_z w32 (of_z w32 (negsuc 0 -ℤ y)) ≡ pos (reach y)
-  flipped = to_z-of_z fits-flipped ∙ flip y h
+  flipped = to_z-of_z fits_flipped ∙ flip y h
 
-  pub casts-flipped : Casts (to_z w32 (of_z w32 (negsuc 0 -ℤ y)))
-  casts-flipped = subst Casts (sym flipped) (plain (reach y) (record { sfits = f.sfits }))
+  pub casts_flipped : Casts (to_z w32 (of_z w32 (negsuc 0 -ℤ y)))
+  casts_flipped = subst Casts (sym flipped) (plain (reach y) (record { sfits = f.sfits }))
 
-  pub reach-flipped : nat_abs (to_z w32 (of_z w32 (negsuc 0 -ℤ y))) ≡ reach y
-  reach-flipped = ap nat_abs flipped
+  pub reach_flipped : nat_abs (to_z w32 (of_z w32 (negsuc 0 -ℤ y))) ≡ reach y
+  reach_flipped = ap nat_abs flipped
 
 -- −1 − k
 under : (k : ℕ) → negsuc 0 -ℤ pos k ≡ negsuc k
@@ -75,12 +75,12 @@ module _ (u : ℕ) (h : 2147483648 ≤ u) where
   minus : negsuc 0 -ℤ to_z w32 (4294967295 - u) ≡ negsuc (4294967295 - u)
   minus = ap (λ (z : ℤ). negsuc 0 -ℤ z) (to_z_pos w32 low) ∙ under (4294967295 - u)
 
-  pub fits-high : SFits w32 (negsuc 0 -ℤ to_z w32 (4294967295 - u))
-  fits-high = rw minus (record { sfits = low })
+  pub fits_high : SFits w32 (negsuc 0 -ℤ to_z w32 (4294967295 - u))
+  fits_high = rw minus (record { sfits = low })
 
   pub signed_high : to_z w32 (of_z w32 (negsuc 0 -ℤ to_z w32 (4294967295 - u))) ≡ signed_of u
   signed_high =
-      to_z-of_z fits-high
+      to_z-of_z fits_high
       ∙ minus
       ∙ ap negsuc (let e : 4294967295 - u ≡ 4294967296 - suc u = omega arith in e)
       ∙ ap (λ (b : Bool). sel b (pos u) (negsuc (4294967296 - suc u))) (sym (le-ltb u 2147483648 h))

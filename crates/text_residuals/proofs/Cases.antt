@@ -40,17 +40,17 @@ flip (negsuc n) h =
     ∙ ap pos (let e : suc n - 1 ≡ n = omega arith in e)
 
 module _ (y : ℤ) (f : SFits w64 y) (h : negative y ≡ true) where
-  pub fits-flipped : SFits w64 (negsuc 0 -ℤ y)
-  fits-flipped = rw (flip y h) (record { sfits = f.sfits })
+  pub fits_flipped : SFits w64 (negsuc 0 -ℤ y)
+  fits_flipped = rw (flip y h) (record { sfits = f.sfits })
 
   flipped : to_z w64 (of_z w64 (negsuc 0 -ℤ y)) ≡ pos (reach y)
-  flipped = to_z-of_z fits-flipped ∙ flip y h
+  flipped = to_z-of_z fits_flipped ∙ flip y h
 
-  pub casts-flipped : Casts (to_z w64 (of_z w64 (negsuc 0 -ℤ y)))
-  casts-flipped = subst Casts (sym flipped) (plain (reach y) (record { sfits = f.sfits }))
+  pub casts_flipped : Casts (to_z w64 (of_z w64 (negsuc 0 -ℤ y)))
+  casts_flipped = subst Casts (sym flipped) (plain (reach y) (record { sfits = f.sfits }))
 
-  pub reach-flipped : nat_abs (to_z w64 (of_z w64 (negsuc 0 -ℤ y))) ≡ reach y
-  reach-flipped = ap nat_abs flipped
+  pub reach_flipped : nat_abs (to_z w64 (of_z w64 (negsuc 0 -ℤ y))) ≡ reach y
+  reach_flipped = ap nat_abs flipped
 
 -- an argument as the code reads it
 pub as_read : (z : ℤ) → reach z < 9223372036854775808 → to_z w64 (of_z w64 z) ≡ z

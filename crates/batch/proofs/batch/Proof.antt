@@ -10,11 +10,11 @@ use Rattle.list.specs.declared.Star.{Star}
 use Rattle.list.specs.rules.Stars.{count_of}
 use Rattle.star_store.specs.rules.Stored.{answers_by}
 use Rattle.star_store.specs.notions.StarStored.{Begun, Upto}
-use Rattle.star_store.specs.laws.StarStored.{allowed, few-stars, no-star-stored, places-there, one-star-stored, all-stars-stored}
+use Rattle.star_store.specs.laws.StarStored.{allowed, few_stars, no_star_stored, places_there, one_star_stored, all_stars_stored}
 use Rattle.batch.specs.rules.Batch.{answers_of}
 use Rattle.batch.specs.notions.Under.{under}
 use Rattle.batch.specs.laws.Known.{known_under}
-use Rattle.batch.specs.laws.Star.{first-star, second-star, answers_under_a_night}
+use Rattle.batch.specs.laws.Star.{first_star, second_star, answers_under_a_night}
 use Rattle.batch.proofs.batch.Statement.{statement}
 use Rattle.batch.proofs.batch.Tie as tie
 
@@ -60,10 +60,10 @@ module _ (c : tie.After-count invariant-loop decreases-loop) where
       c.before.before.night-of.ensures c.before.years-between.ensures
 
 loop-holds : tie.Need-loop-init invariant-loop decreases-loop
-loop-holds c = (search rules, (c.count.ensures, no-star-stored (begun c) _ c.before.before.before.before.new.ensures))
+loop-holds c = (search rules, (c.count.ensures, no_star_stored (begun c) _ c.before.before.before.before.new.ensures))
 
 add-loop : tie.Need-overflow-add-loop invariant-loop decreases-loop
-add-loop c = omega (arith, c.loop.invariant.0, c.loop.invariant.1.0, few-stars (begun c.before))
+add-loop c = omega (arith, c.loop.invariant.0, c.loop.invariant.1.0, few_stars (begun c.before))
 
 -- in a pass both stars are there
 module _ (c : tie.In-loop invariant-loop decreases-loop) where
@@ -71,12 +71,12 @@ module _ (c : tie.In-loop invariant-loop decreases-loop) where
   both-there = omega (arith, c.loop-test.true, c.before.loop.invariant.1.0)
 
 add-j : tie.Need-overflow-add-j invariant-loop decreases-loop
-add-j c = omega (arith, both-there c, few-stars (begun c.before.before))
+add-j c = omega (arith, both-there c, few_stars (begun c.before.before))
 
 store-star-requires : tie.Need-store-star-requires invariant-loop decreases-loop
 store-star-requires c κs =
     let pass = c.before.before.before.before.before.before in
-    places-there (begun pass.before.before) pass.before.loop.invariant.1.1 _ (omega (arith, both-there pass))
+    places_there (begun pass.before.before) pass.before.loop.invariant.1.1 _ (omega (arith, both-there pass))
 
 -- the first of the two is stored
 module _ (c : tie.After-store-star invariant-loop decreases-loop) where
@@ -89,20 +89,20 @@ module _ (c : tie.After-store-star invariant-loop decreases-loop) where
   first-stored : Upto (rule before-pass) (begin before-pass).args.bytes.now (begin before-pass).args.status.now (begin before-pass).args.asc.now (begin before-pass).args.dec.now (in-pass.before.loop.i + 1) c.store-star.result c.store-star.new.0 c.store-star.new.1.0 c.store-star.new.1.1.0
   first-stored =
       let at-two = c.before.before.before.before in
-      one-star-stored (begun before-pass) in-pass.before.loop.inv.1.1 (omega (arith, both-there in-pass))
-      (ap first_place at-two.two-stars-under.ensures ∙ first-star _ _ _ _ ∙ ap (rule before-pass) at-two.before.before.nth.ensures)
+      one_star_stored (begun before-pass) in-pass.before.loop.inv.1.1 (omega (arith, both-there in-pass))
+      (ap first_place at-two.two-stars-under.ensures ∙ first_star _ _ _ _ ∙ ap (rule before-pass) at-two.before.before.nth.ensures)
       c.store-star.ensures
 
 store-star-requires-2 : tie.Need-store-star-requires-2 invariant-loop decreases-loop
 store-star-requires-2 c κs =
     let at_first = c.before.before.before.before.before.before.before.before.before in
-    places-there (begun (before-pass at_first)) (first-stored at_first) _ (both-there (in-pass at_first))
+    places_there (begun (before-pass at_first)) (first-stored at_first) _ (both-there (in-pass at_first))
 
 add-i : tie.Need-overflow-add-i invariant-loop decreases-loop
 add-i c =
     let at_second = c.before.before.before.before.before.before in
     let at_first = at_second.before.before.before.before.before.before.before.before.before.before in
-    omega (arith, both-there (in-pass at_first), few-stars (begun (before-pass at_first)))
+    omega (arith, both-there (in-pass at_first), few_stars (begun (before-pass at_first)))
 
 loop-less : tie.Need-loop-smaller invariant-loop decreases-loop
 loop-less c = search rules
@@ -115,8 +115,8 @@ loop-again c =
       search rules,
       (
         (in-pass at_first).before.loop.invariant.1.0,
-        one-star-stored (begun (before-pass at_first)) (first-stored at_first) (both-there (in-pass at_first))
-            (ap second_place at-two.two-stars-under.ensures ∙ second-star _ _ _ _ ∙ ap (rule (before-pass at_first)) at-two.before.nth2.ensures)
+        one_star_stored (begun (before-pass at_first)) (first-stored at_first) (both-there (in-pass at_first))
+            (ap second_place at-two.two-stars-under.ensures ∙ second_star _ _ _ _ ∙ ap (rule (before-pass at_first)) at-two.before.nth2.ensures)
             at_second.store-star2.ensures,
       ),
     )
@@ -129,7 +129,7 @@ module _ (c : tie.Then2 invariant-loop decreases-loop) where
 store-star-requires-3 : tie.Need-store-star-requires-3 invariant-loop decreases-loop
 store-star-requires-3 c κs =
     let left = c.before.before.before.before.before in
-    places-there (begun left.before.before.before) left.before.before.loop.invariant.1.1 _ (last-there left)
+    places_there (begun left.before.before.before) left.before.before.loop.invariant.1.1 _ (last-there left)
 
 -- and then stored
 module _ (c : tie.After-store-star3 invariant-loop decreases-loop) where
@@ -142,8 +142,8 @@ module _ (c : tie.After-store-star3 invariant-loop decreases-loop) where
   last_stored : Upto (rule before_last) (begin before_last).args.bytes.now (begin before_last).args.status.now (begin before_last).args.asc.now (begin before_last).args.dec.now (with-one-left.before.before.loop.i + 1) c.store-star3.result c.store-star3.new.0 c.store-star3.new.1.0 c.store-star3.new.1.1.0
   last_stored =
       let at-two = c.before.before.before.before in
-      one-star-stored (begun before_last) with-one-left.before.before.loop.inv.1.1 (last-there with-one-left)
-      (ap first_place at-two.two-stars-under2.ensures ∙ first-star _ _ _ _ ∙ ap (rule before_last) at-two.before.nth3.ensures)
+      one_star_stored (begun before_last) with-one-left.before.before.loop.inv.1.1 (last-there with-one-left)
+      (ap first_place at-two.two-stars-under2.ensures ∙ first_star _ _ _ _ ∙ ap (rule before_last) at-two.before.nth3.ensures)
       c.store-star3.ensures
 
 same_length : tie.Need-same-length invariant-loop decreases-loop
@@ -159,7 +159,7 @@ returns-2 : tie.Need-returns-2 invariant-loop decreases-loop
 returns-2 c =
     let at_last = c.before.before.before.before.before.before in
     let left = with-one-left at_last in
-    all-stars-stored (begun (before_last at_last)) (last_stored at_last) (promised (before_last at_last))
+    all_stars_stored (begun (before_last at_last)) (last_stored at_last) (promised (before_last at_last))
     (omega (arith, left.before.loop-test.left, last-there left, left.before.before.loop.inv.1.0))
 
 same-length-4 : tie.Need-same-length-4 invariant-loop decreases-loop
@@ -174,7 +174,7 @@ same-length-6 c = c.before.before.loop.invariant.1.1.decs.long
 returns-3 : tie.Need-returns-3 invariant-loop decreases-loop
 returns-3 c =
     let inv = c.before.before.loop.invariant in
-    all-stars-stored (begun c.before.before.before) inv.1.1 (promised c.before.before.before) (omega (arith, c.if2.false, inv.0, inv.1.0))
+    all_stars_stored (begun c.before.before.before) inv.1.1 (promised c.before.before.before) (omega (arith, c.if2.false, inv.0, inv.1.0))
 
 pub batch-spec : {M : Type 1} → statement M
 batch-spec =

@@ -12,7 +12,7 @@ use Rattle.chain.specs.rules.Night.{night_from, night_of, moved, moved_under, po
 use Rattle.list_tally.specs.rules.Status.{highest_status}
 use Rattle.list.specs.declared.Star.{Star}
 use Rattle.star_place.specs.rules.Place.{asc_of, dec_of}
-use Rattle.star_store.specs.laws.Known.{known_lower, known-unless, known-then, known_plus, known_both, known_angle, known_steep, known_arctangent}
+use Rattle.star_store.specs.laws.Known.{known_lower, known_unless, known_then, known_plus, known_both, known_angle, known_steep, known_arctangent}
 use Rattle.star_store.specs.laws.Known.{known_arcsine, known_star}
 use Rattle.batch.specs.rules.Star.{star_under}
 
@@ -27,11 +27,11 @@ known_night edition day1 day2 = known_lower _ _ (known_angle _) (known_lower _ _
 module _ (night : Night) (h : night.refusal ≤ highest_status) where
   known_at : (p : EqPoint) → status_of (point_under p night) ≤ highest_status
   unfolding point_under moved_under moved
-  known_at p = known-unless _ _ (known_lower _ _ (known_lower _ _ (known_angle _) (known_steep _)) h) (omega arith)
+  known_at p = known_unless _ _ (known_lower _ _ (known_lower _ _ (known_angle _) (known_steep _)) h) (omega arith)
 
   known_in : (asc dec : Rad) → status_of (place_under asc dec night) ≤ highest_status
   unfolding place_under
-  known_in asc dec = known-then _ _ (known_precessed asc dec night.precession) (λ (p : Pair). known_at _)
+  known_in asc dec = known_then _ _ (known_precessed asc dec night.precession) (λ (p : Pair). known_at _)
 
 pub known_under : (edition : Edition) (star : Star) (day1 day2 years : Float)
     → status_of (star_under star (night_of edition day1 day2) years) ≤ highest_status

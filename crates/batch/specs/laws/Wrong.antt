@@ -24,7 +24,7 @@ use Rattle.star_store.specs.notions.Stated.{beyond, moving, past_the_pole, year_
 use Rattle.star_store.specs.notions.Wrong.{first_star_copied_on}
 use Rattle.batch.specs.rules.Star.{star_rule, star_under, two_stars_under}
 use Rattle.batch.specs.rules.Batch.{stars_on, statuses_of}
-use Rattle.batch.specs.laws.Star.{first-star, second-star, star_out_of_range}
+use Rattle.batch.specs.laws.Star.{first_star, second_star, star_out_of_range}
 use Rattle.batch.specs.notions.Wrong.{shifted_after_precession, shifted_twice, lanes_traded}
 
 -- ---- one star
@@ -57,7 +57,7 @@ star_under_varies = record { here = refl; there = refl; apart = apart (of_answer
 pub lanes_traded_excluded : lanes_traded (two_stars_under beyond origin (still 0) zero) ≢ first_place (two_stars_under beyond origin (still 0) zero)
 unfolding computed star_under star_refusal in_range
 lanes_traded_excluded wrong =
-    apart (of_answer of_second) refl (sym (second-star beyond origin (still 0) zero) ∙ wrong ∙ first-star beyond origin (still 0) zero)
+    apart (of_answer of_second) refl (sym (second_star beyond origin (still 0) zero) ∙ wrong ∙ first_star beyond origin (still 0) zero)
 
 pub shifted_after_precession_excluded : shifted_after_precession moving quarter_turn one ≢ star_under moving quarter_turn one
 unfolding computed star_under star_refusal in_range

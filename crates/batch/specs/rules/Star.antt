@@ -21,7 +21,7 @@ star_rule edition star day1 day2 =
 unfoldable pub star_under : Star → Night → Float → Answer Pair
 star_under star night years = unless (star_refusal star years) (place_under (asc_of star years) (dec_of star years) night)
 
--- two stars side by side, every float of both fixed whatever is refused; `first-star` and `second-star` in laws/Star say that each has
+-- two stars side by side, every float of both fixed whatever is refused; `first_star` and `second_star` in laws/Star say that each has
 -- the place that it has alone
 unfoldable pub two_stars_under : Star → Star → Night → Float → Places
 two_stars_under a b night years =

@@ -16,8 +16,8 @@ module _ {edit : Answer (List ℕ)} {old new : List ℕ} {r : Edited} (done : Ed
   status : (n : ℕ) → n ≡ status_of (shown_edited r) → n ≡ status_of edit
   status n e = e ∙ ap status_of done.answer ∙ status_kept edit
 
-  pub edited-handed : r ≡ Done → HandedEdit edit 0 old new
-  edited-handed e = record { answers = status 0 (sym (ap (λ (x : Edited). status_of (shown_edited x)) e)); leaves = done.bytes }
+  pub edited_handed : r ≡ Done → HandedEdit edit 0 old new
+  edited_handed e = record { answers = status 0 (sym (ap (λ (x : Edited). status_of (shown_edited x)) e)); leaves = done.bytes }
 
-  pub not-edited-handed : {n : ℕ} → r ≡ Refused n → HandedEdit edit n old new
-  not-edited-handed {n} e = record { answers = status n (sym (ap (λ (x : Edited). status_of (shown_edited x)) e)); leaves = done.bytes }
+  pub not_edited_handed : {n : ℕ} → r ≡ Refused n → HandedEdit edit n old new
+  not_edited_handed {n} e = record { answers = status n (sym (ap (λ (x : Edited). status_of (shown_edited x)) e)); leaves = done.bytes }

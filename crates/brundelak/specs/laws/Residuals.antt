@@ -8,9 +8,9 @@ use Rattle.residual_sheet.specs.rules.Residuals.{TwoSheets, shown_sheets}
 use Rattle.brundelak.specs.rules.Residuals.{numbers_of, HandedSheets}
 
 module _ {r : Answer TwoSheets} {s : Sheets} {asc dec : List ℤ} (shown : shown_sheets s ≡ r) where
-  pub sheets-handed : {a d : Sheet} {asc' dec' : List ℤ} → s ≡ Are a d → asc' ≡ numbers_of a → dec' ≡ numbers_of d
+  pub sheets_handed : {a d : Sheet} {asc' dec' : List ℤ} → s ≡ Are a d → asc' ≡ numbers_of a → dec' ≡ numbers_of d
       → HandedSheets r 0 asc dec asc' dec'
-  sheets-handed e a d = rw (← shown, e) (record { answers = refl; leaves_asc = a; leaves_dec = d })
+  sheets_handed e a d = rw (← shown, e) (record { answers = refl; leaves_asc = a; leaves_dec = d })
 
-  pub no-sheets-handed : {n : ℕ} → s ≡ Refused n → HandedSheets r n asc dec asc dec
-  no-sheets-handed e = rw (← shown, e) (record { answers = refl; leaves_asc = refl; leaves_dec = refl })
+  pub no_sheets_handed : {n : ℕ} → s ≡ Refused n → HandedSheets r n asc dec asc dec
+  no_sheets_handed e = rw (← shown, e) (record { answers = refl; leaves_asc = refl; leaves_dec = refl })

@@ -11,9 +11,9 @@ use Rattle.brundelak.specs.rules.Residuals.{numbers_of}
 use Rattle.brundelak.specs.rules.Sights.{HandedMean}
 
 module _ {r : Answer MeanAndSheet} {m : Mean} {old : ℕ} {sheet : List ℤ} (shown : shown_mean m ≡ r) where
-  pub mean-handed : {x : Deg} {s : Sheet} {new : ℕ} {sheet' : List ℤ} → m ≡ Is x s → new ≡ pattern_of x.0 → sheet' ≡ numbers_of s
+  pub mean_handed : {x : Deg} {s : Sheet} {new : ℕ} {sheet' : List ℤ} → m ≡ Is x s → new ≡ pattern_of x.0 → sheet' ≡ numbers_of s
       → HandedMean r 0 old sheet new sheet'
-  mean-handed e x s = rw (← shown, e) (record { answers = refl; leaves_mean = x; leaves_sheet = s })
+  mean_handed e x s = rw (← shown, e) (record { answers = refl; leaves_mean = x; leaves_sheet = s })
 
-  pub no-mean-handed : {n : ℕ} → m ≡ Refused n → HandedMean r n old sheet old sheet
-  no-mean-handed e = rw (← shown, e) (record { answers = refl; leaves_mean = refl; leaves_sheet = refl })
+  pub no_mean_handed : {n : ℕ} → m ≡ Refused n → HandedMean r n old sheet old sheet
+  no_mean_handed e = rw (← shown, e) (record { answers = refl; leaves_mean = refl; leaves_sheet = refl })

@@ -9,7 +9,7 @@ use Rattle.list_groups.specs.rules.Reading.{AtOffset}
 use Rattle.residual_sheet.specs.rules.Residuals.{TwoSheets}
 use Rattle.heading_mean.specs.rules.Mean.{MeanAndSheet}
 use Rattle.star_store.specs.declared.Tallied.{Tallied}
-use Rattle.star_store.specs.laws.Stored.{stored-fixes-all}
+use Rattle.star_store.specs.laws.Stored.{stored_fixes_all}
 use Rattle.brundelak.specs.rules.Stored.{HandedFound, HandedStar, HandedStored, HandedRaise}
 use Rattle.brundelak.specs.rules.Put.{HandedNumber, HandedPut}
 use Rattle.brundelak.specs.rules.Radio.{HandedOpened, HandedReceived}
@@ -36,7 +36,7 @@ pub one_handed_stored : (rule : Star → Answer Pair) {s status asc dec counts :
     → HandedStored rule s day1 day2 status asc dec counts n z x y c → HandedStored rule s day1 day2 status asc dec counts m z' x' y' c'
     → (n ≡ m) × ((c ≡ c') × ((z ≡ z') × ((x ≡ x') × (y ≡ y'))))
 one_handed_stored rule {counts = counts} t u =
-    let f = stored-fixes-all t.stored u.stored in
+    let f = stored_fixes_all t.stored u.stored in
     let h = t.handed in
     let k = u.handed in
     (h.answers ∙ ap (λ (b : Tallied). b.refusal) f.0 ∙ sym k.answers, (h.leaves_counts ∙ ap (λ (b : Tallied). cond (eqb b.refusal 0) b.tally.counts counts) f.0 ∙ sym k.leaves_counts, f.1))

@@ -27,11 +27,11 @@ before_by_lem l (suc m) f t = eqb→eq _ _ (at l)
 
 -- as the code goes
 module _ (l : Bool) (m : ℕ) where
-  pub before-early : 1 ≤ m → m ≤ 2 → (367 * m - 362) / 12 ≡ days_before l m
-  before-early f t = sym (before_by_lem l m f (omega arith) ∙ rw (le-leb m 2 t))
+  pub before_early : 1 ≤ m → m ≤ 2 → (367 * m - 362) / 12 ≡ days_before l m
+  before_early f t = sym (before_by_lem l m f (omega arith) ∙ rw (le-leb m 2 t))
 
-  pub before-late : 2 < m → m ≤ 12 → cond l ((367 * m - 362) / 12 - 1) ((367 * m - 362) / 12 - 2) ≡ days_before l m
-  before-late f t = sym (before_by_lem l m (omega arith) t ∙ rw (lt-leb m 2 f))
+  pub before_late : 2 < m → m ≤ 12 → cond l ((367 * m - 362) / 12 - 1) ((367 * m - 362) / 12 - 2) ≡ days_before l m
+  before_late f t = sym (before_by_lem l m (omega arith) t ∙ rw (lt-leb m 2 f))
 
   pub february : m ≡ 2 → cond l 29 28 ≡ month_length l m
   february e = sym (length_by_lem l m (omega arith) (omega arith) ∙ rw (eq-eqb m 2 e))
@@ -54,11 +54,11 @@ month_zero l zero h = refl
 month_zero l (suc m) h = absurd (omega arith)
 
 pub no_month_past : (l : Bool) (m : ℕ) → 1 ≤ month_length l m → m ≤ 12
-no_month_past l m h = by-case (nat_le m 12) refl
+no_month_past l m h = by_case (nat_le m 12) refl
   where
-    by-case : (b : Bool) → nat_le m 12 ≡ b → m ≤ 12
-    by-case true e = leb-true m 12 e
-    by-case false e =
+    by_case : (b : Bool) → nat_le m 12 ≡ b → m ≤ 12
+    by_case true e = leb-true m 12 e
+    by_case false e =
         let far = leb-false m 12 e in
         let split : m ≡ (suc (suc (suc (suc (suc (suc (suc (suc (suc (suc (suc (suc (suc (m - 13)))))))))))))) = omega arith in
         absurd (omega (arith, ap (month_length l) split, past l (m - 13)))
@@ -70,15 +70,15 @@ month_from l (suc m) h = omega arith
 
 pub month_most : (l : Bool) (m : ℕ) → month_length l m ≤ 31
 unfolding month_length
-month_most l m = by-case (nat_lt m 13) refl
+month_most l m = by_case (nat_lt m 13) refl
   where
     within : (l : Bool) → m < 13 → T (nat_le (month_length l m) 31)
     within true h = every_at (λ (m : ℕ). leb (month_length true m) 31) 13 m tt h
     within false h = every_at (λ (m : ℕ). leb (month_length false m) 31) 13 m tt h
 
-    by-case : (b : Bool) → nat_lt m 13 ≡ b → month_length l m ≤ 31
-    by-case true e = leb→le (month_length l m) 31 (within l (ltb-true m 13 e))
-    by-case false e = let far = ltb-false m 13 e in omega (arith, month_after l m (omega arith))
+    by_case : (b : Bool) → nat_lt m 13 ≡ b → month_length l m ≤ 31
+    by_case true e = leb→le (month_length l m) 31 (within l (ltb-true m 13 e))
+    by_case false e = let far = ltb-false m 13 e in omega (arith, month_after l m (omega arith))
 
 pub valid_month : (d : Date) → Valid d → (1 ≤ d.month) × (d.month ≤ 12)
 valid_month d v =

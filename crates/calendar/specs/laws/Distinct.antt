@@ -12,11 +12,11 @@ use Rattle.calendar.specs.laws.Next.{whole_year}
 total_holds : (f : ℕ → ℕ) (a b : ℕ) → a < b → total f a + f a ≤ total f b
 unfolding total
 total_holds f a zero h = absurd (omega arith)
-total_holds f a (suc b) h = by-case (a == b) refl (λ k. total_holds f a b k)
+total_holds f a (suc b) h = by_case (a == b) refl (λ k. total_holds f a b k)
   where
-    by-case : (t : Bool) → (a == b) ≡ t → (a < b → total f a + f a ≤ total f b) → total f a + f a ≤ total f b + f b
-    by-case true e below = subst (λ (k : ℕ). total f a + f a ≤ total f k + f k) (eqb-true a b e) (omega arith)
-    by-case false e below =
+    by_case : (t : Bool) → (a == b) ≡ t → (a < b → total f a + f a ≤ total f b) → total f a + f a ≤ total f b + f b
+    by_case true e below = subst (λ (k : ℕ). total f a + f a ≤ total f k + f k) (eqb-true a b e) (omega arith)
+    by_case false e below =
         let apart = eqb-false a b e in
         let before = below (omega arith) in
         omega arith
@@ -30,11 +30,11 @@ unfolding days_before
 months_hold l a b h = total_holds (month_length l) a b h
 
 pub before_most : (l : Bool) (m : ℕ) → m ≤ 12 → days_before l m ≤ 366
-before_most l m h = by-case l (omega (arith, months_hold l m 13 (omega arith), whole_year l))
+before_most l m h = by_case l (omega (arith, months_hold l m 13 (omega arith), whole_year l))
   where
-    by-case : (l : Bool) → days_before l m ≤ year_length l → days_before l m ≤ 366
-    by-case true e = e
-    by-case false e = omega arith
+    by_case : (l : Bool) → days_before l m ≤ year_length l → days_before l m ≤ 366
+    by_case true e = e
+    by_case false e = omega arith
 
 -- the day of the year is at most the year's length
 in_year : (d : Date) → Valid d → days_before (leap d.year) d.month + d.day ≤ year_length (leap d.year)

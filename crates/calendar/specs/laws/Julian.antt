@@ -50,13 +50,13 @@ day_exact = (refl, refl)
 
 -- the whole number is 86400000·number + millis + dut1 − 43200000, where that is not below zero
 module _ (number millis : ℕ) (z : ℤ) (from : 1 ≤ number) (small : unsigned_abs z ≤ 900) where
-  pub millis-earlier : negative z ≡ true → millis_of number millis z + unsigned_abs z + 43200000 ≡ 86400000 * number + millis
+  pub millis_earlier : negative z ≡ true → millis_of number millis z + unsigned_abs z + 43200000 ≡ 86400000 * number + millis
   unfolding millis_of
-  millis-earlier e = rw e (omega arith)
+  millis_earlier e = rw e (omega arith)
 
-  pub millis-later : negative z ≡ false → millis_of number millis z + 43200000 ≡ 86400000 * number + millis + unsigned_abs z
+  pub millis_later : negative z ≡ false → millis_of number millis z + 43200000 ≡ 86400000 * number + millis + unsigned_abs z
   unfolding millis_of
-  millis-later e = rw e (omega arith)
+  millis_later e = rw e (omega arith)
 
 plus_most : (n : ℕ) (z : ℤ) → unsigned_abs z ≤ 900 → plus n z ≤ n + 900
 plus_most n z h = by_sign (negative z)

@@ -46,35 +46,35 @@ module _ (d : Date) (v : Valid d) where
   in_year : d.month ≤ 12
   in_year = no_month_past l d.month (omega (arith, v.from, v.to))
 
-  pub next-is-one-more : number_of (next d) ≡ number_of d + 1
+  pub next_is_one_more : number_of (next d) ≡ number_of d + 1
   unfolding next number_of
-  next-is-one-more = by-day (nat_lt d.day most) refl
+  next_is_one_more = by_day (nat_lt d.day most) refl
     where
-      by-month : (b : Bool) → nat_lt d.month 12 ≡ b → d.day ≡ most
+      by_month : (b : Bool) → nat_lt d.month 12 ≡ b → d.day ≡ most
           → number_of (cond b (date d.year (suc d.month) 1) (date (suc d.year) 1 1)) ≡ number_of d + 1
-      by-month true e z = omega (arith, one_month_more l d.month)
-      by-month false e z =
+      by_month true e z = omega (arith, one_month_more l d.month)
+      by_month false e z =
           let twelve : d.month ≡ 12 = omega (arith, ltb-false d.month 12 e, in_year) in
           let months : days_before l d.month + most ≡ year_length l =
           ap (λ (m : ℕ). days_before l m + month_length l m) twelve ∙ sym (one_month_more l 12) ∙ whole_year l in
           omega (arith, one_year_more d.year, none_before_january (leap (suc d.year)), months)
 
-      by-day : (b : Bool) → nat_lt d.day most ≡ b
+      by_day : (b : Bool) → nat_lt d.day most ≡ b
           → number_of
           (cond b (date d.year d.month (suc d.day)) (cond (nat_lt d.month 12) (date d.year (suc d.month) 1) (date (suc d.year) 1 1)))
           ≡ number_of d + 1
-      by-day true e = omega arith
-      by-day false e = by-month (nat_lt d.month 12) refl (omega (arith, ltb-false d.day most e, v.to))
+      by_day true e = omega arith
+      by_day false e = by_month (nat_lt d.month 12) refl (omega (arith, ltb-false d.day most e, v.to))
 
-  pub next-is-a-date : Valid (next d)
+  pub next_is_a_date : Valid (next d)
   unfolding next
-  next-is-a-date = by-day (nat_lt d.day most) refl
+  next_is_a_date = by_day (nat_lt d.day most) refl
     where
-      by-month : (b : Bool) → nat_lt d.month 12 ≡ b → Valid (cond b (date d.year (suc d.month) 1) (date (suc d.year) 1 1))
-      by-month true e = record { from = omega arith; to = first_day_lem l d.month (ltb-true d.month 12 e) }
-      by-month false e = record { from = omega arith; to = first_day_lem (leap (suc d.year)) 0 (omega arith) }
+      by_month : (b : Bool) → nat_lt d.month 12 ≡ b → Valid (cond b (date d.year (suc d.month) 1) (date (suc d.year) 1 1))
+      by_month true e = record { from = omega arith; to = first_day_lem l d.month (ltb-true d.month 12 e) }
+      by_month false e = record { from = omega arith; to = first_day_lem (leap (suc d.year)) 0 (omega arith) }
 
-      by-day : (b : Bool) → nat_lt d.day most ≡ b
+      by_day : (b : Bool) → nat_lt d.day most ≡ b
           → Valid (cond b (date d.year d.month (suc d.day)) (cond (nat_lt d.month 12) (date d.year (suc d.month) 1) (date (suc d.year) 1 1)))
-      by-day true e = record { from = omega arith; to = ltb-true d.day most e }
-      by-day false e = by-month (nat_lt d.month 12) refl
+      by_day true e = record { from = omega arith; to = ltb-true d.day most e }
+      by_day false e = by_month (nat_lt d.month 12) refl

@@ -6,19 +6,19 @@ use Rattle.calendar.specs.rules.Date.{leap, month_length}
 use Rattle.calendar.specs.rules.Number.{number_of, is, no_month, no_day, number_rule}
 
 module _ (d : Date) (n : ℕ) (e : n ≡ month_length (leap d.year) d.month) where
-  pub no-month : n ≡ 0 → no_month ≡ number_rule d
+  pub no_month_lem : n ≡ 0 → no_month ≡ number_rule d
   unfolding number_rule
-  no-month z = rw (← e, eq-eqb n 0 z)
+  no_month_lem z = rw (← e, eq-eqb n 0 z)
 
   module _ (some : n ≡ 0 → ⊥) where
-    pub day-zero : d.day ≡ 0 → no_day ≡ number_rule d
+    pub day_zero : d.day ≡ 0 → no_day ≡ number_rule d
     unfolding number_rule
-    day-zero z = rw (← e, ne_eqb n 0 some, eq-eqb d.day 0 z)
+    day_zero z = rw (← e, ne_eqb n 0 some, eq-eqb d.day 0 z)
 
     module _ (from : d.day ≡ 0 → ⊥) where
-      pub past-month : n < d.day → no_day ≡ number_rule d
+      pub past_month : n < d.day → no_day ≡ number_rule d
       unfolding number_rule
-      past-month h = rw (← e, ne_eqb n 0 some, ne_eqb d.day 0 from, lt-leb d.day n h)
+      past_month h = rw (← e, ne_eqb n 0 some, ne_eqb d.day 0 from, lt-leb d.day n h)
 
       pub numbered : d.day ≤ n → (k : ℕ) → k ≡ number_of d → is k ≡ number_rule d
       unfolding number_rule

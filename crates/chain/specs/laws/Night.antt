@@ -46,9 +46,9 @@ module _ (edition : Edition) (asc dec : Rad) (day1 day2 : Float) where
   oblq = true_obliquity (mean_obliquity_of day2) (nutation_of day2).oblq
 
   -- at a precessed point, the second day being accepted
-  at-point : (p : Pair) → day_refusal day2 ≡ 0 → from_point p nutations day2 ≡ point_under (point p) (night_of edition day1 day2)
+  at_point : (p : Pair) → day_refusal day2 ≡ 0 → from_point p nutations day2 ≡ point_under (point p) (night_of edition day1 day2)
   unfolding nutation_in_eq_coords_rule stell_aberr_in_eq_coords_rule nutation_in_eq_coords_in stell_aberr_in_eq_coords_in point_under moved_under moved night_of night_from
-  at-point p ok =
+  at_point p ok =
       two_steps (point_refusal (point p)) (angles_refusal (nutation_of day2) oblq) (day_refusal day2)
       (pair (nutation_in_eq_coords_in (point p) (rad (first nutations)) (rad (second nutations)) oblq).asc.0
       (nutation_in_eq_coords_in (point p) (rad (first nutations)) (rad (second nutations)) oblq).dec.0)
@@ -62,22 +62,22 @@ module _ (edition : Edition) (asc dec : Rad) (day1 day2 : Float) where
   under p = point_under (point p) (night_of edition day1 day2)
 
   -- an accepted place has an accepted second day
-  second-day : place_refusal asc dec day1 day2 ≡ 0 → day_refusal day2 ≡ 0
+  second_day : place_refusal asc dec day1 day2 ≡ 0 → day_refusal day2 ≡ 0
   unfolding days_refusal
-  second-day e =
+  second_day e =
       (lower_none (day_refusal day1) (day_refusal day2)
       (lower_none (lower (angle_refusal asc) (latitude_refusal dec)) (days_refusal day1 day2) e).1).1
 
-  same-steps : day_refusal day2 ≡ 0 → (p : Pair) → steps p ≡ under p
+  same_steps : day_refusal day2 ≡ 0 → (p : Pair) → steps p ≡ under p
   unfolding nutation_rule then
-  same-steps ok p =
+  same_steps ok p =
       ap (λ (a : Answer Pair). then a (λ (n : Pair). from_point p n day2)) (unless_none (day_refusal day2) (answered nutations) ok)
-      ∙ at-point p ok
+      ∙ at_point p ok
 
-  pub chain-under-a-night : chain_rule edition asc dec day1 day2 ≡ unless (place_refusal asc dec day1 day2) (place_under asc dec (night_of edition day1 day2))
+  pub chain_under_a_night : chain_rule edition asc dec day1 day2 ≡ unless (place_refusal asc dec day1 day2) (place_under asc dec (night_of edition day1 day2))
   unfolding chain_rule place_under night_of night_from
-  chain-under-a-night =
+  chain_under_a_night =
       then_unless (place_refusal asc dec day1 day2) (precessed_in asc dec (eq_precession_of edition day1 day2)) steps
       ∙ unless_cong (place_refusal asc dec day1 day2) (then (precessed_in asc dec (eq_precession_of edition day1 day2)) steps)
       (then (precessed_in asc dec (eq_precession_of edition day1 day2)) under)
-      (λ e. then_cong (precessed_in asc dec (eq_precession_of edition day1 day2)) steps under (same-steps (second-day e)))
+      (λ e. then_cong (precessed_in asc dec (eq_precession_of edition day1 day2)) steps under (same_steps (second_day e)))

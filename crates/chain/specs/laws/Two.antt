@@ -9,7 +9,7 @@ use Rattle.quantity.specs.laws.Answer.{then_unless}
 use Rattle.elementary.specs.rules.Direction.{direction_of}
 use Rattle.precess.specs.rules.Equatorial.{precessed_in}
 use Rattle.precess.specs.rules.Two.{precessed_two}
-use Rattle.precess.specs.laws.Two.{first-precessed, second-precessed}
+use Rattle.precess.specs.laws.Two.{first_precessed, second_precessed}
 use Rattle.chain.specs.declared.Night.{Night}
 use Rattle.chain.specs.rules.Chain.{point, point_refusal}
 use Rattle.chain.specs.rules.Night.{moved_under, pair_of, point_under, place_under}
@@ -17,11 +17,11 @@ use Rattle.chain.specs.rules.Two.{next_refusal, two_places_under}
 
 -- one refusal, or else the next
 unless_twice : {A : Type 0} (n k : ℕ) (a : Answer A) → unless (cond (eqb n 0) k n) a ≡ unless n (unless k a)
-unless_twice n k a = by-case (eqb n 0) refl
+unless_twice n k a = by_case (eqb n 0) refl
   where
-    by-case : (b : Bool) → eqb n 0 ≡ b → unless (cond b k n) a ≡ cond b (unless k a) (refused n)
-    by-case true e = refl
-    by-case false e = rw e
+    by_case : (b : Bool) → eqb n 0 ≡ b → unless (cond b k n) a ≡ cond b (unless k a) (refused n)
+    by_case true e = refl
+    by_case false e = rw e
 
 -- from the precessed place, which n refuses where it is not 0
 under_in_steps : (asc dec : Rad) (night : Night) (n : ℕ) (p : EqPoint) → unless n (answered (pair_of p)) ≡ precessed_in asc dec night.precession
@@ -39,11 +39,11 @@ module _ (asc dec asc2 dec2 : Rad) (night : Night) where
   first_under =
       let t = precessed_two asc dec asc2 dec2 night.precession in
       under_in_steps asc dec night t.first_refusal (record { asc = t.first_asc; dec = t.first_dec })
-      (first-precessed asc dec asc2 dec2 night.precession)
+      (first_precessed asc dec asc2 dec2 night.precession)
 
-  pub second-under : second_place (two_places_under asc dec asc2 dec2 night) ≡ place_under asc2 dec2 night
+  pub second_under : second_place (two_places_under asc dec asc2 dec2 night) ≡ place_under asc2 dec2 night
   unfolding two_places_under
-  second-under =
+  second_under =
       let t = precessed_two asc dec asc2 dec2 night.precession in
       under_in_steps asc2 dec2 night t.second_refusal (record { asc = t.second_asc; dec = t.second_dec })
-      (second-precessed asc dec asc2 dec2 night.precession)
+      (second_precessed asc dec asc2 dec2 night.precession)

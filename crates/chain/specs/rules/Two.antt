@@ -1,5 +1,5 @@
 -- Two stars side by side under a night: each with its two floats and its refusal, all of them fixed whatever is refused.
--- `first_under` and `second-under` in laws/Two say that each is the star's reduction alone.
+-- `first_under` and `second_under` in laws/Two say that each is the star's reduction alone.
 use Rattle.std.specs.Prelude.{ℕ, cond, eqb}
 use Rattle.quantity.specs.declared.Rad.{Rad}
 use Rattle.quantity.specs.declared.EqPoint.{EqPoint}

@@ -13,11 +13,11 @@ opposite_twice x = ap rad (neg_neg x.0)
 
 pub refused_alike : {A : Type 0} (m n : ℕ) (a b : Answer A) → ((k : ℕ) → a ≡ refused k → b ≡ refused k) → unless m a ≡ refused n
     → unless m b ≡ refused n
-refused_alike m n a b work e = by-case (eqb m 0) e
+refused_alike m n a b work e = by_case (eqb m 0) e
   where
-    by-case : (t : Bool) → cond t a (refused m) ≡ refused n → cond t b (refused m) ≡ refused n
-    by-case true e = work n e
-    by-case false e = e
+    by_case : (t : Bool) → cond t a (refused m) ≡ refused n → cond t b (refused m) ≡ refused n
+    by_case true e = work n e
+    by_case false e = e
 
 -- of arctangents whose arguments are both zero in one as in the other
 pub arctangents_refused_alike : (y x y' x' : Float) → both_zero y' x' ≡ both_zero y x → (n : ℕ) → arctangent_in y x ≡ refused n

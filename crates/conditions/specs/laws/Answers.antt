@@ -71,12 +71,12 @@ module _ (f : Rad → Rad) {a b : Answer Rad} (law : b ≡ with f a) where
   pub refused-there : (n : ℕ) → a ≡ refused n → b ≡ refused n
   refused-there n e = law ∙ ap (with f) e
 
-  pub refused-here : (n : ℕ) → b ≡ refused n → a ≡ refused n
-  refused-here n e = by-case a (sym law ∙ e)
+  pub refused_here : (n : ℕ) → b ≡ refused n → a ≡ refused n
+  refused_here n e = by_case a (sym law ∙ e)
     where
-      by-case : (a : Answer Rad) → with f a ≡ refused n → a ≡ refused n
-      by-case (answered x) e = cc
-      by-case (refused m) e = e
+      by_case : (a : Answer Rad) → with f a ≡ refused n → a ≡ refused n
+      by_case (answered x) e = cc
+      by_case (refused m) e = e
 
 -- two calls whose rules answer alike answer alike
 pub unchanged : {a b : Answer Rad} → b ≡ a → (r s : Radians) → shown_radians r ≡ a → shown_radians s ≡ b → s ≡ r

@@ -21,9 +21,9 @@ use Rattle.elementary.specs.laws.Mirror.{sine_odd, cosine_even, tangent_odd}
 use Rattle.elementary_arc.specs.laws.Arctangent.{arctangent_in_behind}
 use Rattle.coords.specs.rules.Arguments.{steep_sky_refusal}
 use Rattle.coords.specs.rules.Horizon.{southward, azimuth_in, az_frm_eq_rule, altitude_in, alt_frm_eq_rule}
-use Rattle.domain_accepted.specs.laws.Horizon.{southward-finite}
+use Rattle.domain_accepted.specs.laws.Horizon.{southward_finite}
 use Rattle.conditions.specs.laws.Alike.{opposite_twice, refused_alike, arctangents_refused_alike}
-use Rattle.conditions.specs.laws.Azimuth.{azimuth-accepted, azimuth-worked-out, azimuth-sign}
+use Rattle.conditions.specs.laws.Azimuth.{azimuth_accepted, azimuth_worked_out, azimuth_sign}
 
 -- ---- altitude
 
@@ -66,27 +66,27 @@ azimuth_refused_here h d p n e =
 
 module _ (h d p : Rad) (not_zero : NonZero (southward h d p)) where
   -- the second argument changes sign
-  pub southward-declination : southward h (opposite d) (opposite p) ≡ neg (southward h d p)
-  southward-declination =
+  pub southward_declination : southward h (opposite d) (opposite p) ≡ neg (southward h d p)
+  southward_declination =
       rw
       (sine_odd p, tangent_odd d, cosine_even p, mul_neg_r binary64 (cosine_of h) (sine_of p), mul_neg_l binary64 (tangent_of d) (cosine_of p))
       (sub_neg_neg binary64 (cosine_of h ⊗ sine_of p) (tangent_of d ⊗ cosine_of p) not_zero)
 
   module _ (v w : Rad) (here : az_frm_eq_rule h d p ≡ answered v) (there : az_frm_eq_rule h (opposite d) (opposite p) ≡ answered w) where
-    worked-out-there : arctangent_in (sine_of h) (neg (southward h d p)) ≡ answered w
-    worked-out-there = rw (southward-declination) at (azimuth-worked-out h (opposite d) (opposite p) w there)
+    worked_out_there : arctangent_in (sine_of h) (neg (southward h d p)) ≡ answered w
+    worked_out_there = rw (southward_declination) at (azimuth_worked_out h (opposite d) (opposite p) w there)
 
     -- the sign stays
-    pub azimuth-sign-stays : bears_minus w.0 ≡ bears_minus v.0
-    azimuth-sign-stays = azimuth-sign h (opposite d) (opposite p) w there ∙ sym (azimuth-sign h d p v here)
+    pub azimuth_sign_stays : bears_minus w.0 ≡ bears_minus v.0
+    azimuth_sign_stays = azimuth_sign h (opposite d) (opposite p) w there ∙ sym (azimuth_sign h d p v here)
 
     -- the second argument is negative there: the size there is PI less the size here
-    pub azimuth-size-there : bears_minus (southward h d p) ≡ false → size w.0 ≡ PI ⊖ size v.0
-    azimuth-size-there = arctangent_in_behind (sine_of h) (southward h d p) v (azimuth-worked-out h d p v here) w worked-out-there
+    pub azimuth_size_there : bears_minus (southward h d p) ≡ false → size w.0 ≡ PI ⊖ size v.0
+    azimuth_size_there = arctangent_in_behind (sine_of h) (southward h d p) v (azimuth_worked_out h d p v here) w worked_out_there
 
     -- the second argument is negative here: the size here is PI less the size there
-    pub azimuth-size-here : bears_minus (southward h d p) ≡ true → size v.0 ≡ PI ⊖ size w.0
-    azimuth-size-here k =
+    pub azimuth_size_here : bears_minus (southward h d p) ≡ true → size v.0 ≡ PI ⊖ size w.0
+    azimuth_size_here k =
         let x = southward h d p in
-        arctangent_in_behind (sine_of h) (neg x) w worked-out-there v (rw (neg_neg x) (azimuth-worked-out h d p v here))
-        (minus_neg x (southward-finite h d p (azimuth-accepted h d p v here)) ∙ ap not k)
+        arctangent_in_behind (sine_of h) (neg x) w worked_out_there v (rw (neg_neg x) (azimuth_worked_out h d p v here))
+        (minus_neg x (southward_finite h d p (azimuth_accepted h d p v here)) ∙ ap not k)

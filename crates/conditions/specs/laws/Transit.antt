@@ -30,13 +30,13 @@ quotient_declination dec lat alt =
     rw (sine_odd lat, sine_odd dec, cosine_even lat, cosine_even dec, mul_neg_neg binary64 (sine_of lat) (sine_of dec))
 
 module _ (p : EqPoint) (sidereal : Rad) (place : GeographPoint) (alt : Rad) where
-  pub transit-declination : rise_culm_set_rule (across_star p) sidereal (across_place place) alt ≡ rise_culm_set_rule p sidereal place alt
+  pub transit_declination : rise_culm_set_rule (across_star p) sidereal (across_place place) alt ≡ rise_culm_set_rule p sidereal place alt
   unfolding observer_refusal rise_culm_set_refusal rise_culm_set_in
-  transit-declination =
+  transit_declination =
       rw
       (steep_opposite (rad p.dec), steep_opposite (rad place.lat), quotient_declination (rad p.dec) (rad place.lat) alt)
 
   -- of the function: r is the answer, and s the answer in the mirror
-  pub rise-culm-set-declination : (r s : Three) → shown_three r ≡ rise_culm_set_rule p sidereal place alt
+  pub rise_culm_set_declination : (r s : Three) → shown_three r ≡ rise_culm_set_rule p sidereal place alt
       → shown_three s ≡ rise_culm_set_rule (across_star p) sidereal (across_place place) alt → s ≡ r
-  rise-culm-set-declination r s meets meets' = one-triple s r (meets' ∙ transit-declination) meets
+  rise_culm_set_declination r s meets meets' = one-triple s r (meets' ∙ transit_declination) meets

@@ -47,12 +47,12 @@ az_frm_eq_varies = record { here = refl; there = refl; apart = apart (of_answer 
 
 -- of any function that meets the promise
 module _ (f : Rad → Rad → Rad → Radians) (meets : (h d p : Rad) → shown_radians (f h d p) ≡ az_frm_eq_rule h d p) where
-  pub everything-refused-excluded : ¬ ((h d p : Rad) → is_answered (shown_radians (f h d p)) ≡ false)
-  everything-refused-excluded wrong =
+  pub everything_refused_excluded : ¬ ((h d p : Rad) → is_answered (shown_radians (f h d p)) ≡ false)
+  everything_refused_excluded wrong =
       subst T (sym (does_not_refuse az_frm_eq_varies (meets r½ r0 r0)) ∙ wrong r½ r0 r0) tt
 
-  pub azimuth-answers-a-constant-excluded : (c : Radians) → ¬ ((h d p : Rad) → f h d p ≡ c)
-  azimuth-answers-a-constant-excluded c wrong =
+  pub azimuth_answers_a_constant_excluded : (c : Radians) → ¬ ((h d p : Rad) → f h d p ≡ c)
+  azimuth_answers_a_constant_excluded c wrong =
       is_not_constant az_frm_eq_varies (meets r½ r0 r0) (meets r0 r½ r0) (ap shown_radians (wrong r½ r0 r0 ∙ sym (wrong r0 r½ r0)))
 
 pub opposite_quadrant_excluded : opposite_quadrant r0 r½ r0 ≢ az_frm_eq_rule r0 r½ r0

@@ -40,11 +40,11 @@ refused_next x y l n p q = rw (p, q)
 -- the arguments refused first: once by n, or the one by n and the other by m
 joined : (n m : ℕ) (x y : Answer Rad) → (n ≡ 0 → m ≡ 0) → unless n (point_of (both x y)) ≡ point_of (both (unless n x) (unless m y))
 unfolding point_of both then
-joined n m x y h = by-case (eqb n 0) (eqb→eq n 0)
+joined n m x y h = by_case (eqb n 0) (eqb→eq n 0)
   where
-    by-case : (t : Bool) → (T t → n ≡ 0) → cond t (point_of (both x y)) (refused n) ≡ point_of (both (cond t x (refused n)) (unless m y))
-    by-case true p = rw (h (p tt))
-    by-case false p = refl
+    by_case : (t : Bool) → (T t → n ≡ 0) → cond t (point_of (both x y)) (refused n) ≡ point_of (both (cond t x (refused n)) (unless m y))
+    by_case true p = rw (h (p tt))
+    by_case false p = refl
 
 -- ---- the one call
 
@@ -56,21 +56,21 @@ module _ (a d e : Rad) where
       let inner = lower_none (steep_refusal d) (angle_refusal e) outer.1 in
       rw (outer.0, (lower_none (latitude_refusal d) (past d.0 steepest 4) inner.0).0, inner.1)
 
-  pub ecl-frm-eq-joins : ecl_frm_eq_rule a d e ≡ point_of (both (longitude_alone a d e) (latitude_alone a d e))
+  pub ecl_frm_eq_joins : ecl_frm_eq_rule a d e ≡ point_of (both (longitude_alone a d e) (latitude_alone a d e))
   unfolding ecl_frm_eq_in longitude_in latitude_in
-  ecl-frm-eq-joins = joined (steep_frame_refusal a d e) (frame_refusal a d e) (longitude_in a d e) (latitude_in a d e) not_refused
+  ecl_frm_eq_joins = joined (steep_frame_refusal a d e) (frame_refusal a d e) (longitude_in a d e) (latitude_in a d e) not_refused
 
-  pub answered-where-both : (l b : Rad) → longitude_alone a d e ≡ answered l → latitude_alone a d e ≡ answered b
+  pub answered_where_both : (l b : Rad) → longitude_alone a d e ≡ answered l → latitude_alone a d e ≡ answered b
       → ecl_frm_eq_rule a d e ≡ answered (record { long = l.0; lat = b.0 })
-  answered-where-both l b p q = ecl-frm-eq-joins ∙ answers (longitude_alone a d e) (latitude_alone a d e) l b p q
+  answered_where_both l b p q = ecl_frm_eq_joins ∙ answers (longitude_alone a d e) (latitude_alone a d e) l b p q
 
-  pub each-keeps-its-bits : (p : EclPoint) → ecl_frm_eq_rule a d e ≡ answered p
+  pub each_keeps_its_bits : (p : EclPoint) → ecl_frm_eq_rule a d e ≡ answered p
       → (longitude_alone a d e ≡ answered (rad p.long)) × (latitude_alone a d e ≡ answered (rad p.lat))
-  each-keeps-its-bits p h = parts (longitude_alone a d e) (latitude_alone a d e) p (sym ecl-frm-eq-joins ∙ h)
+  each_keeps_its_bits p h = parts (longitude_alone a d e) (latitude_alone a d e) p (sym ecl_frm_eq_joins ∙ h)
 
-  pub longitude-refused-first : (n : ℕ) → longitude_alone a d e ≡ refused n → ecl_frm_eq_rule a d e ≡ refused n
-  longitude-refused-first n p = ecl-frm-eq-joins ∙ refused_first (longitude_alone a d e) (latitude_alone a d e) n p
+  pub longitude_refused_first : (n : ℕ) → longitude_alone a d e ≡ refused n → ecl_frm_eq_rule a d e ≡ refused n
+  longitude_refused_first n p = ecl_frm_eq_joins ∙ refused_first (longitude_alone a d e) (latitude_alone a d e) n p
 
-  pub latitude-refused-next : (l : Rad) (n : ℕ) → longitude_alone a d e ≡ answered l → latitude_alone a d e ≡ refused n
+  pub latitude_refused_next : (l : Rad) (n : ℕ) → longitude_alone a d e ≡ answered l → latitude_alone a d e ≡ refused n
       → ecl_frm_eq_rule a d e ≡ refused n
-  latitude-refused-next l n p q = ecl-frm-eq-joins ∙ refused_next (longitude_alone a d e) (latitude_alone a d e) l n p q
+  latitude_refused_next l n p q = ecl_frm_eq_joins ∙ refused_next (longitude_alone a d e) (latitude_alone a d e) l n p q

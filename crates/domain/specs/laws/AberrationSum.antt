@@ -25,7 +25,7 @@ use Rattle.aberr_table.specs.rules.Table.{table, walked}
 use Rattle.aberr_table.specs.laws.Walk.{table_is_rows}
 use Rattle.domain_accepted.specs.notions.Within.{Within}
 use Rattle.domain.specs.notions.Ranges.{Lies}
-use Rattle.domain.specs.notions.Aberration.{Held, Ranges, still, Lie, drifting, angleRange, times_range, plus_range, argument_range, century}
+use Rattle.domain.specs.notions.Aberration.{Held, Ranges, still, Lie, drifting, angle_range, times_range, plus_range, argument_range, century}
 use Rattle.domain.specs.notions.Aberration.{far_over, far_along, cuts, argument_far, arguments_far, turn, grouped_range, term_range, with_term_range}
 use Rattle.domain.specs.notions.Aberration.{share_range, with_row_range, walked_range}
 use Rattle.domain.specs.laws.Ranges.{constant_lies, sum_lies, difference_lies, product_lies, either_lies, either_angle_lies, in_inside}
@@ -44,88 +44,88 @@ plus_lies k i j =
 -- ---- a row's argument
 
 module _ {part : Range} {t : Float} (P : Lies part t) where
-  drifting-lies : (a b : Float) → Lies (drifting part a b) (a ⊕ b ⊗ t)
-  drifting-lies a b = sum_lies (constant_lies a) (product_lies (constant_lies b) P)
+  drifting_lies : (a b : Float) → Lies (drifting part a b) (a ⊕ b ⊗ t)
+  drifting_lies a b = sum_lies (constant_lies a) (product_lies (constant_lies b) P)
 
-  angle-lies : (n : ℕ) → Lies (angleRange part n) (angle_of (arguments_of t) n).0
+  angle_lies : (n : ℕ) → Lies (angle_range part n) (angle_of (arguments_of t) n).0
   unfolding angle_of arguments_of
-  angle-lies n =
-      either_angle_lies (eqb n 1) (drifting-lies _ _)
-      (either_angle_lies (eqb n 2) (drifting-lies _ _)
-      (either_angle_lies (eqb n 3) (drifting-lies _ _)
-      (either_angle_lies (eqb n 4) (drifting-lies _ _)
-      (either_angle_lies (eqb n 5) (drifting-lies _ _)
-      (either_angle_lies (eqb n 6) (drifting-lies _ _)
-      (either_angle_lies (eqb n 7) (drifting-lies _ _)
-      (either_angle_lies (eqb n 8) (drifting-lies _ _)
-      (either_angle_lies (eqb n 9) (drifting-lies _ _) (either_angle_lies (eqb n 10) (drifting-lies _ _) (drifting-lies _ _))))))))))
+  angle_lies n =
+      either_angle_lies (eqb n 1) (drifting_lies _ _)
+      (either_angle_lies (eqb n 2) (drifting_lies _ _)
+      (either_angle_lies (eqb n 3) (drifting_lies _ _)
+      (either_angle_lies (eqb n 4) (drifting_lies _ _)
+      (either_angle_lies (eqb n 5) (drifting_lies _ _)
+      (either_angle_lies (eqb n 6) (drifting_lies _ _)
+      (either_angle_lies (eqb n 7) (drifting_lies _ _)
+      (either_angle_lies (eqb n 8) (drifting_lies _ _)
+      (either_angle_lies (eqb n 9) (drifting_lies _ _) (either_angle_lies (eqb n 10) (drifting_lies _ _) (drifting_lies _ _))))))))))
 
-  argument-lies : (x : Row) → Lies (argument_range part x) (argument_of x (arguments_of t)).0
+  argument_lies : (x : Row) → Lies (argument_range part x) (argument_of x (arguments_of t)).0
   unfolding argument_of
-  argument-lies x =
+  argument_lies x =
       let m = multipliers_of x in
-      let a = angle-lies x.1 in
-      let b = angle-lies x.3 in
-      let c = angle-lies x.5 in
+      let a = angle_lies x.1 in
+      let b = angle_lies x.3 in
+      let c = angle_lies x.5 in
       either_lies m.bracketed (product_lies (constant_lies m.first) (difference_lies a b))
       (plus_lies m.third (plus_lies m.second (times_lies m.first a) b) c)
 
-  part-far : (x : Row) → T (far_over part x) → size (argument_of x (arguments_of t)).0 ≼ farthest_alone
-  part-far x f =
+  part_far : (x : Row) → T (far_over part x) → size (argument_of x (arguments_of t)).0 ≼ farthest_alone
+  part_far x f =
       let a = (argument_of x (arguments_of t)).0 in
-      between→size farthest_alone a (in_inside (neg farthest_alone) farthest_alone (argument_range part x) a f (argument-lies x).lies)
+      between→size farthest_alone a (in_inside (neg farthest_alone) farthest_alone (argument_range part x) a f (argument_lies x).lies)
 
 far_along_lem : (x : Row) {a b t : Float} (cs : List Float) → T (far_along x a cs b) → Between a b t → size (argument_of x (arguments_of t)).0 ≼ farthest_alone
-far_along_lem x {a} {b} [] f i = part-far (record { lies = i }) x f
+far_along_lem x {a} {b} [] f i = part_far (record { lies = i }) x f
 far_along_lem x {a} {b} (c ∷ cs) f i =
     let here = far_over (a to c) x in
     let after = and_r here (is_finite c && far_along x c cs b) f in
     elim (between_cut c (and_l (is_finite c) (far_along x c cs b) after) i) [
-      | inl j ↦ part-far (record { lies = j }) x (and_l here (is_finite c && far_along x c cs b) f)
+      | inl j ↦ part_far (record { lies = j }) x (and_l here (is_finite c && far_along x c cs b) f)
       | inr j ↦ far_along_lem x cs (and_r (is_finite c) (far_along x c cs b) after) j
     ]
 
 -- ---- a row's terms
 
 module _ {t s c : Float} (P : Lies century t) (S : Lies turn s) (C : Lies turn c) where
-  grouped-lies : (e : Terms) → Lies (grouped_range e) (grouped e s c)
+  grouped_lies : (e : Terms) → Lies (grouped_range e) (grouped e s c)
   unfolding grouped
-  grouped-lies e =
+  grouped_lies e =
       either_lies (eq e.sine e.cosine) (product_lies (constant_lies e.sine) (sum_lies S C))
       (either_lies (lt e.sine e.cosine) (product_lies (constant_lies e.cosine) (difference_lies C S))
       (product_lies (constant_lies e.sine) (difference_lies S C)))
 
-  term-lies : (k d : Float) → Lies (term_range k d) (term k d t s)
+  term_lies : (k d : Float) → Lies (term_range k d) (term k d t s)
   unfolding term
-  term-lies k d = either_lies (eq d zero) (times_lies k S) (product_lies (plus_lies d (constant_lies k) P) S)
+  term_lies k d = either_lies (eq d zero) (times_lies k S) (product_lies (plus_lies d (constant_lies k) P) S)
 
-  with-term-lies : (k d : Float) {r : Range} {p : Float} → Lies r p → Lies (with_term_range r k d) (with_term p k d t c)
+  with_term_lies : (k d : Float) {r : Range} {p : Float} → Lies r p → Lies (with_term_range r k d) (with_term p k d t c)
   unfolding with_term
-  with-term-lies k d i =
+  with_term_lies k d i =
       either_lies (eq k zero) i
       (either_lies (eq d zero) (plus_lies k i C) (sum_lies i (product_lies (plus_lies d (constant_lies k) P) C)))
 
   share_lies : (e : Terms) {r : Range} {v : Float} → Lies r v → Lies (share_range e r) (share_of e t s c v)
   unfolding share_of spread moved
   share_lies e i =
-      either_lies e.bracketed (sum_lies i (grouped-lies e))
-      (either_lies e.moving (sum_lies i (with-term-lies e.cosine e.cosine_t (term-lies e.sine e.sine_t)))
+      either_lies e.bracketed (sum_lies i (grouped_lies e))
+      (either_lies e.moving (sum_lies i (with_term_lies e.cosine e.cosine_t (term_lies e.sine e.sine_t)))
       (either_lies (eq e.sine zero) (either_lies (eq e.cosine zero) i (sum_lies i (times_lies e.cosine C)))
       (sum_lies i (plus_lies e.cosine (times_lies e.sine S) C))))
 
 -- ---- all rows
 
 module _ {t : Float} (W : Within 20 t) where
-  argument-far : (x : Row) → T (argument_far x) → size (argument_of x (arguments_of t)).0 ≼ farthest_alone
-  argument-far x f =
+  argument_far_lem : (x : Row) → T (argument_far x) → size (argument_of x (arguments_of t)).0 ≼ farthest_alone
+  argument_far_lem x f =
       let cut = far_along x (neg (over 20 1)) cuts (over 20 1) in
       by_test (λ (b : Bool). T b → size (argument_of x (arguments_of t)).0 ≼ farthest_alone) (far_over century x) true cut
-      (λ here g. part-far (record { lies = W }) x here) (λ no g. far_along_lem x cuts g W) f
+      (λ here g. part_far (record { lies = W }) x here) (λ no g. far_along_lem x cuts g W) f
 
   arguments_far_lem : (xs : List Row) → T (arguments_far xs) → (i : ℕ) (d : Row) → i < length xs
       → size (argument_of (get_or xs i d) (arguments_of t)).0 ≼ farthest_alone
   arguments_far_lem [] f i d h = absurd (not-suc-le-zero h)
-  arguments_far_lem (x ∷ xs) f nat.zero d h = argument-far x (and_l (argument_far x) (arguments_far xs) f)
+  arguments_far_lem (x ∷ xs) f nat.zero d h = argument_far_lem x (and_l (argument_far x) (arguments_far xs) f)
   arguments_far_lem (x ∷ xs) f (suc i) d h = arguments_far_lem xs (and_r (argument_far x) (arguments_far xs) f) i d (le_of_suc-le-suc h)
 
   row_lies : (x : Row) (all : List Row) {r : Ranges} {v : Velocity} → T (argument_far x) → Lie r v
@@ -134,16 +134,16 @@ module _ {t : Float} (W : Within 20 t) where
   row_lies x all f i =
       let a = argument_of x (arguments_of t) in
       let P : Lies century t = record { lies = W } in
-      let S : Lies turn (sin_cos_of a).sine = record { lies = sine_between a (argument-far x f) } in
-      let C : Lies turn (sin_cos_of a).cosine = record { lies = cosine_between a (argument-far x f) } in
+      let S : Lies turn (sin_cos_of a).sine = record { lies = sine_between a (argument_far_lem x f) } in
+      let C : Lies turn (sin_cos_of a).cosine = record { lies = cosine_between a (argument_far_lem x f) } in
       record { x = share_lies P S C _ i.x; y = share_lies P S C _ i.y; z = share_lies P S C _ i.z }
 
-  walked-lie : (all xs : List Row) {r : Ranges} {v : Velocity} → T (arguments_far xs) → Lie r v
+  walked_lie : (all xs : List Row) {r : Ranges} {v : Velocity} → T (arguments_far xs) → Lie r v
       → Lie (walked_range all xs r) (walked all xs (arguments_of t) v)
   unfolding walked
-  walked-lie all [] f i = i
-  walked-lie all (x ∷ xs) f i =
-      walked-lie all xs (and_r (argument_far x) (arguments_far xs) f) (row_lies x all (and_l (argument_far x) (arguments_far xs) f) i)
+  walked_lie all [] f i = i
+  walked_lie all (x ∷ xs) f i =
+      walked_lie all xs (and_r (argument_far x) (arguments_far xs) f) (row_lies x all (and_l (argument_far x) (arguments_far xs) f) i)
 
 -- ---- the table
 
@@ -182,11 +182,11 @@ at_rest =
 
 module _ (t : Float) (W : Within 20 t) where
   -- each row's argument goes into a sine: of the rows that are walked, by their indices from 0
-  pub aberration-arguments-far : (i : ℕ) (d : Row) → i < 36 → size (argument_of (get_or (take 36 table) i d) (arguments_of t)).0 ≼ farthest_alone
-  aberration-arguments-far = arguments_far_lem W (take 36 table) rows_far
+  pub aberration_arguments_far : (i : ℕ) (d : Row) → i < 36 → size (argument_of (get_or (take 36 table) i d) (arguments_of t)).0 ≼ farthest_alone
+  aberration_arguments_far = arguments_far_lem W (take 36 table) rows_far
 
-  pub velocity-held : Held 2272000 (summed rows (arguments_of t) none)
-  velocity-held =
-      let lie = walked-lie W table (take 36 table) rows_far at_rest in
+  pub velocity_held : Held 2272000 (summed rows (arguments_of t) none)
+  velocity_held =
+      let lie = walked_lie W table (take 36 table) rows_far at_rest in
       subst (λ (v : Velocity). Held 2272000 v) (table_is_rows (arguments_of t) none)
       (record { x = held x_held lie.x; y = held y_held lie.y; z = held z_held lie.z })

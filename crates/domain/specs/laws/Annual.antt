@@ -13,38 +13,38 @@ use Rattle.helpers.specs.rules.Angle.{hour_arc, degree, radians_of}
 use Rattle.helpers.specs.rules.Time.{century_of}
 use Rattle.precess.specs.rules.Numbers.{n3·07496, n0·00186, n1·33621, n0·00057}
 use Rattle.precess.specs.rules.Annual.{annual_m, annual_n, annual_at, annual_in, annual_refusal, annual_precess_rule}
-use Rattle.domain_accepted.specs.laws.Accepted.{angle-sine, angle-cosine, steep-tangent}
+use Rattle.domain_accepted.specs.laws.Accepted.{angle_sine, angle_cosine, steep_tangent}
 use Rattle.domain_accepted.specs.notions.Outcome.{Outcome, Never}
 use Rattle.domain_accepted.specs.notions.Within.{Within, BothFinite}
-use Rattle.domain_accepted.specs.laws.Outcome.{outcome-answered, rule-answers, rule-refuses}
+use Rattle.domain_accepted.specs.laws.Outcome.{outcome_answered, rule_answers, rule_refuses}
 use Rattle.domain_accepted.specs.laws.Near.{within}
-use Rattle.domain.specs.laws.Days.{century-within}
+use Rattle.domain.specs.laws.Days.{century_within}
 
 module _ (c : Float) (C : Within 20 c) where
-  m-within : Within 1 (radians_of (annual_m c)).0
+  m_within : Within 1 (radians_of (annual_m c)).0
   unfolding annual_m is_finite le neg add sub mul div of_bits round
-  m-within = within 1 ((con (hour_arc n3·07496) ⊞ con (hour_arc n0·00186) ⊠ known C) ⊠ con degree) tt
+  m_within = within 1 ((con (hour_arc n3·07496) ⊞ con (hour_arc n0·00186) ⊠ known C) ⊠ con degree) tt
 
   n_within : Within 1 (radians_of (annual_n c)).0
   unfolding annual_n is_finite le neg add sub mul div of_bits round
   n_within = within 1 ((con (hour_arc n1·33621) ⊟ con (hour_arc n0·00057) ⊠ known C) ⊠ con degree) tt
 
 module _ (asc dec : Rad) (day : Float) where
-  annual-outcome : annual_refusal asc dec day ≡ 0 → Outcome BothFinite Never (annual_in asc dec day)
+  annual_outcome : annual_refusal asc dec day ≡ 0 → Outcome BothFinite Never (annual_in asc dec day)
   unfolding annual_in annual_at is_finite le neg add sub mul of_bits round
-  annual-outcome e =
+  annual_outcome e =
       let c = century_of day in
       let n = lower_none (lower (angle_refusal asc) (steep_refusal dec)) (day_refusal day) e in
       let k = lower_none (angle_refusal asc) (steep_refusal dec) n.0 in
-      let C = century-within day n.1 in
-      let M = known (m-within c C) in
+      let C = century_within day n.1 in
+      let M = known (m_within c C) in
       let N = known (n_within c C) in
-      outcome-answered
+      outcome_answered
       (pair ((radians_of (annual_m c)).0 ⊕ (radians_of (annual_n c)).0 ⊗ sine_of asc ⊗ tangent_of dec) ((radians_of (annual_n c)).0 ⊗ cosine_of asc))
-      ((within 32768 (M ⊞ N ⊠ known (angle-sine asc k.0) ⊠ known (steep-tangent dec k.1)) tt).finite, (within 1 (N ⊠ known (angle-cosine asc k.0)) tt).finite)
+      ((within 32768 (M ⊞ N ⊠ known (angle_sine asc k.0) ⊠ known (steep_tangent dec k.1)) tt).finite, (within 1 (N ⊠ known (angle_cosine asc k.0)) tt).finite)
 
-  pub annual-precess-finite : (p : Pair) → annual_precess_rule asc dec day ≡ answered p → BothFinite p
-  annual-precess-finite = rule-answers (annual_refusal asc dec day) (annual_in asc dec day) annual-outcome
+  pub annual_precess_finite : (p : Pair) → annual_precess_rule asc dec day ≡ answered p → BothFinite p
+  annual_precess_finite = rule_answers (annual_refusal asc dec day) (annual_in asc dec day) annual_outcome
 
-  pub annual-precess-refuses : annual_refusal asc dec day ≡ 0 → (n : ℕ) → annual_precess_rule asc dec day ≡ refused n → ⊥
-  annual-precess-refuses = rule-refuses (annual_refusal asc dec day) (annual_in asc dec day) annual-outcome
+  pub annual_precess_refuses : annual_refusal asc dec day ≡ 0 → (n : ℕ) → annual_precess_rule asc dec day ≡ refused n → ⊥
+  annual_precess_refuses = rule_refuses (annual_refusal asc dec day) (annual_in asc dec day) annual_outcome

@@ -77,9 +77,9 @@ abbrev pub least_true : Float
 least_true = over 2233 65536
 
 module _ (h : Deg) (none : alt_refusal h ≡ 0) where
-  pub apprnt-angle : Between least_apprnt steepest (radians_of (angle_frm_apprnt h)).0
+  pub apprnt_angle : Between least_apprnt steepest (radians_of (angle_frm_apprnt h)).0
   unfolding is_finite le neg add mul div of_bits round
-  apprnt-angle =
+  apprnt_angle =
       in_pieces (alt_accepted h none)
       (λ j. bounded binary64 least_apprnt steepest (angle_expr n7·31 n4·4 (known j)) tt)
       (λ j. bounded binary64 least_apprnt steepest (angle_expr n7·31 n4·4 (known j)) tt)
@@ -88,9 +88,9 @@ module _ (h : Deg) (none : alt_refusal h ≡ 0) where
       (λ j. bounded binary64 least_apprnt steepest (angle_expr n7·31 n4·4 (known j)) tt)
       (λ j. bounded binary64 least_apprnt steepest (angle_expr n7·31 n4·4 (known j)) tt)
 
-  pub true-angle : Between least_true steepest (radians_of (angle_frm_true h)).0
+  pub true_angle : Between least_true steepest (radians_of (angle_frm_true h)).0
   unfolding is_finite le neg add mul div of_bits round
-  true-angle =
+  true_angle =
       in_pieces (alt_accepted h none)
       (λ j. bounded binary64 least_true steepest (angle_expr n10·3 n5·11 (known j)) tt)
       (λ j. bounded binary64 least_true steepest (angle_expr n10·3 n5·11 (known j)) tt)
@@ -100,11 +100,11 @@ module _ (h : Deg) (none : alt_refusal h ≡ 0) where
       (λ j. bounded binary64 least_true steepest (angle_expr n10·3 n5·11 (known j)) tt)
 
   -- 1.57 at most
-  pub apprnt-angle-not-steep : (radians_of (angle_frm_apprnt h)).0 ≼ steepest
-  apprnt-angle-not-steep = apprnt-angle.to
+  pub apprnt_angle_not_steep : (radians_of (angle_frm_apprnt h)).0 ≼ steepest
+  apprnt_angle_not_steep = apprnt_angle.to
 
-  pub true-angle-not-steep : (radians_of (angle_frm_true h)).0 ≼ steepest
-  true-angle-not-steep = true-angle.to
+  pub true_angle_not_steep : (radians_of (angle_frm_true h)).0 ≼ steepest
+  true_angle_not_steep = true_angle.to
 
 -- ---- the tangent of an angle from a on
 
@@ -142,9 +142,9 @@ module _ (a s : Float) (A : T (positive a)) (small : s ≼ over 1 20)
       ]
 
   -- at least s
-  sine-from : (x : Rad) → Between a steepest x.0 → s ≼ sine_of x
+  sine_from : (x : Rad) → Between a steepest x.0 → s ≼ sine_of x
   unfolding fold folded_sine
-  sine-from x i =
+  sine_from x i =
       let P = plus_of_positive a x.0 A i.from in
       let zeroOn : Between zero steepest x.0 = between finite_zero i.end (zero_le_plus x.0 i.finite P) i.to in
       rw (no_minus_of_plus x.0 P, size_plus x.0 P)
@@ -169,43 +169,43 @@ least_true_sine = over 2230 65536
 pub apprnt_sine : (x : Rad) → Between least_apprnt steepest x.0 → least_apprnt_sine ≼ sine_of x
 unfolding is_finite le neg add sub mul of_bits of_int round
 apprnt_sine =
-    sine-from least_apprnt least_apprnt_sine tt tt
+    sine_from least_apprnt least_apprnt_sine tt tt
     (λ x i. (bounded binary64 least_apprnt two (rest_expr (known i)) tt).from)
     (λ r i. (bounded binary64 least_apprnt_sine two (sine_expr (known i)) tt).from)
 
 pub true_sine : (x : Rad) → Between least_true steepest x.0 → least_true_sine ≼ sine_of x
 unfolding is_finite le neg add sub mul of_bits of_int round
 true_sine =
-    sine-from least_true least_true_sine tt tt
+    sine_from least_true least_true_sine tt tt
     (λ x i. (bounded binary64 least_true two (rest_expr (known i)) tt).from)
     (λ r i. (bounded binary64 least_true_sine two (sine_expr (known i)) tt).from)
 
 module _ (a : Float) (A : T (positive a)) (x : Rad) (i : Between a steepest x.0) where
-  not-steep : size x.0 ≼ steepest
-  not-steep = rw (size_plus x.0 (plus_of_positive a x.0 A i.from)) i.to
+  not_steep : size x.0 ≼ steepest
+  not_steep = rw (size_plus x.0 (plus_of_positive a x.0 A i.from)) i.to
 
-  not-far : size x.0 ≼ farthest_alone
-  not-far = le_trans (size x.0) steepest farthest_alone not-steep (unfold le of_bits in tt)
+  not_far : size x.0 ≼ farthest_alone
+  not_far = le_trans (size x.0) steepest farthest_alone not_steep (unfold le of_bits in tt)
 
   -- the tangent called alone answers there
-  tangent-answered : tangent_rule x ≡ answered (tangent_of x)
+  tangent_answered : tangent_rule x ≡ answered (tangent_of x)
   unfolding tangent_rule
-  tangent-answered =
+  tangent_answered =
       rw (
-        past_none x.0 farthest_alone 3 (unfold is_finite of_bits in tt) not-far,
-        past_none x.0 steepest 4 i.end not-steep,
+        past_none x.0 farthest_alone 3 (unfold is_finite of_bits in tt) not_far,
+        past_none x.0 steepest 4 i.end not_steep,
       )
 
-  pub sine-up-to-one : (s : Float) → Finite s → s ≼ sine_of x → Between s one (sine_of x)
-  sine-up-to-one s S h = between S finite_one h (sine_between x not-far).to
+  pub sine_up_to_one : (s : Float) → Finite s → s ≼ sine_of x → Between s one (sine_of x)
+  sine_up_to_one s S h = between S finite_one h (sine_between x not_far).to
 
-  pub cosine-up-to-one : Between (over 1 16384) one (cosine_of x)
-  cosine-up-to-one = between (cosine_steep x not-steep).start finite_one (cosine_steep x not-steep).from (cosine_between x not-far).to
+  pub cosine_up_to_one : Between (over 1 16384) one (cosine_of x)
+  cosine_up_to_one = between (cosine_steep x not_steep).start finite_one (cosine_steep x not_steep).from (cosine_between x not_far).to
 
 -- so 4 is never met
 module _ (h : Deg) (none : alt_refusal h ≡ 0) where
-  pub apprnt-tangent-answered : tangent_rule (radians_of (angle_frm_apprnt h)) ≡ answered (tangent_of (radians_of (angle_frm_apprnt h)))
-  apprnt-tangent-answered = tangent-answered least_apprnt (unfold round in tt) (radians_of (angle_frm_apprnt h)) (apprnt-angle h none)
+  pub apprnt_tangent_answered : tangent_rule (radians_of (angle_frm_apprnt h)) ≡ answered (tangent_of (radians_of (angle_frm_apprnt h)))
+  apprnt_tangent_answered = tangent_answered least_apprnt (unfold round in tt) (radians_of (angle_frm_apprnt h)) (apprnt_angle h none)
 
-  pub true-tangent-answered : tangent_rule (radians_of (angle_frm_true h)) ≡ answered (tangent_of (radians_of (angle_frm_true h)))
-  true-tangent-answered = tangent-answered least_true (unfold round in tt) (radians_of (angle_frm_true h)) (true-angle h none)
+  pub true_tangent_answered : tangent_rule (radians_of (angle_frm_true h)) ≡ answered (tangent_of (radians_of (angle_frm_true h)))
+  true_tangent_answered = tangent_answered least_true (unfold round in tt) (radians_of (angle_frm_true h)) (true_angle h none)

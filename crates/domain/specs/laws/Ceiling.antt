@@ -24,10 +24,10 @@ use Rattle.nutation.specs.rules.Day.{nutation_rule}
 use Rattle.nutation_ceiling.specs.rules.Ceiling.{ceiling_of, ceiling_at, nutation_ceiling_rule}
 use Rattle.nutation_ceiling.specs.notions.Walk.{Under, Each, sines, cosines, ones}
 use Rattle.nutation_ceiling.specs.notions.Bound.{Bounds, NoMore, Ample}
-use Rattle.nutation_ceiling.specs.laws.Ceiling.{farthest, ceiling-within-farthest, ceiling-ample, ceiling-holds, ceiling_grows}
+use Rattle.nutation_ceiling.specs.laws.Ceiling.{farthest, ceiling_within_farthest, ceiling_ample, ceiling_holds, ceiling_grows}
 use Rattle.domain.specs.notions.Nutation.{Moon, Row, EachRow}
-use Rattle.domain.specs.laws.Days.{century-within}
-use Rattle.domain.specs.laws.NutationSum.{row-arguments-far}
+use Rattle.domain.specs.laws.Days.{century_within}
+use Rattle.domain.specs.laws.NutationSum.{row_arguments_far}
 use Rattle.domain.specs.notions.Ceiling.{Held}
 
 plus_one : Plus one
@@ -35,13 +35,13 @@ unfolding of_bits
 plus_one = tt
 
 module _ (a : Moon) where
-  each-sine : (xs : List Row) → EachRow (λ (x : Row). size (argument_of x a).0 ≼ farthest_alone) xs → Each (λ (x : Row). Under (ones x) (sines a x)) xs
-  each-sine [] h = tt
-  each-sine (x ∷ xs) h = (record { plain = plus_one; between = sine_between (argument_of x a) h.0 }, each-sine xs h.1)
+  each_sine : (xs : List Row) → EachRow (λ (x : Row). size (argument_of x a).0 ≼ farthest_alone) xs → Each (λ (x : Row). Under (ones x) (sines a x)) xs
+  each_sine [] h = tt
+  each_sine (x ∷ xs) h = (record { plain = plus_one; between = sine_between (argument_of x a) h.0 }, each_sine xs h.1)
 
-  each-cosine : (xs : List Row) → EachRow (λ (x : Row). size (argument_of x a).0 ≼ farthest_alone) xs → Each (λ (x : Row). Under (ones x) (cosines a x)) xs
-  each-cosine [] h = tt
-  each-cosine (x ∷ xs) h = (record { plain = plus_one; between = cosine_between (argument_of x a) h.0 }, each-cosine xs h.1)
+  each_cosine : (xs : List Row) → EachRow (λ (x : Row). size (argument_of x a).0 ≼ farthest_alone) xs → Each (λ (x : Row). Under (ones x) (cosines a x)) xs
+  each_cosine [] h = tt
+  each_cosine (x ∷ xs) h = (record { plain = plus_one; between = cosine_between (argument_of x a) h.0 }, each_cosine xs h.1)
 
 moon_century : (t : Float) → (moon_of t).t ≡ t
 unfolding moon_of moon_from
@@ -49,31 +49,31 @@ moon_century t = refl
 
 module _ (day : Float) (accepted : day_refusal day ≡ 0) where
   near : size (century_of day) ≼ farthest
-  near = between→size farthest (century_of day) (century-within day accepted)
+  near = between→size farthest (century_of day) (century_within day accepted)
 
-  pub nutation-under-ceiling : Bounds (ceiling_of day) (nutation_of day)
+  pub nutation_under_ceiling : Bounds (ceiling_of day) (nutation_of day)
   unfolding nutation_of
-  nutation-under-ceiling =
+  nutation_under_ceiling =
       let a = moon_of (century_of day) in
-      ceiling-holds (century_of day) near a (moon_century (century_of day)) (each-sine a rows (row-arguments-far day accepted))
-      (each-cosine a rows (row-arguments-far day accepted))
+      ceiling_holds (century_of day) near a (moon_century (century_of day)) (each_sine a rows (row_arguments_far day accepted))
+      (each_cosine a rows (row_arguments_far day accepted))
 
   -- the figure at 20 centuries bounds every accepted day's
-  pub ceiling-of-every-day : NoMore (ceiling_of day) (ceiling_at farthest)
-  ceiling-of-every-day = ceiling-within-farthest (century_of day) near
+  pub ceiling_of_every_day : NoMore (ceiling_of day) (ceiling_at farthest)
+  ceiling_of_every_day = ceiling_within_farthest (century_of day) near
 
   -- and so does the figure of every century farther out
-  pub nutation-under-farther : (u : Float) → size (century_of day) ≼ size u → size u ≼ farthest → Bounds (ceiling_at u) (nutation_of day)
-  nutation-under-farther u h f =
-      let k = nutation-under-ceiling in
+  pub nutation_under_farther : (u : Float) → size (century_of day) ≼ size u → size u ≼ farthest → Bounds (ceiling_at u) (nutation_of day)
+  nutation_under_farther u h f =
+      let k = nutation_under_ceiling in
       let g = ceiling_grows (century_of day) u f h in
       record {
         long = le_trans (size (nutation_of day).long.0) (ceiling_of day).long.0 (ceiling_at u).long.0 k.long g.long;
         oblq = le_trans (size (nutation_of day).oblq.0) (ceiling_of day).oblq.0 (ceiling_at u).oblq.0 k.oblq g.oblq;
       }
 
-  pub ceiling-of-day : Ample (ceiling_of day)
-  ceiling-of-day = ceiling-ample (century_of day) near
+  pub ceiling_of_day : Ample (ceiling_of day)
+  ceiling_of_day = ceiling_ample (century_of day) near
 
 -- ---- of any answers that meet the promises of `nutation` and of `nutation_ceiling`
 
@@ -82,8 +82,8 @@ unfolding nutation_rule nutation_ceiling_rule
 rules_held day v w e f =
     let n = answered_unless (day_refusal day) (answered (pair (nutation_of day).long.0 (nutation_of day).oblq.0)) v e in
     let c = answered_unless (day_refusal day) (answered (pair (ceiling_of day).long.0 (ceiling_of day).oblq.0)) w f in
-    let k = nutation-under-ceiling day n.0 in
-    let l = ceiling-of-day day n.0 in
+    let k = nutation_under_ceiling day n.0 in
+    let l = ceiling_of_day day n.0 in
     rw (← same_value n.1, ← same_value c.1) (
       record { long = k.long; oblq = k.oblq },
       record { finite = (l.long.0, l.oblq.0); long = l.long.1; oblq = l.oblq.1 },
@@ -95,10 +95,10 @@ nutation_held day r c n k v w e f = rules_held day v w (sym n ∙ e) (sym k ∙ 
 -- and they are refused alike
 pub nutation_ceiling_refused_alike : (day : Float) → status_of (nutation_ceiling_rule day) ≡ status_of (nutation_rule day)
 unfolding nutation_rule nutation_ceiling_rule
-nutation_ceiling_refused_alike day = by-case (eqb (day_refusal day) 0)
+nutation_ceiling_refused_alike day = by_case (eqb (day_refusal day) 0)
   where
-    by-case : (b : Bool)
+    by_case : (b : Bool)
         → status_of (cond b (answered (pair (ceiling_of day).long.0 (ceiling_of day).oblq.0)) (refused (day_refusal day)))
         ≡ status_of (cond b (answered (pair (nutation_of day).long.0 (nutation_of day).oblq.0)) (refused (day_refusal day)))
-    by-case true = refl
-    by-case false = refl
+    by_case true = refl
+    by_case false = refl

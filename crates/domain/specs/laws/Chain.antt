@@ -37,14 +37,14 @@ use Rattle.chain.specs.rules.Obliquity.{mean_obliquity, mean_obliquity_of, true_
 use Rattle.chain.specs.rules.Chain.{point, sum, from_point, chain_rule}
 use Rattle.domain_accepted.specs.notions.Outcome.{Outcome, FourSevenOrFourteen}
 use Rattle.domain_accepted.specs.notions.Within.{Within, IsPlace, BothFinite, BothWithin}
-use Rattle.domain_accepted.specs.laws.Outcome.{outcome-answered, outcome-then}
+use Rattle.domain_accepted.specs.laws.Outcome.{outcome_answered, outcome_then}
 use Rattle.domain_accepted.specs.laws.Near.{within, near_far}
 use Rattle.domain.specs.notions.Precession.{no_direction}
-use Rattle.domain.specs.laws.Days.{century-within, second-accepted, place_accepted}
-use Rattle.domain.specs.laws.Equatorial.{precess-eq-coords-answers, precess-eq-coords-refuses, precess-eq-coords-fourteen}
-use Rattle.domain.specs.laws.NutationSum.{nutation-outcome, nutation_answers, nutation_refuses}
-use Rattle.domain.specs.laws.NutationPoint.{nutation-in-eq-coords-answers, nutation-in-eq-coords-refuses}
-use Rattle.domain.specs.laws.StarAberration.{stell-aberr-in-eq-coords-answers, stell-aberr-in-eq-coords-refuses}
+use Rattle.domain.specs.laws.Days.{century_within, second_accepted, place_accepted}
+use Rattle.domain.specs.laws.Equatorial.{precess_eq_coords_answers, precess_eq_coords_refuses, precess_eq_coords_fourteen}
+use Rattle.domain.specs.laws.NutationSum.{nutation_outcome, nutation_answers, nutation_refuses}
+use Rattle.domain.specs.laws.NutationPoint.{nutation_in_eq_coords_answers, nutation_in_eq_coords_refuses}
+use Rattle.domain.specs.laws.StarAberration.{stell_aberr_in_eq_coords_answers, stell_aberr_in_eq_coords_refuses}
 
 -- ---- what is not refused
 
@@ -61,16 +61,16 @@ latitude_near x i = past_none x.0 HALF 3 tt (between→size HALF x.0 i)
 steep_cases : (x : Rad) → Between (neg HALF) HALF x.0 → (steep_refusal x ≡ 0) ⊎ (steep_refusal x ≡ 4)
 unfolding steep_refusal
 steep_cases x i =
-    rw (latitude_near x i, is_true (is_finite x.0) i.finite) (by-case (lt steepest (size x.0)))
+    rw (latitude_near x i, is_true (is_finite x.0) i.finite) (by_case (lt steepest (size x.0)))
   where
-    by-case : (b : Bool) → (◌≡◌ {A = ℕ} (cond b 4 0) 0) ⊎ (◌≡◌ {A = ℕ} (cond b 4 0) 4)
-    by-case true = inr refl
-    by-case false = inl refl
+    by_case : (b : Bool) → (◌≡◌ {A = ℕ} (cond b 4 0) 0) ⊎ (◌≡◌ {A = ℕ} (cond b 4 0) 4)
+    by_case true = inr refl
+    by_case false = inl refl
 
 pub mean_obliquity_within : (day : Float) → day_refusal day ≡ 0 → Within 32 (mean_obliquity_of day).0
 unfolding mean_obliquity_of mean_obliquity is_finite le neg add sub mul div of_bits round
 mean_obliquity_within day none =
-    let C = known (century-within day none) in
+    let C = known (century_within day none) in
     within 32
     ((con (arc n84381·448) ⊟ C ⊠ (con (arc n46·8150) ⊞ C ⊠ (con (arc n0·00059) ⊟ C ⊠ con (arc n0·001813)))) ⊠ con degree) tt
 
@@ -80,20 +80,20 @@ unfolding true_obliquity is_finite le neg add of_bits round
 obliquity_within day n none N = within 64 (known (mean_obliquity_within day none) ⊞ known N) tt
 
 module _ (day : Float) (accepted : day_refusal day ≡ 0) where
-  nutation-small : Within 1 (nutation_of day).oblq.0
-  nutation-small = ((nutation-outcome day accepted).answers (pair (nutation_of day).long.0 (nutation_of day).oblq.0) refl).1
+  nutation_small : Within 1 (nutation_of day).oblq.0
+  nutation_small = ((nutation_outcome day accepted).answers (pair (nutation_of day).long.0 (nutation_of day).oblq.0) refl).1
 
   -- the true obliquity of an accepted day goes into a sine
-  pub obliquity-far : size (true_obliquity (mean_obliquity_of day) (nutation_of day).oblq).0 ≼ farthest_alone
+  pub obliquity_far : size (true_obliquity (mean_obliquity_of day) (nutation_of day).oblq).0 ≼ farthest_alone
   unfolding is_finite le neg round
-  obliquity-far =
+  obliquity_far =
       near_far (true_obliquity (mean_obliquity_of day) (nutation_of day).oblq).0
-      (within 2048 (known (obliquity_within day (nutation_of day).oblq accepted nutation-small)) tt)
+      (within 2048 (known (obliquity_within day (nutation_of day).oblq accepted nutation_small)) tt)
 
   -- and is never refused
-  pub obliquity-accepted : angle_refusal (true_obliquity (mean_obliquity_of day) (nutation_of day).oblq) ≡ 0
-  obliquity-accepted =
-      angle_near (true_obliquity (mean_obliquity_of day) (nutation_of day).oblq) (obliquity_within day (nutation_of day).oblq accepted nutation-small)
+  pub obliquity_accepted : angle_refusal (true_obliquity (mean_obliquity_of day) (nutation_of day).oblq) ≡ 0
+  obliquity_accepted =
+      angle_near (true_obliquity (mean_obliquity_of day) (nutation_of day).oblq) (obliquity_within day (nutation_of day).oblq accepted nutation_small)
 
 -- what goes on from an answer, and meets no 14 there
 fourteen_then : {A B : Type 0} (a : Answer A) (f : A → Answer B) → ((v : A) → a ≡ answered v → f v ≢ refused 14)
@@ -117,64 +117,64 @@ module _ (p n : Pair) (day : Float) (P : IsPlace p) (N : BothWithin 1 n) (D : da
   abbrev oblq : Rad
   oblq = true_obliquity (mean_obliquity_of day) (rad (second n))
 
-  asc-none : angle_refusal (rad (first p)) ≡ 0
-  asc-none = angle_near (rad (first p)) P.0
+  asc_none : angle_refusal (rad (first p)) ≡ 0
+  asc_none = angle_near (rad (first p)) P.0
 
   -- an angle up to 1.0 in size
-  small-none : (x : Float) → Within 1 x → angle_refusal (rad x) ≡ 0
+  small_none : (x : Float) → Within 1 x → angle_refusal (rad x) ≡ 0
   unfolding is_finite le neg round
-  small-none x i = angle_near (rad x) (within 64 (known i) tt)
+  small_none x i = angle_near (rad x) (within 64 (known i) tt)
 
-  nutation-cases : (nutation_in_refusal (point p) (rad (first n)) (rad (second n)) oblq ≡ 0) ⊎ (nutation_in_refusal (point p) (rad (first n)) (rad (second n)) oblq ≡ 4)
-  nutation-cases =
-      let L = small-none (first n) N.0 in
-      let O = small-none (second n) N.1 in
+  nutation_cases : (nutation_in_refusal (point p) (rad (first n)) (rad (second n)) oblq ≡ 0) ⊎ (nutation_in_refusal (point p) (rad (first n)) (rad (second n)) oblq ≡ 4)
+  nutation_cases =
+      let L = small_none (first n) N.0 in
+      let O = small_none (second n) N.1 in
       let E = angle_near oblq (obliquity_within day (rad (second n)) D N.1) in
-      elim (steep_cases (rad (second p)) P.1) [ inl z ↦ inl (rw (asc-none, z, L, O, E)) | inr f ↦ inr (rw (asc-none, f, L, O, E)) ]
+      elim (steep_cases (rad (second p)) P.1) [ inl z ↦ inl (rw (asc_none, z, L, O, E)) | inr f ↦ inr (rw (asc_none, f, L, O, E)) ]
 
-  aberr-cases : (stell_aberr_refusal (point p) day ≡ 0) ⊎ (stell_aberr_refusal (point p) day ≡ 4)
-  aberr-cases =
-      elim (steep_cases (rad (second p)) P.1) [ inl z ↦ inl (rw (asc-none, z, D)) | inr f ↦ inr (rw (asc-none, f, D)) ]
+  aberr_cases : (stell_aberr_refusal (point p) day ≡ 0) ⊎ (stell_aberr_refusal (point p) day ≡ 4)
+  aberr_cases =
+      elim (steep_cases (rad (second p)) P.1) [ inl z ↦ inl (rw (asc_none, z, D)) | inr f ↦ inr (rw (asc_none, f, D)) ]
 
-  nutation-step : Outcome (BothWithin 4194304) Four (nutation_in_eq_coords_rule (point p) (rad (first n)) (rad (second n)) oblq)
+  nutation_step : Outcome (BothWithin 4194304) Four (nutation_in_eq_coords_rule (point p) (rad (first n)) (rad (second n)) oblq)
   unfolding nutation_in_eq_coords_rule
-  nutation-step =
+  nutation_step =
       let long = rad (first n) in
       let lat = rad (second n) in
       record {
-        answers = nutation-in-eq-coords-answers (point p) long lat oblq;
+        answers = nutation_in_eq_coords_answers (point p) long lat oblq;
         refuses =
             λ k e.
-            elim nutation-cases [
-              | inl z ↦ absurd (nutation-in-eq-coords-refuses (point p) long lat oblq z k e)
+            elim nutation_cases [
+              | inl z ↦ absurd (nutation_in_eq_coords_refuses (point p) long lat oblq z k e)
               | inr f ↦ refused_four (nutation_in_refusal (point p) long lat oblq) (answered (pair (nutation_in_eq_coords_in (point p) long lat oblq).asc.0 (nutation_in_eq_coords_in (point p) long lat oblq).dec.0)) k f e
             ];
       }
 
-  aberr-step : Outcome (BothWithin 8) Four (stell_aberr_in_eq_coords_rule (point p) day)
+  aberr_step : Outcome (BothWithin 8) Four (stell_aberr_in_eq_coords_rule (point p) day)
   unfolding stell_aberr_in_eq_coords_rule
-  aberr-step =
+  aberr_step =
       record {
-        answers = stell-aberr-in-eq-coords-answers (point p) day;
+        answers = stell_aberr_in_eq_coords_answers (point p) day;
         refuses =
             λ k e.
-            elim aberr-cases [
-              | inl z ↦ absurd (stell-aberr-in-eq-coords-refuses (point p) day z k e)
+            elim aberr_cases [
+              | inl z ↦ absurd (stell_aberr_in_eq_coords_refuses (point p) day z k e)
               | inr f ↦ refused_four (stell_aberr_refusal (point p) day) (answered (pair (stell_aberr_in_eq_coords_in (point p) day).asc.0 (stell_aberr_in_eq_coords_in (point p) day).dec.0)) k f e
             ];
       }
 
-  from-outcome : Outcome BothFinite Four (from_point p n day)
+  from_outcome : Outcome BothFinite Four (from_point p n day)
   unfolding is_finite le neg add of_bits round
-  from-outcome =
-      outcome-then (λ (s : Pair). then (stell_aberr_in_eq_coords_rule (point p) day) (λ (a : Pair). answered (sum p s a)))
+  from_outcome =
+      outcome_then (λ (s : Pair). then (stell_aberr_in_eq_coords_rule (point p) day) (λ (a : Pair). answered (sum p s a)))
       (λ s S.
-      outcome-then (λ (a : Pair). answered (sum p s a))
+      outcome_then (λ (a : Pair). answered (sum p s a))
       (λ a A.
-      outcome-answered (sum p s a)
+      outcome_answered (sum p s a)
       ((within 8388608 ((known P.0 ⊞ known S.0) ⊞ known A.0) tt).finite, (within 8388608 ((known P.1 ⊞ known S.1) ⊞ known A.1) tt).finite))
-      (stell_aberr_in_eq_coords_rule (point p) day) aberr-step)
-      (nutation_in_eq_coords_rule (point p) (rad (first n)) (rad (second n)) oblq) nutation-step
+      (stell_aberr_in_eq_coords_rule (point p) day) aberr_step)
+      (nutation_in_eq_coords_rule (point p) (rad (first n)) (rad (second n)) oblq) nutation_step
 
 -- ---- the chain
 
@@ -183,50 +183,50 @@ module _ (edition : Edition) (asc dec : Rad) (day1 day2 : Float) where
   abbrev after : Pair → Answer Pair
   after p = then (nutation_rule day2) (λ (n : Pair). from_point p n day2)
 
-  after-outcome : day_refusal day2 ≡ 0 → (p : Pair) → IsPlace p → Outcome BothFinite Four (after p)
-  after-outcome D p P =
+  after_outcome : day_refusal day2 ≡ 0 → (p : Pair) → IsPlace p → Outcome BothFinite Four (after p)
+  after_outcome D p P =
       let nutated : Outcome (BothWithin 1) Four (nutation_rule day2) = record {
         answers = nutation_answers day2;
         refuses = λ n e. absurd (nutation_refuses day2 D n e);
       } in
-      outcome-then (λ (n : Pair). from_point p n day2) (λ n N. from-outcome p n day2 P N D) (nutation_rule day2) nutated
+      outcome_then (λ (n : Pair). from_point p n day2) (λ n N. from_outcome p n day2 P N D) (nutation_rule day2) nutated
 
-  second-day : place_refusal asc dec day1 day2 ≡ 0 → day_refusal day2 ≡ 0
-  second-day none = second-accepted day1 day2 (place_accepted asc dec day1 day2 none).2
+  second_day : place_refusal asc dec day1 day2 ≡ 0 → day_refusal day2 ≡ 0
+  second_day none = second_accepted day1 day2 (place_accepted asc dec day1 day2 none).2
 
   outcome : place_refusal asc dec day1 day2 ≡ 0 → Outcome BothFinite FourSevenOrFourteen (chain_rule edition asc dec day1 day2)
   unfolding chain_rule
   outcome none =
       let precessed : Outcome IsPlace FourSevenOrFourteen (precess_eq_coords_rule edition asc dec day1 day2) = record {
-        answers = precess-eq-coords-answers edition asc dec day1 day2;
-        refuses = λ n e. inr (precess-eq-coords-refuses edition asc dec day1 day2 none n e);
+        answers = precess_eq_coords_answers edition asc dec day1 day2;
+        refuses = λ n e. inr (precess_eq_coords_refuses edition asc dec day1 day2 none n e);
       } in
-      outcome-then after
+      outcome_then after
       (λ p P.
-      let o = after-outcome (second-day none) p P in
+      let o = after_outcome (second_day none) p P in
       record { answers = o.answers; refuses = λ n e. inl (o.refuses n e) })
       (precess_eq_coords_rule edition asc dec day1 day2) precessed
 
   -- 14 or 7 in precession, or 4 for the precessed declination
-  pub chain-refuses : place_refusal asc dec day1 day2 ≡ 0 → (n : ℕ) → chain_rule edition asc dec day1 day2 ≡ refused n → FourSevenOrFourteen n
-  chain-refuses none = (outcome none).refuses
+  pub chain_refuses : place_refusal asc dec day1 day2 ≡ 0 → (n : ℕ) → chain_rule edition asc dec day1 day2 ≡ refused n → FourSevenOrFourteen n
+  chain_refuses none = (outcome none).refuses
 
   -- 14 exactly where precession meets it
-  pub chain-fourteen : place_refusal asc dec day1 day2 ≡ 0
+  pub chain_fourteen : place_refusal asc dec day1 day2 ≡ 0
       → chain_rule edition asc dec day1 day2 ≡ refused 14 ↔ T (no_direction asc dec (eq_precession_of edition day1 day2))
   unfolding chain_rule
-  chain-fourteen none =
+  chain_fourteen none =
       Iff·trans
       (fourteen_then (precess_eq_coords_rule edition asc dec day1 day2) after
-      (λ p i e. not-four ((after-outcome (second-day none) p (precess-eq-coords-answers edition asc dec day1 day2 p i)).refuses 14 e)))
-      (precess-eq-coords-fourteen edition asc dec day1 day2 none)
+      (λ p i e. not_four ((after_outcome (second_day none) p (precess_eq_coords_answers edition asc dec day1 day2 p i)).refuses 14 e)))
+      (precess_eq_coords_fourteen edition asc dec day1 day2 none)
     where
-      not-four : ◌≡◌ {A = ℕ} 14 4 → ⊥
-      not-four h = omega arith
+      not_four : ◌≡◌ {A = ℕ} 14 4 → ⊥
+      not_four h = omega arith
 
-  pub chain-finite : (v : Pair) → chain_rule edition asc dec day1 day2 ≡ answered v → BothFinite v
+  pub chain_finite : (v : Pair) → chain_rule edition asc dec day1 day2 ≡ answered v → BothFinite v
   unfolding chain_rule
-  chain-finite v e =
+  chain_finite v e =
       let n = place_refusal asc dec day1 day2 in
       let work = precessed_in asc dec (eq_precession_of edition day1 day2) in
       let none = (answered_unless n (then work after) v (sym (then_unless n work after) ∙ e)).0 in

@@ -24,85 +24,85 @@ use Rattle.quantity.specs.laws.Steps.{refused_not_answered}
 use Rattle.quantity.specs.laws.Accepted.{number_accepted}
 use Rattle.helpers.specs.rules.Angle.{seconds_of_degree, degrees_of_hour, arc, hour_arc, deg_frm_dms_rule, deg_frm_hms_rule, degree, radians_of, to_radians_rule}
 use Rattle.domain_accepted.specs.notions.Outcome.{Never}
-use Rattle.domain_accepted.specs.laws.Outcome.{outcome-answered, rule-answers}
+use Rattle.domain_accepted.specs.laws.Outcome.{outcome_answered, rule_answers}
 use Rattle.domain.specs.notions.Answers.{FiniteDegrees, FiniteRadians}
 
 -- ---- a number is refused only where it is not finite, and by 1
 
 refused_number : {A : Type 0} (x : Float) (a : A) (n : ℕ) → unless (number_refusal x) (answered a) ≡ refused n
     → (is_finite x ≡ false) × (n ≡ 1)
-refused_number {A} x a n e = by-case (is_finite x) e
+refused_number {A} x a n e = by_case (is_finite x) e
   where
-    by-case : (b : Bool) → unless (cond b 0 1) (answered a) ≡ refused n → (b ≡ false) × (n ≡ 1)
-    by-case true e = absurd (refused_not_answered (sym e))
-    by-case false e = (refl, cc)
+    by_case : (b : Bool) → unless (cond b 0 1) (answered a) ≡ refused n → (b ≡ false) × (n ≡ 1)
+    by_case true e = absurd (refused_not_answered (sym e))
+    by_case false e = (refl, cc)
 
 -- ---- the conversions: every finite double x is answered, by a finite number
 
 module _ (x : Float) where
   module _ (F : T (fits binary64 x)) where
-    arc-finite : Finite x → Finite (arc x)
+    arc_finite : Finite x → Finite (arc x)
     unfolding is_finite le neg div of_bits
-    arc-finite p = (bounded binary64 (neg greatest) greatest (known (double_between x F p) ⧄ con seconds_of_degree) tt).finite
+    arc_finite p = (bounded binary64 (neg greatest) greatest (known (double_between x F p) ⧄ con seconds_of_degree) tt).finite
 
-    hour-arc-finite : Finite x → Finite (hour_arc x)
+    hour_arc_finite : Finite x → Finite (hour_arc x)
     unfolding is_finite le neg mul div of_bits
-    hour-arc-finite p =
+    hour_arc_finite p =
         (bounded binary64 (neg greatest) greatest (con degrees_of_hour ⊠ (known (double_between x F p) ⧄ con seconds_of_degree)) tt).finite
 
-    pub deg-frm-dms-finite : (v : Deg) → deg_frm_dms_rule x ≡ answered v → Finite v.0
-    deg-frm-dms-finite v answer =
-        rule-answers {P = λ (v : Deg). Finite v.0} {Q = Never} (number_refusal x) (answered (deg (arc x)))
-        (λ none. outcome-answered (deg (arc x)) (arc-finite (number_accepted x none))) v answer
+    pub deg_frm_dms_finite : (v : Deg) → deg_frm_dms_rule x ≡ answered v → Finite v.0
+    deg_frm_dms_finite v answer =
+        rule_answers {P = λ (v : Deg). Finite v.0} {Q = Never} (number_refusal x) (answered (deg (arc x)))
+        (λ none. outcome_answered (deg (arc x)) (arc_finite (number_accepted x none))) v answer
 
-    pub deg-frm-hms-finite : (v : Deg) → deg_frm_hms_rule x ≡ answered v → Finite v.0
-    deg-frm-hms-finite v answer =
-        rule-answers {P = λ (v : Deg). Finite v.0} {Q = Never} (number_refusal x) (answered (deg (hour_arc x)))
-        (λ none. outcome-answered (deg (hour_arc x)) (hour-arc-finite (number_accepted x none))) v answer
+    pub deg_frm_hms_finite : (v : Deg) → deg_frm_hms_rule x ≡ answered v → Finite v.0
+    deg_frm_hms_finite v answer =
+        rule_answers {P = λ (v : Deg). Finite v.0} {Q = Never} (number_refusal x) (answered (deg (hour_arc x)))
+        (λ none. outcome_answered (deg (hour_arc x)) (hour_arc_finite (number_accepted x none))) v answer
 
-  pub deg-frm-dms-refuses : (n : ℕ) → deg_frm_dms_rule x ≡ refused n → (is_finite x ≡ false) × (n ≡ 1)
-  deg-frm-dms-refuses n e = refused_number x (deg (arc x)) n e
+  pub deg_frm_dms_refuses : (n : ℕ) → deg_frm_dms_rule x ≡ refused n → (is_finite x ≡ false) × (n ≡ 1)
+  deg_frm_dms_refuses n e = refused_number x (deg (arc x)) n e
 
-  pub deg-frm-hms-refuses : (n : ℕ) → deg_frm_hms_rule x ≡ refused n → (is_finite x ≡ false) × (n ≡ 1)
-  deg-frm-hms-refuses n e = refused_number x (deg (hour_arc x)) n e
+  pub deg_frm_hms_refuses : (n : ℕ) → deg_frm_hms_rule x ≡ refused n → (is_finite x ≡ false) × (n ≡ 1)
+  deg_frm_hms_refuses n e = refused_number x (deg (hour_arc x)) n e
 
 module _ (x : Deg) where
   module _ (F : T (fits binary64 x.0)) where
-    radians-finite : Finite x.0 → Finite (radians_of x).0
+    radians_finite : Finite x.0 → Finite (radians_of x).0
     unfolding is_finite le neg mul of_bits
-    radians-finite p = (bounded binary64 (neg greatest) greatest (known (double_between x.0 F p) ⊠ con degree) tt).finite
+    radians_finite p = (bounded binary64 (neg greatest) greatest (known (double_between x.0 F p) ⊠ con degree) tt).finite
 
-    pub to-radians-finite : (v : Rad) → to_radians_rule x ≡ answered v → Finite v.0
-    to-radians-finite v answer =
-        rule-answers {P = λ (v : Rad). Finite v.0} {Q = Never} (number_refusal x.0) (answered (radians_of x))
-        (λ none. outcome-answered (radians_of x) (radians-finite (number_accepted x.0 none))) v answer
+    pub to_radians_finite : (v : Rad) → to_radians_rule x ≡ answered v → Finite v.0
+    to_radians_finite v answer =
+        rule_answers {P = λ (v : Rad). Finite v.0} {Q = Never} (number_refusal x.0) (answered (radians_of x))
+        (λ none. outcome_answered (radians_of x) (radians_finite (number_accepted x.0 none))) v answer
 
-  pub to-radians-refuses : (n : ℕ) → to_radians_rule x ≡ refused n → (is_finite x.0 ≡ false) × (n ≡ 1)
-  to-radians-refuses n e = refused_number x.0 (radians_of x) n e
+  pub to_radians_refuses : (n : ℕ) → to_radians_rule x ≡ refused n → (is_finite x.0 ≡ false) × (n ≡ 1)
+  to_radians_refuses n e = refused_number x.0 (radians_of x) n e
 
 -- ---- of calls: r is an answer that meets the contract of the function, x an f64
 
 module _ (x : Float) (F : T (fits binary64 x)) where
-  pub deg-frm-dms-call : (r : Degrees) → shown_degrees r ≡ deg_frm_dms_rule x → FiniteDegrees r
-  deg-frm-dms-call (degrees.Are v) meets = deg-frm-dms-finite x F v (sym meets)
-  deg-frm-dms-call (degrees.Refused n) meets = (deg-frm-dms-refuses x n (sym meets)).1
+  pub deg_frm_dms_call : (r : Degrees) → shown_degrees r ≡ deg_frm_dms_rule x → FiniteDegrees r
+  deg_frm_dms_call (degrees.Are v) meets = deg_frm_dms_finite x F v (sym meets)
+  deg_frm_dms_call (degrees.Refused n) meets = (deg_frm_dms_refuses x n (sym meets)).1
 
-  pub deg-frm-hms-call : (r : Degrees) → shown_degrees r ≡ deg_frm_hms_rule x → FiniteDegrees r
-  deg-frm-hms-call (degrees.Are v) meets = deg-frm-hms-finite x F v (sym meets)
-  deg-frm-hms-call (degrees.Refused n) meets = (deg-frm-hms-refuses x n (sym meets)).1
+  pub deg_frm_hms_call : (r : Degrees) → shown_degrees r ≡ deg_frm_hms_rule x → FiniteDegrees r
+  deg_frm_hms_call (degrees.Are v) meets = deg_frm_hms_finite x F v (sym meets)
+  deg_frm_hms_call (degrees.Refused n) meets = (deg_frm_hms_refuses x n (sym meets)).1
 
 pub to_radians_call : (x : Deg) → T (fits binary64 x.0) → (r : Radians) → shown_radians r ≡ to_radians_rule x → FiniteRadians r
-to_radians_call x F (radians.Are v) meets = to-radians-finite x F v (sym meets)
-to_radians_call x F (radians.Refused n) meets = (to-radians-refuses x n (sym meets)).1
+to_radians_call x F (radians.Are v) meets = to_radians_finite x F v (sym meets)
+to_radians_call x F (radians.Refused n) meets = (to_radians_refuses x n (sym meets)).1
 
 -- ---- of bit patterns, with no premise: `bits n` fits for every n, and each double is one of them
 
 module _ (n : ℕ) where
-  pub deg-frm-dms-finite-of-bits : (v : Deg) → deg_frm_dms_rule (bits n) ≡ answered v → Finite v.0
-  deg-frm-dms-finite-of-bits = deg-frm-dms-finite (bits n) (of_bits-fits binary64 n)
+  pub deg_frm_dms_finite_of_bits : (v : Deg) → deg_frm_dms_rule (bits n) ≡ answered v → Finite v.0
+  deg_frm_dms_finite_of_bits = deg_frm_dms_finite (bits n) (of_bits-fits binary64 n)
 
-  pub deg-frm-hms-finite-of-bits : (v : Deg) → deg_frm_hms_rule (bits n) ≡ answered v → Finite v.0
-  deg-frm-hms-finite-of-bits = deg-frm-hms-finite (bits n) (of_bits-fits binary64 n)
+  pub deg_frm_hms_finite_of_bits : (v : Deg) → deg_frm_hms_rule (bits n) ≡ answered v → Finite v.0
+  deg_frm_hms_finite_of_bits = deg_frm_hms_finite (bits n) (of_bits-fits binary64 n)
 
-  pub to-radians-finite-of-bits : (v : Rad) → to_radians_rule (deg (bits n)) ≡ answered v → Finite v.0
-  to-radians-finite-of-bits = to-radians-finite (deg (bits n)) (of_bits-fits binary64 n)
+  pub to_radians_finite_of_bits : (v : Rad) → to_radians_rule (deg (bits n)) ≡ answered v → Finite v.0
+  to_radians_finite_of_bits = to_radians_finite (deg (bits n)) (of_bits-fits binary64 n)

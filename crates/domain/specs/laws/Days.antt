@@ -22,39 +22,39 @@ use Rattle.precess_angles.specs.rules.Numbers.{n2415020·3135, n36524·2199}
 use Rattle.precess_angles.specs.rules.Days.{span_of, days_refusal, place_refusal}
 use Rattle.precess_angles.specs.rules.Fk4.{fk4_century, fk4_span}
 use Rattle.star_place.specs.rules.Place.{days_of_year, years_between}
-use Rattle.star_place.specs.laws.Days.{finite_day, from-epoch, day-between}
+use Rattle.star_place.specs.laws.Days.{finite_day, from_epoch, day_between}
 use Rattle.domain_accepted.specs.notions.Within.{Within}
 use Rattle.domain_accepted.specs.laws.Neighbours.{neighbours}
 
 module _ (day : Float) (none : day_refusal day ≡ 0) where
-  pub century-within : Within 20 (century_of day)
+  pub century_within : Within 20 (century_of day)
   unfolding is_finite le neg div of_bits round
-  century-within = bounded binary64 (neg (over 20 1)) (over 20 1) (known (from-epoch day none) ⧄ con days_of_century) tt
+  century_within = bounded binary64 (neg (over 20 1)) (over 20 1) (known (from_epoch day none) ⧄ con days_of_century) tt
 
-  pub fk4-century-within : Within 41 (fk4_century day)
+  pub fk4_century_within : Within 41 (fk4_century day)
   unfolding is_finite le neg add sub div of_bits round
-  fk4-century-within = bounded binary64 (neg (over 41 1)) (over 41 1) ((known (day-between day none) ⊟ con n2415020·3135) ⧄ con n36524·2199) tt
+  fk4_century_within = bounded binary64 (neg (over 41 1)) (over 41 1) ((known (day_between day none) ⊟ con n2415020·3135) ⧄ con n36524·2199) tt
 
 module _ (day1 day2 : Float) (none : days_refusal day1 day2 ≡ 0) where
-  pub first-accepted : day_refusal day1 ≡ 0
+  pub first_accepted : day_refusal day1 ≡ 0
   unfolding days_refusal
-  first-accepted = (lower_none (day_refusal day1) (day_refusal day2) none).0
+  first_accepted = (lower_none (day_refusal day1) (day_refusal day2) none).0
 
-  pub second-accepted : day_refusal day2 ≡ 0
+  pub second_accepted : day_refusal day2 ≡ 0
   unfolding days_refusal
-  second-accepted = (lower_none (day_refusal day1) (day_refusal day2) none).1
+  second_accepted = (lower_none (day_refusal day1) (day_refusal day2) none).1
 
-  pub span-within : Within 41 (span_of day1 day2)
+  pub span_within : Within 41 (span_of day1 day2)
   unfolding is_finite le neg add sub div of_bits round
-  span-within =
+  span_within =
       bounded binary64 (neg (over 41 1)) (over 41 1)
-      ((known (day-between day2 second-accepted) ⊟ known (day-between day1 first-accepted)) ⧄ con days_of_century) tt
+      ((known (day_between day2 second_accepted) ⊟ known (day_between day1 first_accepted)) ⧄ con days_of_century) tt
 
-  pub fk4-span-within : Within 41 (fk4_span day1 day2)
+  pub fk4_span_within : Within 41 (fk4_span day1 day2)
   unfolding is_finite le neg add sub div of_bits round
-  fk4-span-within =
+  fk4_span_within =
       bounded binary64 (neg (over 41 1)) (over 41 1)
-      ((known (day-between day2 second-accepted) ⊟ known (day-between day1 first-accepted)) ⧄ con n36524·2199) tt
+      ((known (day_between day2 second_accepted) ⊟ known (day_between day1 first_accepted)) ⧄ con n36524·2199) tt
 
 -- ---- the days' own ends, and the doubles before the first and after the last, which are refused
 
@@ -75,12 +75,12 @@ module _ (day : Float) (F : T (fits binary64 day)) (none : day_refusal day ≡ 0
   unfolding is_finite le neg add sub of_bits round
   not_after h =
       le_trans (after_last ⊖ epoch) (day ⊖ epoch) days_around
-      (sub_mono binary64 after_last day epoch epoch tt (finite_day day none) tt tt h (le_refl epoch tt)) (from-epoch day none).to
+      (sub_mono binary64 after_last day epoch epoch tt (finite_day day none) tt tt h (le_refl epoch tt)) (from_epoch day none).to
 
-  not-before : day ≼ before_first → ⊥
+  not_before : day ≼ before_first → ⊥
   unfolding is_finite le neg add sub of_bits round
-  not-before h =
-      le_trans (neg days_around) (day ⊖ epoch) (before_first ⊖ epoch) (from-epoch day none).from
+  not_before h =
+      le_trans (neg days_around) (day ⊖ epoch) (before_first ⊖ epoch) (from_epoch day none).from
       (sub_mono binary64 day before_first epoch epoch (finite_day day none) tt tt tt h (le_refl epoch tt))
 
   pub day_exact : Between first_day last_day day
@@ -90,7 +90,7 @@ module _ (day : Float) (F : T (fits binary64 day)) (none : day_refusal day ≡ 0
       let from = neighbours 31 (1721045 * 2 ^ 32 - 1) (omega arith) day F finite in
       let to = neighbours 30 (3182045 * 2 ^ 31) (omega arith) day F finite in
       between tt tt
-      (elim from [ inl h ↦ absurd (not-before h) | inr h ↦ le_trans first_day (grid binary64 31 (1721045 * 2 ^ 32)) day tt h ])
+      (elim from [ inl h ↦ absurd (not_before h) | inr h ↦ le_trans first_day (grid binary64 31 (1721045 * 2 ^ 32)) day tt h ])
       (elim to [ inl h ↦ le_trans day (grid binary64 30 (3182045 * 2 ^ 31)) last_day h tt | inr h ↦ absurd (not_after h) ])
 
 pub years_exact : (day1 day2 : Float) → T (fits binary64 day1) → T (fits binary64 day2) → days_refusal day1 day2 ≡ 0
@@ -98,7 +98,7 @@ pub years_exact : (day1 day2 : Float) → T (fits binary64 day1) → T (fits bin
 unfolding is_finite le neg add sub div of_bits round
 years_exact day1 day2 F G none =
     bounded binary64 (neg (over 4000 1)) (over 4000 1)
-    ((known (day_exact day2 G (second-accepted day1 day2 none)) ⊟ known (day_exact day1 F (first-accepted day1 day2 none))) ⧄ con days_of_year) tt
+    ((known (day_exact day2 G (second_accepted day1 day2 none)) ⊟ known (day_exact day1 F (first_accepted day1 day2 none))) ⧄ con days_of_year) tt
 
 -- a place with two days
 pub place_accepted : (long lat : Rad) (day1 day2 : Float) → place_refusal long lat day1 day2 ≡ 0

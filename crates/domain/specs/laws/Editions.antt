@@ -27,14 +27,14 @@ use Rattle.precess_angles.specs.rules.Days.{span_of, place_refusal}
 use Rattle.precess_angles.specs.rules.Equatorial.{eq_zeta, eq_theta, eq_angles_of, precession_by, eq_precession_of}
 use Rattle.precess_angles.specs.notions.Editions.{zeta_published, theta_published, angles_by}
 use Rattle.precess_angles.specs.notions.Computed.{computed}
-use Rattle.precess_angles.specs.laws.Editions.{eq-angles-published}
+use Rattle.precess_angles.specs.laws.Editions.{eq_angles_published}
 use Rattle.precess.specs.rules.Equatorial.{precessed_in, precess_eq_coords_rule}
 use Rattle.precess.specs.notions.Editions.{precessed_by}
 use Rattle.nutation.specs.rules.Day.{nutation_rule}
 use Rattle.chain.specs.rules.Chain.{from_point, chain_rule}
 use Rattle.domain_accepted.specs.notions.Within.{Within}
 use Rattle.domain.specs.notions.Editions.{theta_printed}
-use Rattle.domain.specs.laws.Days.{century-within, first-accepted, place_accepted}
+use Rattle.domain.specs.laws.Days.{century_within, first_accepted, place_accepted}
 
 -- ---- the third angle
 
@@ -60,14 +60,14 @@ theta_printed_lem c t C =
 -- bit for bit, of every accepted day
 pub theta_as_printed : (day t : Float) → day_refusal day ≡ 0 → eq_theta Published (century_of day) t ≡ theta_printed (century_of day) t
 unfolding eq_theta
-theta_as_printed day t none = theta_printed_lem (century_of day) t (century-within day none)
+theta_as_printed day t none = theta_printed_lem (century_of day) t (century_within day none)
 
 -- so that all three angles are Meeus's as printed
 pub eq_angles_as_printed : (day1 day2 : Float) → day_refusal day1 ≡ 0 → eq_angles_of Published day1 day2 ≡ angles_by zeta_published theta_printed day1 day2
 eq_angles_as_printed day1 day2 none =
     let t = span_of day1 day2 in
-    eq-angles-published day1 day2
-    ∙ ap (λ (theta : Deg). angles_by zeta_published (λ (c u : Float). theta) day1 day2) (theta_printed_lem (century_of day1) t (century-within day1 none))
+    eq_angles_published day1 day2
+    ∙ ap (λ (theta : Deg). angles_by zeta_published (λ (c u : Float). theta) day1 day2) (theta_printed_lem (century_of day1) t (century_within day1 none))
 
 -- and so is the rule, of every place and any two days
 pub precess_eq_coords_as_printed : (asc dec : Rad) (day1 day2 : Float)
@@ -76,7 +76,7 @@ unfolding eq_precession_of
 precess_eq_coords_as_printed asc dec day1 day2 =
     let precessed : EqAngles → Answer Pair = λ (a : EqAngles). precessed_in asc dec (precession_by a) in
     unless_cong (place_refusal asc dec day1 day2) (precessed (eq_angles_of Published day1 day2)) (precessed (angles_by zeta_published theta_printed day1 day2))
-    (λ none. ap precessed (eq_angles_as_printed day1 day2 (first-accepted day1 day2 (place_accepted asc dec day1 day2 none).2)))
+    (λ none. ap precessed (eq_angles_as_printed day1 day2 (first_accepted day1 day2 (place_accepted asc dec day1 day2 none).2)))
 
 -- ---- from 2451545.0, where T is zero
 

@@ -16,8 +16,8 @@ use Rattle.elementary.specs.rules.Sine.{farthest_alone, alone_refusal, sine_of, 
 use Rattle.elementary.specs.laws.Sine.{sine_finite, cosine_finite, tangent_finite}
 use Rattle.elementary_arc.specs.rules.Arctangent.{arctangent_of, both_zero, arctangent_in, arctangent_refusal, arctangent_rule}
 use Rattle.elementary_arc.specs.rules.Arcsine.{arcsine_in, arcsine_rule}
-use Rattle.elementary_arc.specs.laws.Arctangent.{arctangent_refuses_fourteen, arctangent-in-finite}
-use Rattle.elementary_arc.specs.laws.Arcsine.{arcsine-finite}
+use Rattle.elementary_arc.specs.laws.Arctangent.{arctangent_refuses_fourteen, arctangent_in_finite}
+use Rattle.elementary_arc.specs.laws.Arcsine.{arcsine_finite}
 
 -- ---- sine, cosine, tangent
 
@@ -57,11 +57,11 @@ arctangent_alone_refuses y x none n e =
 pub fourteen_of_zeros : {A : Type 0} (y x : Float) (work : Answer Rad → Answer A) → work (refused 14) ≡ refused 14
     → ((v : Rad) → work (answered v) ≢ refused 14) → work (arctangent_in y x) ≡ refused 14 ↔ T (both_zero y x)
 unfolding arctangent_in
-fourteen_of_zeros y x work kept none = by-case (both_zero y x)
+fourteen_of_zeros y x work kept none = by_case (both_zero y x)
   where
-    by-case : (b : Bool) → work (cond b (refused 14) (answered (arctangent_of y x))) ≡ refused 14 ↔ T b
-    by-case true = (λ e. tt, λ t. kept)
-    by-case false = (λ e. absurd (none (arctangent_of y x) e), λ t. absurd t)
+    by_case : (b : Bool) → work (cond b (refused 14) (answered (arctangent_of y x))) ≡ refused 14 ↔ T b
+    by_case true = (λ e. tt, λ t. kept)
+    by_case false = (λ e. absurd (none (arctangent_of y x) e), λ t. absurd t)
 
 -- the arctangent as the whole work, or its angle changed
 pub fourteen_at_end : (y x : Float) → arctangent_in y x ≡ refused 14 ↔ T (both_zero y x)
@@ -83,10 +83,10 @@ unfolding arctangent_rule
 arctangent_answers_finite y x v e =
     let a = answered_unless (arctangent_refusal y x) (arctangent_in y x) v e in
     let n = lower_none (number_refusal y) (number_refusal x) a.0 in
-    arctangent-in-finite y x v a.1 (number_accepted y n.0) (number_accepted x n.1)
+    arctangent_in_finite y x v a.1 (number_accepted y n.0) (number_accepted x n.1)
 
 pub arcsine_answers_finite : (s : Float) (v : Rad) → arcsine_rule s ≡ answered v → Finite v.0
 unfolding arcsine_rule
 arcsine_answers_finite s v e =
     let a = answered_unless (number_refusal s) (arcsine_in s) v e in
-    arcsine-finite s (number_accepted s a.0) v a.1
+    arcsine_finite s (number_accepted s a.0) v a.1

@@ -31,80 +31,80 @@ use Rattle.precess_angles.specs.rules.Days.{span_of, days_refusal, place_refusal
 use Rattle.precess_angles.specs.rules.Equatorial.{eq_xi, eq_zeta, eq_theta, eq_angles_of, precession_by, eq_precession_of}
 use Rattle.precess_angles.specs.rules.Fk4.{fk4_century, fk4_span, fk4_xi, fk4_zeta, fk4_theta, degrees_as_radians, fk4_angle, fk4_angles_of, fk4_precession_of}
 use Rattle.precess.specs.rules.Equatorial.{arcs_of, precessed_from, precessed_in, precess_eq_coords_rule, precess_eq_coords_FK5_rule}
-use Rattle.domain_accepted.specs.laws.Accepted.{angle-between, latitude-sine, latitude-cosine}
+use Rattle.domain_accepted.specs.laws.Accepted.{angle_between, latitude_sine, latitude_cosine}
 use Rattle.domain_accepted.specs.notions.Outcome.{Outcome, SevenOrFourteen}
 use Rattle.domain_accepted.specs.notions.Within.{Within, IsPlace, BothFinite}
 use Rattle.domain.specs.notions.Precession.{EqAnglesNear, EqPrecessionNear, up_of, across_of, no_direction}
-use Rattle.domain_accepted.specs.laws.Outcome.{outcome-with, outcome_both, rule-answers, rule-refuses}
-use Rattle.domain_accepted.specs.laws.Elementary.{arctangent_outcome, arcsine-outcome}
+use Rattle.domain_accepted.specs.laws.Outcome.{outcome_with, outcome_both, rule_answers, rule_refuses}
+use Rattle.domain_accepted.specs.laws.Elementary.{arctangent_outcome, arcsine_outcome}
 use Rattle.domain_accepted.specs.laws.Near.{within, near_far, near_sine, near_cosine}
 use Rattle.domain.specs.laws.Elementary.{fourteen_of_zeros, fourteen_accepted}
-use Rattle.domain.specs.laws.Days.{century-within, span-within, fk4-century-within, fk4-span-within, first-accepted, place_accepted}
+use Rattle.domain.specs.laws.Days.{century_within, span_within, fk4_century_within, fk4_span_within, first_accepted, place_accepted}
 
 -- ---- the angles that two days fix
 
 module _ (c t : Float) (C : Within 20 c) (S : Within 41 t) where
-  abbrev sharedExpr : Expr
-  sharedExpr = known S ⊠ (con (arc n2306·2181) ⊞ known C ⊠ (con (arc n1·39656) ⊟ known C ⊠ con (arc n0·000139)))
+  abbrev shared_expr : Expr
+  shared_expr = known S ⊠ (con (arc n2306·2181) ⊞ known C ⊠ (con (arc n1·39656) ⊟ known C ⊠ con (arc n0·000139)))
 
-  xi-within : Within 1024 (radians_of (eq_xi c t)).0
+  xi_within : Within 1024 (radians_of (eq_xi c t)).0
   unfolding eq_xi is_finite le neg add sub mul div of_bits round
-  xi-within =
+  xi_within =
       within 1024
-      ((sharedExpr ⊞ known S ⊠ known S ⊠ ((con (arc n0·30188) ⊟ known C ⊠ con (arc n0·000344)) ⊞ known S ⊠ con (arc n0·017998))) ⊠ con degree) tt
+      ((shared_expr ⊞ known S ⊠ known S ⊠ ((con (arc n0·30188) ⊟ known C ⊠ con (arc n0·000344)) ⊞ known S ⊠ con (arc n0·017998))) ⊠ con degree) tt
 
   -- by what the editions have otherwise
-  abbrev zetaExpr : Expr → Expr
-  zetaExpr z = (sharedExpr ⊞ known S ⊠ known S ⊠ (z ⊞ known S ⊠ con (arc n0·018203))) ⊠ con degree
+  abbrev zeta_expr : Expr → Expr
+  zeta_expr z = (shared_expr ⊞ known S ⊠ known S ⊠ (z ⊞ known S ⊠ con (arc n0·018203))) ⊠ con degree
 
-  zeta-within : (e : Edition) → Within 32 (radians_of (eq_zeta e c t)).0
+  zeta_within : (e : Edition) → Within 32 (radians_of (eq_zeta e c t)).0
   unfolding eq_zeta is_finite le neg add sub mul div of_bits round
-  zeta-within Crate = within 32 (zetaExpr (con (arc n1·09468) ⊟ known C ⊠ con (arc n0·000066))) tt
-  zeta-within Published = within 32 (zetaExpr (con (arc n1·09468) ⊞ known C ⊠ con (arc n0·000066))) tt
+  zeta_within Crate = within 32 (zeta_expr (con (arc n1·09468) ⊟ known C ⊠ con (arc n0·000066))) tt
+  zeta_within Published = within 32 (zeta_expr (con (arc n1·09468) ⊞ known C ⊠ con (arc n0·000066))) tt
 
-  abbrev thetaExpr : Float → Expr
-  thetaExpr x =
+  abbrev theta_expr : Float → Expr
+  theta_expr x =
       let y = known C ⊠ con (arc n0·000217) in
       known S ⊠ (con (arc n2004·3109) ⊞ known C ⊠ (con x ⊟ y) ⊟ known S ⊠ ((con (arc n0·42665) ⊞ y) ⊞ known S ⊠ con (arc n0·041833))) ⊠ con degree
 
-  theta-within : (e : Edition) → Within 2048 (radians_of (eq_theta e c t)).0
+  theta_within : (e : Edition) → Within 2048 (radians_of (eq_theta e c t)).0
   unfolding eq_theta is_finite le neg add sub mul div of_bits round
-  theta-within Crate = within 2048 (thetaExpr (arc n0·8533)) tt
-  theta-within Published = within 2048 (thetaExpr (neg (arc n0·8533))) tt
+  theta_within Crate = within 2048 (theta_expr (arc n0·8533)) tt
+  theta_within Published = within 2048 (theta_expr (neg (arc n0·8533))) tt
 
 module _ (c t : Float) (C : Within 41 c) (S : Within 41 t) where
-  fk4-xi-within : Within 30 (fk4_xi c t).0
+  fk4_xi_within : Within 30 (fk4_xi c t).0
   unfolding fk4_xi is_finite le neg add sub mul div of_bits round
-  fk4-xi-within =
+  fk4_xi_within =
       within 30
       (known S ⊠ (con (arc n2304·25) ⊞ known C ⊠ con (arc n1·396) ⊞ known S ⊠ (con (arc n0·302) ⊞ known S ⊠ con (arc n0·018)))) tt
 
-  fk4-zeta-within : Within 32 (fk4_zeta (fk4_xi c t) t).0
+  fk4_zeta_within : Within 32 (fk4_zeta (fk4_xi c t) t).0
   unfolding fk4_zeta is_finite le neg add sub mul div of_bits round
-  fk4-zeta-within =
-      within 32 (known fk4-xi-within ⊞ known S ⊠ known S ⊠ (con (arc n0·791) ⊞ known S ⊠ con (arc n0·001))) tt
+  fk4_zeta_within =
+      within 32 (known fk4_xi_within ⊞ known S ⊠ known S ⊠ (con (arc n0·791) ⊞ known S ⊠ con (arc n0·001))) tt
 
-  fk4-theta-within : Within 2048 (fk4_theta c t).0
+  fk4_theta_within : Within 2048 (fk4_theta c t).0
   unfolding fk4_theta is_finite le neg add sub mul div of_bits round
-  fk4-theta-within =
+  fk4_theta_within =
       within 2048
       (known S ⊠ (con (arc n2004·682) ⊟ known C ⊠ con (arc n0·853) ⊟ known S ⊠ (con (arc n0·426) ⊞ known S ⊠ con (arc n0·042)))) tt
 
   -- each of them, taken for radians or converted
-  fk4-xi-near : (e : Edition) → Within 1024 (fk4_angle e (fk4_xi c t)).0
+  fk4_xi_near : (e : Edition) → Within 1024 (fk4_angle e (fk4_xi c t)).0
   unfolding fk4_angle degrees_as_radians is_finite le neg mul of_bits round
-  fk4-xi-near Crate = within 1024 (known fk4-xi-within) tt
-  fk4-xi-near Published = within 1024 (known fk4-xi-within ⊠ con degree) tt
+  fk4_xi_near Crate = within 1024 (known fk4_xi_within) tt
+  fk4_xi_near Published = within 1024 (known fk4_xi_within ⊠ con degree) tt
 
-  fk4-zeta-near : (e : Edition) → Within 32 (fk4_angle e (fk4_zeta (fk4_xi c t) t)).0
+  fk4_zeta_near : (e : Edition) → Within 32 (fk4_angle e (fk4_zeta (fk4_xi c t) t)).0
   unfolding fk4_angle degrees_as_radians is_finite le neg mul of_bits round
-  fk4-zeta-near Crate = fk4-zeta-within
-  fk4-zeta-near Published = within 32 (known fk4-zeta-within ⊠ con degree) tt
+  fk4_zeta_near Crate = fk4_zeta_within
+  fk4_zeta_near Published = within 32 (known fk4_zeta_within ⊠ con degree) tt
 
-  fk4-theta-near : (e : Edition) → Within 2048 (fk4_angle e (fk4_theta c t)).0
+  fk4_theta_near : (e : Edition) → Within 2048 (fk4_angle e (fk4_theta c t)).0
   unfolding fk4_angle degrees_as_radians is_finite le neg mul of_bits round
-  fk4-theta-near Crate = fk4-theta-within
-  fk4-theta-near Published = within 2048 (known fk4-theta-within ⊠ con degree) tt
+  fk4_theta_near Crate = fk4_theta_within
+  fk4_theta_near Published = within 2048 (known fk4_theta_within ⊠ con degree) tt
 
 precession_near : (a : EqAngles) → EqAnglesNear a → EqPrecessionNear (precession_by a)
 unfolding precession_by
@@ -112,77 +112,77 @@ precession_near a N = record { xi = N.xi; zeta = N.zeta; sine = near_sine a.thet
 
 module _ (e : Edition) (day1 day2 : Float) (none : days_refusal day1 day2 ≡ 0) where
   century : Within 20 (century_of day1)
-  century = century-within day1 (first-accepted day1 day2 none)
+  century = century_within day1 (first_accepted day1 day2 none)
 
   span : Within 41 (span_of day1 day2)
-  span = span-within day1 day2 none
+  span = span_within day1 day2 none
 
-  fk4-century : Within 41 (fk4_century day1)
-  fk4-century = fk4-century-within day1 (first-accepted day1 day2 none)
+  fk4_century_lem : Within 41 (fk4_century day1)
+  fk4_century_lem = fk4_century_within day1 (first_accepted day1 day2 none)
 
-  fk4-span : Within 41 (fk4_span day1 day2)
-  fk4-span = fk4-span-within day1 day2 none
+  fk4_span_lem : Within 41 (fk4_span day1 day2)
+  fk4_span_lem = fk4_span_within day1 day2 none
 
-  pub eq-angles-near : EqAnglesNear (eq_angles_of e day1 day2)
+  pub eq_angles_near : EqAnglesNear (eq_angles_of e day1 day2)
   unfolding eq_angles_of
-  eq-angles-near =
+  eq_angles_near =
       let c = century_of day1 in
       let t = span_of day1 day2 in
-      record { xi = xi-within c t century span; zeta = zeta-within c t century span e; theta = theta-within c t century span e }
+      record { xi = xi_within c t century span; zeta = zeta_within c t century span e; theta = theta_within c t century span e }
 
-  pub eq-precession-near : EqPrecessionNear (eq_precession_of e day1 day2)
+  pub eq_precession_near : EqPrecessionNear (eq_precession_of e day1 day2)
   unfolding eq_precession_of
-  eq-precession-near = precession_near (eq_angles_of e day1 day2) eq-angles-near
+  eq_precession_near = precession_near (eq_angles_of e day1 day2) eq_angles_near
 
-  pub fk4-precession-near : EqPrecessionNear (fk4_precession_of e day1 day2)
+  pub fk4_precession_near : EqPrecessionNear (fk4_precession_of e day1 day2)
   unfolding fk4_precession_of fk4_angles_of
-  fk4-precession-near =
+  fk4_precession_near =
       let c = fk4_century day1 in
       let t = fk4_span day1 day2 in
       precession_near (fk4_angles_of e day1 day2)
       (record {
-        xi = fk4-xi-near c t fk4-century fk4-span e;
-        zeta = fk4-zeta-near c t fk4-century fk4-span e;
-        theta = fk4-theta-near c t fk4-century fk4-span e;
+        xi = fk4_xi_near c t fk4_century_lem fk4_span_lem e;
+        zeta = fk4_zeta_near c t fk4_century_lem fk4_span_lem e;
+        theta = fk4_theta_near c t fk4_century_lem fk4_span_lem e;
       })
 
   -- the third angle goes into a sine
-  pub theta-far : size (radians_of (eq_theta e (century_of day1) (span_of day1 day2))).0 ≼ farthest_alone
-  theta-far =
+  pub theta_far : size (radians_of (eq_theta e (century_of day1) (span_of day1 day2))).0 ≼ farthest_alone
+  theta_far =
       near_far (radians_of (eq_theta e (century_of day1) (span_of day1 day2))).0
-      (theta-within (century_of day1) (span_of day1 day2) century span e)
+      (theta_within (century_of day1) (span_of day1 day2) century span e)
 
-  pub fk4-theta-far : size (fk4_angle e (fk4_theta (fk4_century day1) (fk4_span day1 day2))).0 ≼ farthest_alone
-  fk4-theta-far =
+  pub fk4_theta_far : size (fk4_angle e (fk4_theta (fk4_century day1) (fk4_span day1 day2))).0 ≼ farthest_alone
+  fk4_theta_far =
       near_far (fk4_angle e (fk4_theta (fk4_century day1) (fk4_span day1 day2))).0
-      (fk4-theta-near (fk4_century day1) (fk4_span day1 day2) fk4-century fk4-span e)
+      (fk4_theta_near (fk4_century day1) (fk4_span day1 day2) fk4_century_lem fk4_span_lem e)
 
 -- ---- a place after precession
 
 module _ (asc dec : Rad) (precession : EqPrecession) (A : angle_refusal asc ≡ 0) (D : latitude_refusal dec ≡ 0) (N : EqPrecessionNear precession) where
   -- the right ascension with xi added goes into a sine
-  argument-within : Within 2048 (asc.0 ⊕ precession.xi.0)
+  argument_within : Within 2048 (asc.0 ⊕ precession.xi.0)
   unfolding is_finite le neg add of_bits round
-  argument-within = within 2048 (known (angle-between asc A) ⊞ known N.xi) tt
+  argument_within = within 2048 (known (angle_between asc A) ⊞ known N.xi) tt
 
-  pub precessed-far : size (asc.0 ⊕ precession.xi.0) ≼ farthest_alone
-  precessed-far = near_far (asc.0 ⊕ precession.xi.0) argument-within
+  pub precessed_far : size (asc.0 ⊕ precession.xi.0) ≼ farthest_alone
+  precessed_far = near_far (asc.0 ⊕ precession.xi.0) argument_within
 
-  pub precessed-outcome : Outcome IsPlace SevenOrFourteen (precessed_in asc dec precession)
+  pub precessed_outcome : Outcome IsPlace SevenOrFourteen (precessed_in asc dec precession)
   unfolding precessed_in direction_of precessed_from arcs_of plus is_finite le neg add sub mul of_bits round
-  precessed-outcome =
+  precessed_outcome =
       let a = rad (asc.0 ⊕ precession.xi.0) in
-      let sa = known (near_sine a argument-within) in
-      let ca = known (near_cosine a argument-within) in
-      let sd = known (latitude-sine dec D) in
-      let cd = known (latitude-cosine dec D) in
+      let sa = known (near_sine a argument_within) in
+      let ca = known (near_cosine a argument_within) in
+      let sd = known (latitude_sine dec D) in
+      let cd = known (latitude_cosine dec D) in
       let y = up_of asc dec precession in
       let x = across_of asc dec precession in
       let s = precession.sine ⊗ cosine_of dec ⊗ cosine_of a ⊕ precession.cosine ⊗ sine_of dec in
       outcome_both (Within 64) (Between (neg HALF) HALF) (plus (arctangent_in y x) precession.zeta) (arcsine_in s)
-      (outcome-with (λ (v : Rad). rad (v.0 ⊕ precession.zeta.0)) (λ v i. within 64 (known i ⊞ known N.zeta) tt) (arctangent_in y x)
+      (outcome_with (λ (v : Rad). rad (v.0 ⊕ precession.zeta.0)) (λ v i. within 64 (known i ⊞ known N.zeta) tt) (arctangent_in y x)
       (arctangent_outcome (inr refl) y x (within 2 (cd ⊠ sa) tt).finite (within 4 (known N.cosine ⊠ cd ⊠ ca ⊟ known N.sine ⊠ sd) tt).finite))
-      (arcsine-outcome (inl refl) s (within 4 (known N.sine ⊠ cd ⊠ ca ⊞ known N.cosine ⊠ sd) tt).finite)
+      (arcsine_outcome (inl refl) s (within 4 (known N.sine ⊠ cd ⊠ ca ⊞ known N.cosine ⊠ sd) tt).finite)
 
 precessed_fourteen : (asc dec : Rad) (precession : EqPrecession) → precessed_in asc dec precession ≡ refused 14 ↔ T (no_direction asc dec precession)
 unfolding precessed_in direction_of precessed_from arcs_of plus both then
@@ -196,47 +196,47 @@ precessed_fourteen asc dec precession =
 -- ---- the two functions
 
 module _ (edition : Edition) (asc dec : Rad) (day1 day2 : Float) where
-  eq-outcome : place_refusal asc dec day1 day2 ≡ 0 → Outcome IsPlace SevenOrFourteen (precessed_in asc dec (eq_precession_of edition day1 day2))
-  eq-outcome e =
+  eq_outcome : place_refusal asc dec day1 day2 ≡ 0 → Outcome IsPlace SevenOrFourteen (precessed_in asc dec (eq_precession_of edition day1 day2))
+  eq_outcome e =
       let n = place_accepted asc dec day1 day2 e in
-      precessed-outcome asc dec (eq_precession_of edition day1 day2) n.0 n.1 (eq-precession-near edition day1 day2 n.2)
+      precessed_outcome asc dec (eq_precession_of edition day1 day2) n.0 n.1 (eq_precession_near edition day1 day2 n.2)
 
-  fk4-outcome : place_refusal asc dec day1 day2 ≡ 0 → Outcome IsPlace SevenOrFourteen (precessed_in asc dec (fk4_precession_of edition day1 day2))
-  fk4-outcome e =
+  fk4_outcome : place_refusal asc dec day1 day2 ≡ 0 → Outcome IsPlace SevenOrFourteen (precessed_in asc dec (fk4_precession_of edition day1 day2))
+  fk4_outcome e =
       let n = place_accepted asc dec day1 day2 e in
-      precessed-outcome asc dec (fk4_precession_of edition day1 day2) n.0 n.1 (fk4-precession-near edition day1 day2 n.2)
+      precessed_outcome asc dec (fk4_precession_of edition day1 day2) n.0 n.1 (fk4_precession_near edition day1 day2 n.2)
 
-  pub precess-eq-coords-answers : (p : Pair) → precess_eq_coords_rule edition asc dec day1 day2 ≡ answered p → IsPlace p
-  precess-eq-coords-answers = rule-answers (place_refusal asc dec day1 day2) (precessed_in asc dec (eq_precession_of edition day1 day2)) eq-outcome
+  pub precess_eq_coords_answers : (p : Pair) → precess_eq_coords_rule edition asc dec day1 day2 ≡ answered p → IsPlace p
+  precess_eq_coords_answers = rule_answers (place_refusal asc dec day1 day2) (precessed_in asc dec (eq_precession_of edition day1 day2)) eq_outcome
 
-  pub precess-eq-coords-finite : (p : Pair) → precess_eq_coords_rule edition asc dec day1 day2 ≡ answered p → BothFinite p
-  precess-eq-coords-finite p e =
-      let i = precess-eq-coords-answers p e in
+  pub precess_eq_coords_finite : (p : Pair) → precess_eq_coords_rule edition asc dec day1 day2 ≡ answered p → BothFinite p
+  precess_eq_coords_finite p e =
+      let i = precess_eq_coords_answers p e in
       (i.0.finite, i.1.finite)
 
-  pub precess-eq-coords-refuses : place_refusal asc dec day1 day2 ≡ 0 → (n : ℕ) → precess_eq_coords_rule edition asc dec day1 day2 ≡ refused n → SevenOrFourteen n
-  precess-eq-coords-refuses = rule-refuses (place_refusal asc dec day1 day2) (precessed_in asc dec (eq_precession_of edition day1 day2)) eq-outcome
+  pub precess_eq_coords_refuses : place_refusal asc dec day1 day2 ≡ 0 → (n : ℕ) → precess_eq_coords_rule edition asc dec day1 day2 ≡ refused n → SevenOrFourteen n
+  precess_eq_coords_refuses = rule_refuses (place_refusal asc dec day1 day2) (precessed_in asc dec (eq_precession_of edition day1 day2)) eq_outcome
 
-  pub precess-eq-coords-fourteen : place_refusal asc dec day1 day2 ≡ 0
+  pub precess_eq_coords_fourteen : place_refusal asc dec day1 day2 ≡ 0
       → precess_eq_coords_rule edition asc dec day1 day2 ≡ refused 14 ↔ T (no_direction asc dec (eq_precession_of edition day1 day2))
-  precess-eq-coords-fourteen =
+  precess_eq_coords_fourteen =
       let precession = eq_precession_of edition day1 day2 in
       fourteen_accepted (place_refusal asc dec day1 day2) (precessed_in asc dec precession) (precessed_fourteen asc dec precession)
 
-  pub precess-eq-coords-fk5-answers : (p : Pair) → precess_eq_coords_FK5_rule edition asc dec day1 day2 ≡ answered p → IsPlace p
-  precess-eq-coords-fk5-answers = rule-answers (place_refusal asc dec day1 day2) (precessed_in asc dec (fk4_precession_of edition day1 day2)) fk4-outcome
+  pub precess_eq_coords_fk5_answers : (p : Pair) → precess_eq_coords_FK5_rule edition asc dec day1 day2 ≡ answered p → IsPlace p
+  precess_eq_coords_fk5_answers = rule_answers (place_refusal asc dec day1 day2) (precessed_in asc dec (fk4_precession_of edition day1 day2)) fk4_outcome
 
-  pub precess-eq-coords-fk5-finite : (p : Pair) → precess_eq_coords_FK5_rule edition asc dec day1 day2 ≡ answered p → BothFinite p
-  precess-eq-coords-fk5-finite p e =
-      let i = precess-eq-coords-fk5-answers p e in
+  pub precess_eq_coords_fk5_finite : (p : Pair) → precess_eq_coords_FK5_rule edition asc dec day1 day2 ≡ answered p → BothFinite p
+  precess_eq_coords_fk5_finite p e =
+      let i = precess_eq_coords_fk5_answers p e in
       (i.0.finite, i.1.finite)
 
-  pub precess-eq-coords-fk5-refuses : place_refusal asc dec day1 day2 ≡ 0 → (n : ℕ)
+  pub precess_eq_coords_fk5_refuses : place_refusal asc dec day1 day2 ≡ 0 → (n : ℕ)
       → precess_eq_coords_FK5_rule edition asc dec day1 day2 ≡ refused n → SevenOrFourteen n
-  precess-eq-coords-fk5-refuses = rule-refuses (place_refusal asc dec day1 day2) (precessed_in asc dec (fk4_precession_of edition day1 day2)) fk4-outcome
+  precess_eq_coords_fk5_refuses = rule_refuses (place_refusal asc dec day1 day2) (precessed_in asc dec (fk4_precession_of edition day1 day2)) fk4_outcome
 
-  pub precess-eq-coords-fk5-fourteen : place_refusal asc dec day1 day2 ≡ 0
+  pub precess_eq_coords_fk5_fourteen : place_refusal asc dec day1 day2 ≡ 0
       → precess_eq_coords_FK5_rule edition asc dec day1 day2 ≡ refused 14 ↔ T (no_direction asc dec (fk4_precession_of edition day1 day2))
-  precess-eq-coords-fk5-fourteen =
+  precess_eq_coords_fk5_fourteen =
       let precession = fk4_precession_of edition day1 day2 in
       fourteen_accepted (place_refusal asc dec day1 day2) (precessed_in asc dec precession) (precessed_fourteen asc dec precession)

@@ -51,51 +51,51 @@ by_arcsine n s none e =
 -- ---- equatorial and horizontal
 
 module _ (h d p : Rad) where
-  pub az-frm-eq-refuses : steep_sky_refusal h d p ≡ 0 → (k : ℕ) → az_frm_eq_rule h d p ≡ refused k → k ≡ 14
+  pub az_frm_eq_refuses : steep_sky_refusal h d p ≡ 0 → (k : ℕ) → az_frm_eq_rule h d p ≡ refused k → k ≡ 14
   unfolding azimuth_in
-  az-frm-eq-refuses none k e = (by_arctangent (steep_sky_refusal h d p) (sine_of h) (southward h d p) none k e).0
+  az_frm_eq_refuses none k e = (by_arctangent (steep_sky_refusal h d p) (sine_of h) (southward h d p) none k e).0
 
-  pub az-frm-eq-fourteen : steep_sky_refusal h d p ≡ 0 → az_frm_eq_rule h d p ≡ refused 14 ↔ T (both_zero (sine_of h) (southward h d p))
+  pub az_frm_eq_fourteen : steep_sky_refusal h d p ≡ 0 → az_frm_eq_rule h d p ≡ refused 14 ↔ T (both_zero (sine_of h) (southward h d p))
   unfolding azimuth_in
-  az-frm-eq-fourteen =
+  az_frm_eq_fourteen =
       fourteen_accepted (steep_sky_refusal h d p) (azimuth_in h d p) (fourteen_at_end (sine_of h) (southward h d p))
 
-  pub alt-frm-eq-never-meets-fourteen : sky_refusal h d p ≡ 0 → alt_frm_eq_rule h d p ≢ refused 14
+  pub alt_frm_eq_never_meets_fourteen : sky_refusal h d p ≡ 0 → alt_frm_eq_rule h d p ≢ refused 14
   unfolding altitude_in
-  alt-frm-eq-never-meets-fourteen = by_arcsine (sky_refusal h d p) (upward h d p)
+  alt_frm_eq_never_meets_fourteen = by_arcsine (sky_refusal h d p) (upward h d p)
 
 module _ (z a p : Rad) where
   -- the arctangent's second argument
-  abbrev toPole : Float
-  toPole = cosine_of z ⊗ sine_of p ⊕ tangent_of a ⊗ cosine_of p
+  abbrev to_pole : Float
+  to_pole = cosine_of z ⊗ sine_of p ⊕ tangent_of a ⊗ cosine_of p
 
-  pub hr-angl-frm-hz-refuses : steep_sky_refusal z a p ≡ 0 → (k : ℕ) → hr_angl_frm_hz_rule z a p ≡ refused k → k ≡ 14
+  pub hr_angl_frm_hz_refuses : steep_sky_refusal z a p ≡ 0 → (k : ℕ) → hr_angl_frm_hz_rule z a p ≡ refused k → k ≡ 14
   unfolding hr_angl_frm_hz_in
-  hr-angl-frm-hz-refuses none k e =
-      (by_arctangent (steep_sky_refusal z a p) (sine_of z) toPole none k e).0
+  hr_angl_frm_hz_refuses none k e =
+      (by_arctangent (steep_sky_refusal z a p) (sine_of z) to_pole none k e).0
 
-  pub hr-angl-frm-hz-fourteen : steep_sky_refusal z a p ≡ 0 → hr_angl_frm_hz_rule z a p ≡ refused 14 ↔ T (both_zero (sine_of z) toPole)
+  pub hr_angl_frm_hz_fourteen : steep_sky_refusal z a p ≡ 0 → hr_angl_frm_hz_rule z a p ≡ refused 14 ↔ T (both_zero (sine_of z) to_pole)
   unfolding hr_angl_frm_hz_in
-  hr-angl-frm-hz-fourteen =
-      fourteen_accepted (steep_sky_refusal z a p) (hr_angl_frm_hz_in z a p) (fourteen_at_end (sine_of z) toPole)
+  hr_angl_frm_hz_fourteen =
+      fourteen_accepted (steep_sky_refusal z a p) (hr_angl_frm_hz_in z a p) (fourteen_at_end (sine_of z) to_pole)
 
-  pub dec-frm-hz-never-meets-fourteen : (e : Edition) → sky_refusal z a p ≡ 0 → dec_frm_hz_rule e z a p ≢ refused 14
+  pub dec_frm_hz_never_meets_fourteen : (e : Edition) → sky_refusal z a p ≡ 0 → dec_frm_hz_rule e z a p ≢ refused 14
   unfolding dec_frm_hz_in
-  dec-frm-hz-never-meets-fourteen e =
+  dec_frm_hz_never_meets_fourteen e =
       by_arcsine (sky_refusal z a p) (sine_of p ⊗ sine_of a ⊖ cosine_of p ⊗ by_edition e (cosine_of z) (cosine_of a) ⊗ cosine_of z)
 
 -- ---- right ascension and declination from ecliptic coordinates
 
 module _ (l b e : Rad) where
-  pub asc-frm-ecl-refuses : steep_frame_refusal l b e ≡ 0 → (k : ℕ) → asc_frm_ecl_rule l b e ≡ refused k → ⊥
+  pub asc_frm_ecl_refuses : steep_frame_refusal l b e ≡ 0 → (k : ℕ) → asc_frm_ecl_rule l b e ≡ refused k → ⊥
   unfolding asc_frm_ecl_in
-  asc-frm-ecl-refuses none =
+  asc_frm_ecl_refuses none =
       by_some (steep_frame_refusal l b e) (sine_of l ⊗ cosine_of e ⊖ tangent_of b ⊗ sine_of e) (cosine_of l) none
       (cosine_never_zero l (none_of_three (angle_refusal l) (steep_refusal b) (angle_refusal e) none).0)
 
-  pub dec-frm-ecl-never-meets-fourteen : frame_refusal l b e ≡ 0 → dec_frm_ecl_rule l b e ≢ refused 14
+  pub dec_frm_ecl_never_meets_fourteen : frame_refusal l b e ≡ 0 → dec_frm_ecl_rule l b e ≢ refused 14
   unfolding dec_frm_ecl_in
-  dec-frm-ecl-never-meets-fourteen =
+  dec_frm_ecl_never_meets_fourteen =
       by_arcsine (frame_refusal l b e) (sine_of b ⊗ cosine_of e ⊕ cosine_of b ⊗ sine_of e ⊗ sine_of l)
 
 -- ---- equatorial and galactic
@@ -105,9 +105,9 @@ abbrev along_pole : Folded → Rad → Float
 along_pole n b = folded_sine pole ⊗ folded_cosine n ⊖ folded_cosine pole ⊗ folded_tangent (fold b)
 
 module _ (a d : Rad) where
-  pub gal-long-frm-eq-refuses : steep_gal_refusal a d ≡ 0 → (k : ℕ) → gal_long_frm_eq_rule a d ≡ refused k → k ≡ 14
+  pub gal_long_frm_eq_refuses : steep_gal_refusal a d ≡ 0 → (k : ℕ) → gal_long_frm_eq_rule a d ≡ refused k → k ≡ 14
   unfolding gal_long_in taken_from round_pole
-  gal-long-frm-eq-refuses none k e =
+  gal_long_frm_eq_refuses none k e =
       let n = from_pole_asc a in
       let z = radians_of south_cel_pole_long in
       let x = along_pole n d in
@@ -116,25 +116,25 @@ module _ (a d : Rad) where
       (subst (λ (m : ℕ). unless m (gal_long_in a d) ≡ refused k) none e))
       ).0
 
-  pub gal-long-frm-eq-fourteen : steep_gal_refusal a d ≡ 0
+  pub gal_long_frm_eq_fourteen : steep_gal_refusal a d ≡ 0
       → gal_long_frm_eq_rule a d ≡ refused 14 ↔ T (both_zero (folded_sine (from_pole_asc a)) (along_pole (from_pole_asc a) d))
   unfolding gal_long_in taken_from round_pole
-  gal-long-frm-eq-fourteen =
+  gal_long_frm_eq_fourteen =
       let n = from_pole_asc a in
       let z = radians_of south_cel_pole_long in
       fourteen_accepted (steep_gal_refusal a d) (gal_long_in a d)
       (fourteen_changed (folded_sine n) (along_pole n d) (λ (v : Rad). rad (z.0 ⊖ v.0)))
 
-  pub gal-lat-frm-eq-never-meets-fourteen : gal_refusal a d ≡ 0 → gal_lat_frm_eq_rule a d ≢ refused 14
+  pub gal_lat_frm_eq_never_meets_fourteen : gal_refusal a d ≡ 0 → gal_lat_frm_eq_rule a d ≢ refused 14
   unfolding gal_lat_in
-  gal-lat-frm-eq-never-meets-fourteen =
+  gal_lat_frm_eq_never_meets_fourteen =
       by_arcsine (gal_refusal a d)
       (folded_sine (fold d) ⊗ folded_sine pole ⊕ folded_cosine (fold d) ⊗ folded_cosine pole ⊗ folded_cosine (from_pole_asc a))
 
 module _ (l b : Rad) where
-  pub asc-frm-gal-refuses : steep_gal_refusal l b ≡ 0 → (k : ℕ) → asc_frm_gal_rule l b ≡ refused k → k ≡ 14
+  pub asc_frm_gal_refuses : steep_gal_refusal l b ≡ 0 → (k : ℕ) → asc_frm_gal_rule l b ≡ refused k → k ≡ 14
   unfolding asc_frm_gal_in added_to round_pole
-  asc-frm-gal-refuses none k e =
+  asc_frm_gal_refuses none k e =
       let n = from_pole_long l in
       let z = radians_of south_gal_pole_asc in
       let x = along_pole n b in
@@ -143,10 +143,10 @@ module _ (l b : Rad) where
       (subst (λ (m : ℕ). unless m (asc_frm_gal_in l b) ≡ refused k) none e))
       ).0
 
-  pub asc-frm-gal-fourteen : steep_gal_refusal l b ≡ 0
+  pub asc_frm_gal_fourteen : steep_gal_refusal l b ≡ 0
       → asc_frm_gal_rule l b ≡ refused 14 ↔ T (both_zero (folded_sine (from_pole_long l)) (along_pole (from_pole_long l) b))
   unfolding asc_frm_gal_in added_to round_pole
-  asc-frm-gal-fourteen =
+  asc_frm_gal_fourteen =
       let n = from_pole_long l in
       let z = radians_of south_gal_pole_asc in
       fourteen_accepted (steep_gal_refusal l b) (asc_frm_gal_in l b)

@@ -40,14 +40,14 @@ module _ {A B : Type 0} where
   then_alike (refused k) f g h = record { there = λ n e. e; here = λ n e. e }
 
   -- two steps that test the same, and then steps that refuse alike whatever was answered
-  tested-alike : (m k : ℕ) (x y : A) (f g : A → Answer B) → m ≡ k → RefusedAlike (f x) (g y)
+  tested_alike : (m k : ℕ) (x y : A) (f g : A → Answer B) → m ≡ k → RefusedAlike (f x) (g y)
       → RefusedAlike (then (unless m (answered x)) f) (then (unless k (answered y)) g)
   unfolding then
-  tested-alike m k x y f g same h = rw same (by-case (eqb k 0))
+  tested_alike m k x y f g same h = rw same (by_case (eqb k 0))
     where
-      by-case : (t : Bool) → RefusedAlike (then (cond t (answered x) (refused k)) f) (then (cond t (answered y) (refused k)) g)
-      by-case true = h
-      by-case false = record { there = λ n e. e; here = λ n e. e }
+      by_case : (t : Bool) → RefusedAlike (then (cond t (answered x) (refused k)) f) (then (cond t (answered y) (refused k)) g)
+      by_case true = h
+      by_case false = record { there = λ n e. e; here = λ n e. e }
 
 module _ (edition : Edition) (asc dec : Rad) (day1 day2 : Float) where
   -- on an accepted day, for its nutation n
@@ -56,35 +56,35 @@ module _ (edition : Edition) (asc dec : Rad) (day1 day2 : Float) where
     unfolding nutation_rule
     accepted = (answered_unless (day_refusal day2) (answered (pair (nutation_of day2).long.0 (nutation_of day2).oblq.0)) n is).0
 
-    true-taken : angle_refusal (true_obliquity (mean_obliquity_of day2) (rad (second n))) ≡ 0
-    true-taken =
+    true_taken : angle_refusal (true_obliquity (mean_obliquity_of day2) (rad (second n))) ≡ 0
+    true_taken =
         angle_near (true_obliquity (mean_obliquity_of day2) (rad (second n)))
         (obliquity_within day2 (rad (second n)) accepted (nutation_answers day2 n is).1)
 
-    mean-taken : angle_refusal (mean_obliquity_of day2) ≡ 0
+    mean_taken : angle_refusal (mean_obliquity_of day2) ≡ 0
     unfolding is_finite le neg round
-    mean-taken = angle_near (mean_obliquity_of day2) (within 64 (known (mean_obliquity_within day2 accepted)) tt)
+    mean_taken = angle_near (mean_obliquity_of day2) (within 64 (known (mean_obliquity_within day2 accepted)) tt)
 
-    point-alike : (p : Pair)
+    point_alike : (p : Pair)
         → RefusedAlike (from_point p n day2)
         (then (nutation_in_eq_coords_rule (point p) (rad (first n)) (rad (second n)) (mean_obliquity_of day2))
         (λ (dn : Pair). then (stell_aberr_in_eq_coords_rule (point p) day2) (λ (da : Pair). answered (sum p dn da))))
     unfolding nutation_in_eq_coords_rule
-    point-alike p =
+    point_alike p =
         let long = rad (first n) in
         let oblq = rad (second n) in
         let tru = true_obliquity (mean_obliquity_of day2) oblq in
         let f : Pair → Answer Pair = λ (dn : Pair). then (stell_aberr_in_eq_coords_rule (point p) day2) (λ (da : Pair). answered (sum p dn da)) in
         let x = pair (nutation_in_eq_coords_in (point p) long oblq tru).asc.0 (nutation_in_eq_coords_in (point p) long oblq tru).dec.0 in
         let y = pair (nutation_in_eq_coords_in (point p) long oblq (mean_obliquity_of day2)).asc.0 (nutation_in_eq_coords_in (point p) long oblq (mean_obliquity_of day2)).dec.0 in
-        tested-alike (nutation_in_refusal (point p) long oblq tru) (nutation_in_refusal (point p) long oblq (mean_obliquity_of day2)) x y f f
-        (rw (true-taken, mean-taken))
+        tested_alike (nutation_in_refusal (point p) long oblq tru) (nutation_in_refusal (point p) long oblq (mean_obliquity_of day2)) x y f f
+        (rw (true_taken, mean_taken))
         (then_alike (stell_aberr_in_eq_coords_rule (point p) day2) (λ (da : Pair). answered (sum p x da)) (λ (da : Pair). answered (sum p y da))
         (λ da e. answers_alike (sum p x da) (sum p y da)))
 
-  pub chain-by-mean-refused-alike : RefusedAlike (chain_rule edition asc dec day1 day2) (chain_by mean_for_true edition asc dec day1 day2)
+  pub chain_by_mean_refused_alike : RefusedAlike (chain_rule edition asc dec day1 day2) (chain_by mean_for_true edition asc dec day1 day2)
   unfolding chain_rule
-  chain-by-mean-refused-alike =
+  chain_by_mean_refused_alike =
       then_alike (precess_eq_coords_rule edition asc dec day1 day2)
       (λ (p : Pair). then (nutation_rule day2) (λ (n : Pair). from_point p n day2))
       (λ (p : Pair). then (nutation_rule day2)
@@ -93,4 +93,4 @@ module _ (edition : Edition) (asc dec : Rad) (day1 day2 : Float) where
       (λ p e. then_alike (nutation_rule day2) (λ (n : Pair). from_point p n day2)
       (λ (n : Pair). then (nutation_in_eq_coords_rule (point p) (rad (first n)) (rad (second n)) (mean_obliquity_of day2))
       (λ (dn : Pair). then (stell_aberr_in_eq_coords_rule (point p) day2) (λ (da : Pair). answered (sum p dn da))))
-      (λ n is. point-alike n is p))
+      (λ n is. point_alike n is p))

@@ -21,8 +21,8 @@ own_rounds (fin true m e) F p = record { sign = true; top = _; is = sym (round_o
 own_rounds (fin false m e) F p = record { sign = false; top = _; is = sym (round_own binary64 false m e F); value = omega arith }
 
 module _ (x y : Float) (F : T (fits binary64 x)) (X : Finite x) (Y : Finite y) (P : Plus y) where
-  pub not-raised : x ⊖ y ≼ x
-  not-raised =
+  pub not_raised : x ⊖ y ≼ x
+  not_raised =
       rounds_mono binary64 (x ⊖ y) x _ _ _ _ _ _ (mul-pos (den_pos x) (den_pos y)) (den_pos x) (sub_rounds binary64 x y X Y)
       (own_rounds x F X)
       (less (plus_part x) (minus_part x) (den x) (plus_part y) (minus_part y) (den y) (minus_none y P))
@@ -31,8 +31,8 @@ module _ (x y : Float) (F : T (fits binary64 x)) (X : Finite x) (Y : Finite y) (
           → (px * dy + ny * dx) * dx + nx * (dx * dy) ≤ px * (dx * dy) + (nx * dy + py * dx) * dx
       less px nx dx py ny dy e = rw e (omega arith)
 
-  pub not-lowered : x ≼ x ⊕ y
-  not-lowered =
+  pub not_lowered : x ≼ x ⊕ y
+  not_lowered =
       rounds_mono binary64 x (x ⊕ y) _ _ _ _ _ _ (den_pos x) (mul-pos (den_pos x) (den_pos y)) (own_rounds x F X)
       (add_rounds binary64 x y X Y)
       (more (plus_part x) (minus_part x) (den x) (plus_part y) (minus_part y) (den y) (minus_none y P))

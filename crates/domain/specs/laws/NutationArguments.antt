@@ -16,46 +16,46 @@ use Rattle.domain.specs.notions.Nutation.{MoonNear}
 use Rattle.domain_accepted.specs.laws.Near.{within}
 
 module _ (t : Float) (T : Within 20 t) where
-  m1-finite : Finite (moon_m1 t).0
+  m1_finite : Finite (moon_m1 t).0
   unfolding moon_m1 is_finite le neg add sub mul div of_bits round
-  m1-finite =
+  m1_finite =
       (within 16777216
       (con n134·96298 ⊞ known T ⊠ (con n477198·867398 ⊞ known T ⊠ (con n0·0086972 ⊞ known T ⧄ con n56250))) tt).finite
 
-  m-finite : Finite (sun_m t).0
+  m_finite : Finite (sun_m t).0
   unfolding sun_m is_finite le neg add sub mul div of_bits round
-  m-finite = (within 16777216 (con n357·52772 ⊞ known T ⊠ (con n35999·05034 ⊟ known T ⊠ (con n0·0001603 ⊞ known T ⧄ con n300000))) tt).finite
+  m_finite = (within 16777216 (con n357·52772 ⊞ known T ⊠ (con n35999·05034 ⊟ known T ⊠ (con n0·0001603 ⊞ known T ⧄ con n300000))) tt).finite
 
-  d-finite : Finite (moon_d t).0
+  d_finite : Finite (moon_d t).0
   unfolding moon_d is_finite le neg add sub mul div of_bits round
-  d-finite =
+  d_finite =
       (within 16777216
       (con n297·85036 ⊞ known T ⊠ (con n445267·11148 ⊟ known T ⊠ (con n0·0019142 ⊟ known T ⧄ con n189474))) tt).finite
 
-  f-finite : Finite (moon_f t).0
+  f_finite : Finite (moon_f t).0
   unfolding moon_f is_finite le neg add sub mul div of_bits round
-  f-finite =
+  f_finite =
       (within 16777216
       (con n93·27191 ⊞ known T ⊠ (con n483202·017538 ⊟ known T ⊠ (con n0·0036825 ⊟ known T ⧄ con n327270))) tt).finite
 
-  node-finite : Finite (moon_node t).0
+  node_finite : Finite (moon_node t).0
   unfolding moon_node is_finite le neg add sub mul div of_bits round
-  node-finite =
+  node_finite =
       (within 16777216
       (con n125·04452 ⊟ known T ⊠ (con n1934·136261 ⊟ known T ⊠ (con n0·0020708 ⊞ known T ⧄ con n450000))) tt).finite
 
-  in-turn-within : (x : Deg) → Finite x.0 → Within 7 (in_turn x).0
+  in_turn_within : (x : Deg) → Finite x.0 → Within 7 (in_turn x).0
   unfolding in_turn is_finite le neg mul of_bits round
-  in-turn-within x p = within 7 (known (limited_degrees x.0 p) ⊠ con degree) tt
+  in_turn_within x p = within 7 (known (limited_degrees x.0 p) ⊠ con degree) tt
 
-  pub moon-near : MoonNear (moon_of t)
+  pub moon_near : MoonNear (moon_of t)
   unfolding moon_of moon_from
-  moon-near =
+  moon_near =
       record {
         t = T;
-        d = in-turn-within (moon_d t) d-finite;
-        m = in-turn-within (sun_m t) m-finite;
-        m1 = in-turn-within (moon_m1 t) m1-finite;
-        f = in-turn-within (moon_f t) f-finite;
-        node = in-turn-within (moon_node t) node-finite;
+        d = in_turn_within (moon_d t) d_finite;
+        m = in_turn_within (sun_m t) m_finite;
+        m1 = in_turn_within (moon_m1 t) m1_finite;
+        f = in_turn_within (moon_f t) f_finite;
+        node = in_turn_within (moon_node t) node_finite;
       }

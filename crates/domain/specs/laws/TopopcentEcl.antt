@@ -33,26 +33,26 @@ use Rattle.elementary.specs.rules.Sine.{sine_of, cosine_of, farthest_alone}
 use Rattle.elementary_arc.specs.rules.Arctangent.{base, supplement_if, arctangent_of, arctangent_in}
 use Rattle.elementary_arc.specs.rules.Arcsine.{arcsine_in}
 use Rattle.quantity.specs.laws.Accepted.{lower_none, answered_unless}
-use Rattle.elementary_arc.specs.laws.Arctangent.{arctangent-size, arctangent_answered, arctangent-in-at-most-half, arctangent-in-at-least-half}
-use Rattle.elementary_arc.specs.laws.Arctangent.{arctangent-in-at-most-pi}
+use Rattle.elementary_arc.specs.laws.Arctangent.{arctangent_size, arctangent_answered, arctangent_in_at_most_half, arctangent_in_at_least_half}
+use Rattle.elementary_arc.specs.laws.Arctangent.{arctangent_in_at_most_pi}
 use Rattle.helpers.specs.rules.Angle.{within_two_PI}
 use Rattle.helpers_earth.specs.rules.Earth.{rho_in}
 use Rattle.helpers.specs.laws.Limit.{limited_radians}
 use Rattle.parallax.specs.rules.Observer.{centre_of, observer_refusal}
 use Rattle.parallax_ecl.specs.rules.Ecliptic.{nearby, long_top, upward, lat_of_crate, lat_published, lat_top, semidiameter_in, ecliptic_from, ecliptic_along}
 use Rattle.parallax_ecl.specs.rules.Ecliptic.{ecliptic_at, ecliptic_in, topopcent_refusal, topopcent_ecl_coords_rule}
-use Rattle.domain_accepted.specs.laws.Accepted.{angle-sine, angle-cosine, latitude-sine, latitude-cosine}
+use Rattle.domain_accepted.specs.laws.Accepted.{angle_sine, angle_cosine, latitude_sine, latitude_cosine}
 use Rattle.domain_accepted.specs.notions.Away.{past_half}
 use Rattle.domain_accepted.specs.notions.Outcome.{Outcome, Never, SixOrSeven}
 use Rattle.domain_accepted.specs.notions.Within.{Angle, Within, AllFinite}
-use Rattle.domain_accepted.specs.laws.Outcome.{outcome-answered, outcome-refused, outcome-cond, outcome-then, outcome_wider, rule-answers, rule-refuses}
-use Rattle.domain_accepted.specs.laws.Elementary.{second_not_zero, arctangent_number_outcome, arctangent_number_at_most_half, arcsine-number-outcome}
+use Rattle.domain_accepted.specs.laws.Outcome.{outcome_answered, outcome_refused, outcome_cond, outcome_then, outcome_wider, rule_answers, rule_refuses}
+use Rattle.domain_accepted.specs.laws.Elementary.{second_not_zero, arctangent_number_outcome, arctangent_number_at_most_half, arcsine_number_outcome}
 use Rattle.domain_accepted.specs.laws.Elementary.{quotient_not_nan, quotient_no_minus, quotient_not_zero}
 use Rattle.domain_accepted.specs.laws.Cosine.{cosine_away, away_not_zero, cosine_ahead, cosine_behind}
 use Rattle.domain_accepted.specs.laws.Neighbours.{neighbours}
 use Rattle.domain_accepted.specs.laws.Near.{within, near_far, near_cosine}
 use Rattle.domain.specs.notions.Pole.{QuarterTurn, UpToThePole}
-use Rattle.domain.specs.laws.Earth.{rho-outcome}
+use Rattle.domain.specs.laws.Earth.{rho_outcome}
 use Rattle.domain.specs.laws.Observer.{observer_accepted, arctangent_near_of}
 
 finite_half : Finite HALF
@@ -79,52 +79,52 @@ module _ (rs rc : Float) (p l b s e m : Rad) (RS : Within 2 rs) (RC : Within 2 r
   unfolding is_finite le neg add sub mul of_bits round
   n_within =
       within 1024
-      (known (angle-cosine l L) ⊠ known (latitude-cosine b B) ⊟ known RC ⊠ known (angle-sine p P) ⊠ known (angle-cosine s S)) tt
+      (known (angle_cosine l L) ⊠ known (latitude_cosine b B) ⊟ known RC ⊠ known (angle_sine p P) ⊠ known (angle_cosine s S)) tt
 
   -- what the longitude's arctangent goes by
   abbrev eastward : Float
   eastward = sine_of l ⊗ cosine_of b ⊖ sine_of p ⊗ (rs ⊗ sine_of e ⊕ rc ⊗ cosine_of e ⊗ sine_of s)
 
-  eastward-within : Within 1024 eastward
+  eastward_within : Within 1024 eastward
   unfolding is_finite le neg add sub mul of_bits round
-  eastward-within =
+  eastward_within =
       within 1024
-      (known (angle-sine l L) ⊠ known (latitude-cosine b B)
-      ⊟ known (angle-sine p P) ⊠ (known RS ⊠ known (angle-sine e E) ⊞ known RC ⊠ known (angle-cosine e E) ⊠ known (angle-sine s S))) tt
+      (known (angle_sine l L) ⊠ known (latitude_cosine b B)
+      ⊟ known (angle_sine p P) ⊠ (known RS ⊠ known (angle_sine e E) ⊞ known RC ⊠ known (angle_cosine e E) ⊠ known (angle_sine s S))) tt
 
-  n-fits : T (fits binary64 n)
-  n-fits = sub-fits binary64 (cosine_of l ⊗ cosine_of b) (rc ⊗ sine_of p ⊗ cosine_of s)
+  n_fits : T (fits binary64 n)
+  n_fits = sub-fits binary64 (cosine_of l ⊗ cosine_of b) (rc ⊗ sine_of p ⊗ cosine_of s)
 
-  long-outcome : NonZero n → Outcome (Angle (Within 2048)) SixOrSeven (long_top (centre_of rs rc p) (fold l) (fold b) (fold s) (fold e) n)
+  long_outcome : NonZero n → Outcome (Angle (Within 2048)) SixOrSeven (long_top (centre_of rs rc p) (fold l) (fold b) (fold s) (fold e) n)
   unfolding long_top centre_of is_finite le neg add sub mul of_bits round
-  long-outcome not_zero =
-      arctangent_near_of eastward n eastward-within
+  long_outcome not_zero =
+      arctangent_near_of eastward n eastward_within
       n_within not_zero
 
   -- what the latitude's arctangent goes by
   abbrev up : Float
   up = sine_of b ⊖ sine_of p ⊗ (rs ⊗ cosine_of e ⊖ rc ⊗ sine_of e ⊗ sine_of s)
 
-  up-within : Within 512 up
+  up_within : Within 512 up
   unfolding is_finite le neg add sub mul of_bits round
-  up-within =
+  up_within =
       within 512
-      (known (latitude-sine b B)
-      ⊟ known (angle-sine p P) ⊠ (known RS ⊠ known (angle-cosine e E) ⊟ known RC ⊠ known (angle-sine e E) ⊠ known (angle-sine s S))) tt
+      (known (latitude_sine b B)
+      ⊟ known (angle_sine p P) ⊠ (known RS ⊠ known (angle_cosine e E) ⊟ known RC ⊠ known (angle_sine e E) ⊠ known (angle_sine s S))) tt
 
   -- the longitude goes into a cosine
-  pub long-far : NonZero n → (long : Rad) → long_top (centre_of rs rc p) (fold l) (fold b) (fold s) (fold e) n ≡ answered long
+  pub long_far : NonZero n → (long : Rad) → long_top (centre_of rs rc p) (fold l) (fold b) (fold s) (fold e) n ≡ answered long
       → size long.0 ≼ farthest_alone
-  long-far not_zero long answer = near_far long.0 ((long-outcome not_zero).answers long answer)
+  long_far not_zero long answer = near_far long.0 ((long_outcome not_zero).answers long answer)
 
   -- where it is never zero, so that the published edition's second 6 never comes
-  pub long-cosine-not-zero : (long : Rad) → long_top (centre_of rs rc p) (fold l) (fold b) (fold s) (fold e) n ≡ answered long
+  pub long_cosine_not_zero : (long : Rad) → long_top (centre_of rs rc p) (fold l) (fold b) (fold s) (fold e) n ≡ answered long
       → NonZero (cosine_of long)
   unfolding long_top centre_of le of_bits round
-  long-cosine-not-zero long answer =
+  long_cosine_not_zero long answer =
       away_not_zero (cosine_of long)
       (cosine_away long
-      (le_trans (size long.0) PI (over 80 1) (arctangent-in-at-most-pi eastward n long answer eastward-within.finite n_within.finite) tt))
+      (le_trans (size long.0) PI (over 80 1) (arctangent_in_at_most_pi eastward n long answer eastward_within.finite n_within.finite) tt))
 
   -- ---- the published latitude
 
@@ -133,95 +133,95 @@ module _ (rs rc : Float) (p l b s e m : Rad) (RS : Within 2 rs) (RC : Within 2 r
     denominator = n ⊘ cosine_of long
 
     -- where N and the cosine bear one sign it is a quarter turn at most
-    same-side : bears_minus n ≡ bears_minus (cosine_of long) → (lat : Rad) → lat_top Published up (cosine_of long) n ≡ answered lat
+    same_side : bears_minus n ≡ bears_minus (cosine_of long) → (lat : Rad) → lat_top Published up (cosine_of long) n ≡ answered lat
         → size lat.0 ≼ HALF
     unfolding lat_top lat_published
-    same-side same lat is =
-        let some = long-cosine-not-zero long top in
-        let C = near_cosine long ((long-outcome not_zero).answers long top) in
-        arctangent_number_at_most_half up denominator up-within.finite
+    same_side same lat is =
+        let some = long_cosine_not_zero long top in
+        let C = near_cosine long ((long_outcome not_zero).answers long top) in
+        arctangent_number_at_most_half up denominator up_within.finite
         (quotient_not_nan n (cosine_of long) n_within.finite C.finite some)
         (quotient_no_minus n (cosine_of long) n_within.finite C.finite same) lat (rw (is_false (is_zero (cosine_of long)) some) at is)
 
     -- they do, but for a longitude that is a quarter turn to the last bit: there the cosine bears a plus sign
-    by-sides : (QuarterTurn long) ⊎ (bears_minus n ≡ bears_minus (cosine_of long))
+    by_sides : (QuarterTurn long) ⊎ (bears_minus n ≡ bears_minus (cosine_of long))
     unfolding long_top centre_of
-    by-sides = by_sign (bears_minus n) refl
+    by_sides = by_sign (bears_minus n) refl
       where
         by_sign : (minus : Bool) → bears_minus n ≡ minus → (QuarterTurn long) ⊎ (bears_minus n ≡ bears_minus (cosine_of long))
         by_sign false h =
-            inr (h ∙ sym (cosine_ahead long (arctangent-in-at-most-half eastward n long top eastward-within.finite n_within.finite h)))
+            inr (h ∙ sym (cosine_ahead long (arctangent_in_at_most_half eastward n long top eastward_within.finite n_within.finite h)))
         by_sign true h =
             let some = second_not_zero eastward n not_zero in
-            let from = arctangent-in-at-least-half eastward n long top eastward-within.finite n_within.finite h in
-            let most = arctangent-in-at-most-pi eastward n long top eastward-within.finite n_within.finite in
+            let from = arctangent_in_at_least_half eastward n long top eastward_within.finite n_within.finite h in
+            let most = arctangent_in_at_most_pi eastward n long top eastward_within.finite n_within.finite in
             let is : long ≡ arctangent_of eastward n = same_value (sym top ∙ arctangent_answered eastward n some) in
             let long-size : size long.0 ≡ PI ⊖ base (size eastward) (size n) =
             ap (λ (v : Rad). size v.0) is
-            ∙ arctangent-size eastward n eastward-within.finite n_within.finite some
+            ∙ arctangent_size eastward n eastward_within.finite n_within.finite some
             ∙ ap (λ (u : Bool). supplement_if u (base (size eastward) (size n))) h in
             elim
             (beside_half (size long.0) (subst (λ (x : Float). T (fits binary64 x)) (sym long-size) (sub-fits binary64 PI (base (size eastward) (size n))))
-            (rw (finite_size long.0) ((long-outcome not_zero).answers long top).finite)) [
+            (rw (finite_size long.0) ((long_outcome not_zero).answers long top).finite)) [
               | inl k ↦ inl (between finite_half finite_half from k)
               | inr k ↦ inr (h ∙ sym (cosine_behind long k most))
             ]
 
-    published-up-to-pole : (lat : Rad) → lat_top Published up (cosine_of long) n ≡ answered lat → (size lat.0 ≼ HALF) ⊎ QuarterTurn long
-    published-up-to-pole lat is = elim by-sides [ inl q ↦ inr q | inr same ↦ inl (same-side same lat is) ]
+    published_up_to_pole : (lat : Rad) → lat_top Published up (cosine_of long) n ≡ answered lat → (size lat.0 ≼ HALF) ⊎ QuarterTurn long
+    published_up_to_pole lat is = elim by_sides [ inl q ↦ inr q | inr same ↦ inl (same_side same lat is) ]
 
   module _ (long : Rad) (G : Within 2048 long.0) where
-    abbrev cosLong : Float
-    cosLong = cosine_of long
+    abbrev cos_long : Float
+    cos_long = cosine_of long
 
-    G-cosine : Between (neg one) one cosLong
-    G-cosine = near_cosine long G
+    G_cosine : Between (neg one) one cos_long
+    G_cosine = near_cosine long G
 
-    lat-outcome : NonZero n → (edition : Edition) → Outcome (Angle (Within 2048)) SixOrSeven (lat_top edition up cosLong n)
+    lat_outcome : NonZero n → (edition : Edition) → Outcome (Angle (Within 2048)) SixOrSeven (lat_top edition up cos_long n)
     unfolding lat_top lat_of_crate lat_published is_finite le neg sub mul of_bits round
-    lat-outcome not_zero Crate =
-        arctangent_near_of (cosLong ⊗ up) n (within 1024 (known G-cosine ⊠ known up-within) tt) n_within not_zero
-    lat-outcome not_zero Published =
-        outcome-cond (eq cosLong zero) (refused 6) (arctangent_in up (n ⊘ cosLong)) (outcome-refused 6 (inl refl))
+    lat_outcome not_zero Crate =
+        arctangent_near_of (cos_long ⊗ up) n (within 1024 (known G_cosine ⊠ known up_within) tt) n_within not_zero
+    lat_outcome not_zero Published =
+        outcome_cond (eq cos_long zero) (refused 6) (arctangent_in up (n ⊘ cos_long)) (outcome_refused 6 (inl refl))
         (λ some.
         outcome_wider (λ v i. within 2048 (known i) tt)
-        (arctangent_number_outcome up (n ⊘ cosLong) up-within.finite (quotient_not_nan n cosLong n_within.finite G-cosine.finite some)
-        (quotient_not_zero n cosLong n-fits n_within.finite not_zero some (between→size one cosLong G-cosine))))
+        (arctangent_number_outcome up (n ⊘ cos_long) up_within.finite (quotient_not_nan n cos_long n_within.finite G_cosine.finite some)
+        (quotient_not_zero n cos_long n_fits n_within.finite not_zero some (between→size one cos_long G_cosine))))
 
     -- the latitude goes into a cosine
-    pub lat-far : NonZero n → (edition : Edition) (lat : Rad) → lat_top edition up cosLong n ≡ answered lat → size lat.0 ≼ farthest_alone
-    lat-far not_zero edition lat answer = near_far lat.0 ((lat-outcome not_zero edition).answers lat answer)
+    pub lat_far : NonZero n → (edition : Edition) (lat : Rad) → lat_top edition up cos_long n ≡ answered lat → size lat.0 ≼ farthest_alone
+    lat_far not_zero edition lat answer = near_far lat.0 ((lat_outcome not_zero edition).answers lat answer)
 
     module _ (not_zero : NonZero n) where
-      from-outcome : (lat : Rad) → Within 2048 lat.0 → Outcome AllFinite SixOrSeven (ecliptic_from long cosLong lat m n)
+      from_outcome : (lat : Rad) → Within 2048 lat.0 → Outcome AllFinite SixOrSeven (ecliptic_from long cos_long lat m n)
       unfolding ecliptic_from semidiameter_in is_finite le neg mul of_bits round
-      from-outcome lat T =
-          let top = cosLong ⊗ cosine_of lat ⊗ sine_of m in
-          outcome-then (λ (v : Rad). answered (triple (within_two_PI long).0 lat.0 v.0))
-          (λ v i. outcome-answered (triple (within_two_PI long).0 lat.0 v.0) ((limited_radians long.0 G.finite).finite, T.finite, i.finite))
+      from_outcome lat T =
+          let top = cos_long ⊗ cosine_of lat ⊗ sine_of m in
+          outcome_then (λ (v : Rad). answered (triple (within_two_PI long).0 lat.0 v.0))
+          (λ v i. outcome_answered (triple (within_two_PI long).0 lat.0 v.0) ((limited_radians long.0 G.finite).finite, T.finite, i.finite))
           (arcsine_in (top ⊘ n))
-          (arcsine-number-outcome (inr refl) (top ⊘ n)
-          (quotient_not_nan top n (within 2 (known G-cosine ⊠ known (near_cosine lat T) ⊠ known (angle-sine m M)) tt).finite n_within.finite not_zero))
+          (arcsine_number_outcome (inr refl) (top ⊘ n)
+          (quotient_not_nan top n (within 2 (known G_cosine ⊠ known (near_cosine lat T) ⊠ known (angle_sine m M)) tt).finite n_within.finite not_zero))
 
-      along-outcome : (edition : Edition) → Outcome AllFinite SixOrSeven (ecliptic_along edition up long m n)
+      along_outcome : (edition : Edition) → Outcome AllFinite SixOrSeven (ecliptic_along edition up long m n)
       unfolding ecliptic_along
-      along-outcome edition =
-          outcome-then (λ (lat : Rad). ecliptic_from long cosLong lat m n) from-outcome (lat_top edition up cosLong n) (lat-outcome not_zero edition)
+      along_outcome edition =
+          outcome_then (λ (lat : Rad). ecliptic_from long cos_long lat m n) from_outcome (lat_top edition up cos_long n) (lat_outcome not_zero edition)
 
-  at-outcome : (edition : Edition) → Outcome AllFinite SixOrSeven (ecliptic_at edition (centre_of rs rc p) (fold l) (fold b) (fold s) (fold e) m)
+  at_outcome : (edition : Edition) → Outcome AllFinite SixOrSeven (ecliptic_at edition (centre_of rs rc p) (fold l) (fold b) (fold s) (fold e) m)
   unfolding ecliptic_at nearby upward centre_of
-  at-outcome edition =
+  at_outcome edition =
       let c = centre_of rs rc p in
       let top = long_top c (fold l) (fold b) (fold s) (fold e) n in
-      outcome-cond (eq n zero) (refused 6) (then top (λ (long : Rad). ecliptic_along edition up long m n))
-      (outcome-refused 6 (inl refl))
+      outcome_cond (eq n zero) (refused 6) (then top (λ (long : Rad). ecliptic_along edition up long m n))
+      (outcome_refused 6 (inl refl))
       (λ not_zero.
-      outcome-then (λ (long : Rad). ecliptic_along edition up long m n)
-      (λ long G. along-outcome long G not_zero edition) top (long-outcome not_zero))
+      outcome_then (λ (long : Rad). ecliptic_along edition up long m n)
+      (λ long G. along_outcome long G not_zero edition) top (long_outcome not_zero))
 
-  at-up-to-pole : (t : Triple) → ecliptic_at Published (centre_of rs rc p) (fold l) (fold b) (fold s) (fold e) m ≡ answered t → UpToThePole t
+  at_up_to_pole : (t : Triple) → ecliptic_at Published (centre_of rs rc p) (fold l) (fold b) (fold s) (fold e) m ≡ answered t → UpToThePole t
   unfolding ecliptic_at nearby upward centre_of ecliptic_along ecliptic_from
-  at-up-to-pole t is = by_test (is_zero n) refl is
+  at_up_to_pole t is = by_test (is_zero n) refl is
     where
       by_test : (z : Bool) → is_zero n ≡ z
           → cond z (refused 6) (then (long_top (centre_of rs rc p) (fold l) (fold b) (fold s) (fold e) n) (λ (long : Rad). ecliptic_along Published up long m n)) ≡ answered t
@@ -235,7 +235,7 @@ module _ (rs rc : Float) (p l b s e m : Rad) (RS : Within 2 rs) (RC : Within 2 r
           let lat = a.value in
           let d = stepped (semidiameter_in (cosine_of long) lat m n) (λ (v : Rad). answered (triple (within_two_PI long).0 lat.0 v.0)) t a.next in
           subst UpToThePole (same_value d.next)
-          (elim (published-up-to-pole not_zero long o.first lat a.first) [ inl k ↦ inl k | inr q ↦ inr (long, (refl, q)) ])
+          (elim (published_up_to_pole not_zero long o.first lat a.first) [ inl k ↦ inl k | inr q ↦ inr (long, (refl, q)) ])
 
 -- ---- the function
 
@@ -265,29 +265,29 @@ module _ (edition : Edition) (q : EclPoint) (parallax : Rad) (place : GeographPo
   outcome none =
       let a = arguments q parallax place height sidereal oblq semidiameter none in
       let o = observer_accepted parallax place height sidereal a.0 in
-      outcome-then
+      outcome_then
       (λ (rho : Pair). ecliptic_at edition (centre_of (first rho) (second rho) parallax) (fold long) (fold lat) (fold sidereal) (fold oblq) semidiameter)
-      (λ rho R. at-outcome (first rho) (second rho) parallax long lat sidereal oblq semidiameter R.0 R.1 o.0 a.1 a.2 o.1 a.3 a.4 edition)
-      (rho_in (rad place.lat) height) (rho-outcome (rad place.lat) height o.3 o.4)
+      (λ rho R. at_outcome (first rho) (second rho) parallax long lat sidereal oblq semidiameter R.0 R.1 o.0 a.1 a.2 o.1 a.3 a.4 edition)
+      (rho_in (rad place.lat) height) (rho_outcome (rad place.lat) height o.3 o.4)
 
-  pub topopcent-ecl-coords-finite : (t : Triple)
+  pub topopcent_ecl_coords_finite : (t : Triple)
       → topopcent_ecl_coords_rule edition q parallax place height sidereal oblq semidiameter ≡ answered t → AllFinite t
-  topopcent-ecl-coords-finite =
-      rule-answers (topopcent_refusal q parallax place height sidereal oblq semidiameter)
+  topopcent_ecl_coords_finite =
+      rule_answers (topopcent_refusal q parallax place height sidereal oblq semidiameter)
       (ecliptic_in edition q parallax place height sidereal oblq semidiameter) outcome
 
-  pub topopcent-ecl-coords-refuses : topopcent_refusal q parallax place height sidereal oblq semidiameter ≡ 0 → (k : ℕ)
+  pub topopcent_ecl_coords_refuses : topopcent_refusal q parallax place height sidereal oblq semidiameter ≡ 0 → (k : ℕ)
       → topopcent_ecl_coords_rule edition q parallax place height sidereal oblq semidiameter ≡ refused k → SixOrSeven k
-  topopcent-ecl-coords-refuses =
-      rule-refuses (topopcent_refusal q parallax place height sidereal oblq semidiameter)
+  topopcent_ecl_coords_refuses =
+      rule_refuses (topopcent_refusal q parallax place height sidereal oblq semidiameter)
       (ecliptic_in edition q parallax place height sidereal oblq semidiameter) outcome
 
 -- the published latitude
 module _ (q : EclPoint) (parallax : Rad) (place : GeographPoint) (height : Float) (sidereal oblq semidiameter : Rad) where
-  pub published-latitude-up-to-the-pole : (t : Triple)
+  pub published_latitude_up_to_the_pole : (t : Triple)
       → topopcent_ecl_coords_rule Published q parallax place height sidereal oblq semidiameter ≡ answered t → UpToThePole t
   unfolding ecliptic_in
-  published-latitude-up-to-the-pole t is =
+  published_latitude_up_to_the_pole t is =
       let u = answered_unless (topopcent_refusal q parallax place height sidereal oblq semidiameter) (ecliptic_in Published q parallax place height sidereal oblq semidiameter) t is in
       let a = arguments q parallax place height sidereal oblq semidiameter u.0 in
       let o = observer_accepted parallax place height sidereal a.0 in
@@ -295,5 +295,5 @@ module _ (q : EclPoint) (parallax : Rad) (place : GeographPoint) (height : Float
       stepped (rho_in (rad place.lat) height)
       (λ (rho : Pair). ecliptic_at Published (centre_of (first rho) (second rho) parallax) (fold (rad q.long)) (fold (rad q.lat)) (fold sidereal) (fold oblq) semidiameter) t u.1 in
       let rho = c.value in
-      let R = (rho-outcome (rad place.lat) height o.3 o.4 {Q = Never}).answers rho c.first in
-      at-up-to-pole (first rho) (second rho) parallax (rad q.long) (rad q.lat) sidereal oblq semidiameter R.0 R.1 o.0 a.1 a.2 o.1 a.3 a.4 t c.next
+      let R = (rho_outcome (rad place.lat) height o.3 o.4 {Q = Never}).answers rho c.first in
+      at_up_to_pole (first rho) (second rho) parallax (rad q.long) (rad q.lat) sidereal oblq semidiameter R.0 R.1 o.0 a.1 a.2 o.1 a.3 a.4 t c.next

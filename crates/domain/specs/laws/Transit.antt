@@ -28,17 +28,17 @@ use Rattle.transit.specs.rules.Arc.{arc_cosine, arc_in}
 use Rattle.transit.specs.rules.RiseCulmSet.{culmination_of, fractions, rise_culm_set_in, observer_refusal, rise_culm_set_refusal, rise_culm_set_rule}
 use Rattle.domain_accepted.specs.notions.Outcome.{Outcome}
 use Rattle.domain_accepted.specs.notions.Within.{Angle, Within, AllFinite}
-use Rattle.domain_accepted.specs.laws.Accepted.{angle-between, latitude-sine, steep-far}
+use Rattle.domain_accepted.specs.laws.Accepted.{angle_between, latitude_sine, steep_far}
 use Rattle.domain_accepted.specs.laws.Near.{within}
-use Rattle.domain_accepted.specs.laws.Outcome.{outcome-answered, outcome-refused, outcome-cond, outcome-with, outcome-then}
-use Rattle.domain_accepted.specs.laws.Outcome.{rule-answers, rule-refuses}
+use Rattle.domain_accepted.specs.laws.Outcome.{outcome_answered, outcome_refused, outcome_cond, outcome_with, outcome_then}
+use Rattle.domain_accepted.specs.laws.Outcome.{rule_answers, rule_refuses}
 use Rattle.domain.specs.notions.Transit.{OfADay, FifteenOrSixteen}
 use Rattle.domain.specs.laws.Arcsine.{arcsine_within_one}
 
 -- ---- the arc
 
 steep_sine : (x : Rad) → steep_refusal x ≡ 0 → Between (neg one) one (sine_of x)
-steep_sine x none = sine_between x (steep-far x none)
+steep_sine x none = sine_between x (steep_far x none)
 
 steep_cosine : (x : Rad) → steep_refusal x ≡ 0 → Between (over 1 16384) two (cosine_of x)
 steep_cosine x none = cosine_steep x (steep_accepted x none)
@@ -49,17 +49,17 @@ quotient_within : (dec lat alt : Rad) → steep_refusal dec ≡ 0 → steep_refu
 unfolding arc_cosine is_finite le neg add sub mul div of_bits round
 quotient_within dec lat alt D P A =
     within 536870912
-    ((known (latitude-sine alt A) ⊟ known (steep_sine lat P) ⊠ known (steep_sine dec D))
+    ((known (latitude_sine alt A) ⊟ known (steep_sine lat P) ⊠ known (steep_sine dec D))
     ⧄ (known (steep_cosine lat P) ⊠ known (steep_cosine dec D))) tt
 
 -- what is neither above 1 nor below −1 goes into the arcsine
 arc_outcome : (c : Float) → Finite c → Outcome (Angle (Between zero PI)) FifteenOrSixteen (arc_in c)
 unfolding arc_in taken_from is_finite le neg sub of_bits
 arc_outcome c F =
-    outcome-cond (lt one c) (refused 15) (cond (lt c (neg one)) (refused 16) (taken_from (rad HALF) (arcsine_in c)))
-    (outcome-refused 15 (inl refl))
-    (λ t. outcome-cond (lt c (neg one)) (refused 16) (taken_from (rad HALF) (arcsine_in c)) (outcome-refused 16 (inr refl))
-    (λ u. outcome-with (λ (x : Rad). rad (HALF ⊖ x.0)) (λ x i. bounded binary64 zero PI (con HALF ⊟ known i) tt) (arcsine_in c)
+    outcome_cond (lt one c) (refused 15) (cond (lt c (neg one)) (refused 16) (taken_from (rad HALF) (arcsine_in c)))
+    (outcome_refused 15 (inl refl))
+    (λ t. outcome_cond (lt c (neg one)) (refused 16) (taken_from (rad HALF) (arcsine_in c)) (outcome_refused 16 (inr refl))
+    (λ u. outcome_with (λ (x : Rad). rad (HALF ⊖ x.0)) (λ x i. bounded binary64 zero PI (con HALF ⊟ known i) tt) (arcsine_in c)
     (arcsine_within_one c (between tt tt (le_of_not_lt c (neg one) F tt u) (le_of_not_lt one c tt F t)))))
 
 -- from 0 to PI
@@ -73,7 +73,7 @@ fractions_outcome : {Q : ℕ → Type 0} (m : Float) (arc : Rad) → Within 1024
 unfolding fractions is_finite le neg add sub div of_bits round
 fractions_outcome m arc M A =
     let part = known A ⧄ con turn_in_radians in
-    outcome-answered (triple _ _ _) (
+    outcome_answered (triple _ _ _) (
       limited_days (m ⊖ arc.0 ⊘ turn_in_radians) (within 2048 (known M ⊟ part) tt).finite,
       limited_days m M.finite,
       limited_days (m ⊕ arc.0 ⊘ turn_in_radians) (within 2048 (known M ⊞ part) tt).finite,
@@ -95,22 +95,22 @@ module _ (p : EqPoint) (sidereal : Rad) (place : GeographPoint) (alt : Rad) wher
       let c = lower_none (angle_refusal sidereal) (latitude_refusal alt) observer.1 in
       let m =
       within 1024
-      (((known (angle-between asc a.0) ⊞ known (angle-between long b.0)) ⊟ known (angle-between sidereal c.0))
+      (((known (angle_between asc a.0) ⊞ known (angle_between long b.0)) ⊟ known (angle_between sidereal c.0))
       ⧄ con turn_in_radians) tt in
-      outcome-then (λ (arc : Rad). fractions (culmination_of asc sidereal long) arc)
+      outcome_then (λ (arc : Rad). fractions (culmination_of asc sidereal long) arc)
       (λ arc A. fractions_outcome (culmination_of asc sidereal long) arc m A)
       (arc_in (arc_cosine dec lat alt))
       (arc_outcome (arc_cosine dec lat alt) (quotient_within dec lat alt a.1 b.1 c.1).finite)
 
-  pub rise-culm-set-answers : (v : Triple) → rise_culm_set_rule p sidereal place alt ≡ answered v → OfADay v
-  rise-culm-set-answers = rule-answers (rise_culm_set_refusal p sidereal place alt) (rise_culm_set_in p sidereal place alt) outcome
+  pub rise_culm_set_answers : (v : Triple) → rise_culm_set_rule p sidereal place alt ≡ answered v → OfADay v
+  rise_culm_set_answers = rule_answers (rise_culm_set_refusal p sidereal place alt) (rise_culm_set_in p sidereal place alt) outcome
 
-  pub rise-culm-set-finite : (v : Triple) → rise_culm_set_rule p sidereal place alt ≡ answered v → AllFinite v
-  rise-culm-set-finite (triple x y z) e =
-      let i = rise-culm-set-answers (triple x y z) e in
+  pub rise_culm_set_finite : (v : Triple) → rise_culm_set_rule p sidereal place alt ≡ answered v → AllFinite v
+  rise_culm_set_finite (triple x y z) e =
+      let i = rise_culm_set_answers (triple x y z) e in
       (i.0.finite, i.1.finite, i.2.finite)
 
   -- 15 and 16 only
-  pub rise-culm-set-refuses : rise_culm_set_refusal p sidereal place alt ≡ 0 → (n : ℕ) → rise_culm_set_rule p sidereal place alt ≡ refused n
+  pub rise_culm_set_refuses : rise_culm_set_refusal p sidereal place alt ≡ 0 → (n : ℕ) → rise_culm_set_rule p sidereal place alt ≡ refused n
       → FifteenOrSixteen n
-  rise-culm-set-refuses = rule-refuses (rise_culm_set_refusal p sidereal place alt) (rise_culm_set_in p sidereal place alt) outcome
+  rise_culm_set_refuses = rule_refuses (rise_culm_set_refusal p sidereal place alt) (rise_culm_set_in p sidereal place alt) outcome

@@ -6,7 +6,7 @@ use Rattle.std.specs.Float.Ieee.{neg, eq, lt}
 use Rattle.double.specs.rules.Operations.{zero, one}
 use Rattle.double.specs.rules.Sign.{is_finite, bears_minus, size}
 use Rattle.double.specs.rules.Table.{over, minus_over}
-use Rattle.double.specs.notions.Range.{Range, ◌to◌, addRange, subRange, mulRange, inside}
+use Rattle.double.specs.notions.Range.{Range, ◌to◌, add_range, sub_range, mul_range, inside}
 use Rattle.elementary.specs.rules.Sine.{farthest_alone}
 use Rattle.aberr_args.specs.declared.Row.{Row}
 use Rattle.aberr_args.specs.declared.Terms.{Terms}
@@ -48,11 +48,11 @@ century = neg (over 20 1) to over 20 1
 module _ (part : Range) where
   -- a + b·t
   abbrev pub drifting : Float → Float → Range
-  drifting a b = addRange binary64 (constant a) (mulRange binary64 (constant b) part)
+  drifting a b = add_range binary64 (constant a) (mul_range binary64 (constant b) part)
 
   -- each angle by its number
-  abbrev pub angleRange : ℕ → Range
-  angleRange n =
+  abbrev pub angle_range : ℕ → Range
+  angle_range n =
       cond (eqb n 1) (drifting n3·8103444 n8399·6847337)
       (cond (eqb n 2) (drifting n3·1761467 n1021·3285546)
       (cond (eqb n 3) (drifting n1·7534703 n628·3075849)
@@ -66,20 +66,20 @@ module _ (part : Range) where
 
 -- k·w, and p + k·w, as the rows write them
 abbrev pub times_range : Float → Range → Range
-times_range k w = cond (is_one k) w (mulRange binary64 (constant k) w)
+times_range k w = cond (is_one k) w (mul_range binary64 (constant k) w)
 
 abbrev pub plus_range : Range → Float → Range → Range
 plus_range p k w =
     cond (eq k zero) p
-    (cond (bears_minus k) (subRange binary64 p (times_range (size k) w)) (addRange binary64 p (times_range k w)))
+    (cond (bears_minus k) (sub_range binary64 p (times_range (size k) w)) (add_range binary64 p (times_range k w)))
 
 abbrev pub argument_range : Range → Row → Range
 argument_range part x =
     let m = multipliers_of x in
-    let a = angleRange part x.1 in
-    let b = angleRange part x.3 in
-    let c = angleRange part x.5 in
-    cond m.bracketed (mulRange binary64 (constant m.first) (subRange binary64 a b))
+    let a = angle_range part x.1 in
+    let b = angle_range part x.3 in
+    let c = angle_range part x.5 in
+    cond m.bracketed (mul_range binary64 (constant m.first) (sub_range binary64 a b))
     (plus_range (plus_range (times_range m.first a) m.second b) m.third c)
 
 -- the argument is up to 400000.0 in size over a part
@@ -113,24 +113,24 @@ abbrev pub grouped_range : Terms → Range
 grouped_range e =
     let s = e.sine in
     let c = e.cosine in
-    cond (eq s c) (mulRange binary64 (constant s) (addRange binary64 turn turn))
-    (cond (lt s c) (mulRange binary64 (constant c) (subRange binary64 turn turn)) (mulRange binary64 (constant s) (subRange binary64 turn turn)))
+    cond (eq s c) (mul_range binary64 (constant s) (add_range binary64 turn turn))
+    (cond (lt s c) (mul_range binary64 (constant c) (sub_range binary64 turn turn)) (mul_range binary64 (constant s) (sub_range binary64 turn turn)))
 
 abbrev pub term_range : Float → Float → Range
-term_range k d = cond (eq d zero) (times_range k turn) (mulRange binary64 (plus_range (constant k) d century) turn)
+term_range k d = cond (eq d zero) (times_range k turn) (mul_range binary64 (plus_range (constant k) d century) turn)
 
 abbrev pub with_term_range : Range → Float → Float → Range
 with_term_range p k d =
     cond (eq k zero) p
-    (cond (eq d zero) (plus_range p k turn) (addRange binary64 p (mulRange binary64 (plus_range (constant k) d century) turn)))
+    (cond (eq d zero) (plus_range p k turn) (add_range binary64 p (mul_range binary64 (plus_range (constant k) d century) turn)))
 
 -- a sum in r, with a row's terms
 abbrev pub share_range : Terms → Range → Range
 share_range e r =
-    cond e.bracketed (addRange binary64 r (grouped_range e))
-    (cond e.moving (addRange binary64 r (with_term_range (term_range e.sine e.sine_t) e.cosine e.cosine_t))
-    (cond (eq e.sine zero) (cond (eq e.cosine zero) r (addRange binary64 r (times_range e.cosine turn)))
-    (addRange binary64 r (plus_range (times_range e.sine turn) e.cosine turn))))
+    cond e.bracketed (add_range binary64 r (grouped_range e))
+    (cond e.moving (add_range binary64 r (with_term_range (term_range e.sine e.sine_t) e.cosine e.cosine_t))
+    (cond (eq e.sine zero) (cond (eq e.cosine zero) r (add_range binary64 r (times_range e.cosine turn)))
+    (add_range binary64 r (plus_range (times_range e.sine turn) e.cosine turn))))
 
 -- a row that is not there
 abbrev absent : Row

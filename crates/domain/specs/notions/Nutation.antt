@@ -4,7 +4,7 @@ use Rattle.std.specs.Float.{binary64}
 use Rattle.std.specs.Float.Ieee.{neg}
 use Rattle.double.specs.rules.Operations.{one}
 use Rattle.double.specs.rules.Table.{over}
-use Rattle.double.specs.notions.Range.{Range, ◌to◌, addRange, mulRange, divRange, inside}
+use Rattle.double.specs.notions.Range.{Range, ◌to◌, add_range, mul_range, div_range, inside}
 use Rattle.nutation_args.specs.rules.Numbers.{n10}
 use Rattle.nutation_args.specs.rules.Arguments.{moon_of}
 use Rattle.nutation_table.specs.rules.Rows.{rows}
@@ -48,14 +48,14 @@ turn = neg (over 7 1) to over 7 1
 
 -- a whole number of turns
 abbrev times : ℤ → Range
-times z = mulRange binary64 (constant (whole z)) turn
+times z = mul_range binary64 (constant (whole z)) turn
 
 abbrev pub argument_range : Row → Range
 argument_range x =
-    addRange binary64
-    (addRange binary64
-    (addRange binary64
-    (addRange binary64 (times x.0) (times x.1)) (times x.2)) (times x.3)) (times x.4)
+    add_range binary64
+    (add_range binary64
+    (add_range binary64
+    (add_range binary64 (times x.0) (times x.1)) (times x.2)) (times x.3)) (times x.4)
 
 -- each argument is up to 2048.0 in size
 abbrev pub arguments_near : List Row → Bool
@@ -65,15 +65,15 @@ arguments_near (x ∷ xs) = inside (neg (over 2048 1)) (over 2048 1) (argument_r
 -- (c + (t·d)/10)·v, for t from −20 to 20 and v from −1 to 1
 abbrev pub share_range : Float → Float → Range
 share_range c d =
-    mulRange binary64
-    (mulRange binary64
-    (addRange binary64 (constant c) (divRange binary64 (mulRange binary64 (neg (over 20 1) to over 20 1) (constant d)) (constant n10)))
+    mul_range binary64
+    (mul_range binary64
+    (add_range binary64 (constant c) (div_range binary64 (mul_range binary64 (neg (over 20 1) to over 20 1) (constant d)) (constant n10)))
     (neg one to one)) (constant unit)
 
 abbrev pub long_range : List Row → Range → Range
 long_range [] r = r
-long_range (x ∷ xs) r = long_range xs (addRange binary64 r (share_range (whole x.5) (whole x.6)))
+long_range (x ∷ xs) r = long_range xs (add_range binary64 r (share_range (whole x.5) (whole x.6)))
 
 abbrev pub oblq_range : List Row → Range → Range
 oblq_range [] r = r
-oblq_range (x ∷ xs) r = oblq_range xs (addRange binary64 r (share_range (whole x.7) (whole x.8)))
+oblq_range (x ∷ xs) r = oblq_range xs (add_range binary64 r (share_range (whole x.7) (whole x.8)))

@@ -22,31 +22,31 @@ none_of_three a b c e =
 
 module _ (x : Rad) where
   module _ (none : angle_refusal x ≡ 0) where
-    pub angle-far : size x.0 ≼ farthest_alone
-    angle-far = le_trans (size x.0) farthest farthest_alone (angle_accepted x none) (unfold le of_bits in tt)
+    pub angle_far : size x.0 ≼ farthest_alone
+    angle_far = le_trans (size x.0) farthest farthest_alone (angle_accepted x none) (unfold le of_bits in tt)
 
-    pub angle-between : Between (neg farthest) farthest x.0
-    angle-between = size→between farthest x.0 (unfold is_finite of_bits in tt) (angle_accepted x none)
+    pub angle_between : Between (neg farthest) farthest x.0
+    angle_between = size→between farthest x.0 (unfold is_finite of_bits in tt) (angle_accepted x none)
 
-    pub angle-sine : Between (neg one) one (sine_of x)
-    angle-sine = sine_between x angle-far
+    pub angle_sine : Between (neg one) one (sine_of x)
+    angle_sine = sine_between x angle_far
 
-    pub angle-cosine : Between (neg one) one (cosine_of x)
-    angle-cosine = cosine_between x angle-far
+    pub angle_cosine : Between (neg one) one (cosine_of x)
+    angle_cosine = cosine_between x angle_far
 
   module _ (none : latitude_refusal x ≡ 0) where
-    pub latitude-far : size x.0 ≼ farthest_alone
-    latitude-far = le_trans (size x.0) HALF farthest_alone (latitude_accepted x none) (unfold le of_bits in tt)
+    pub latitude_far : size x.0 ≼ farthest_alone
+    latitude_far = le_trans (size x.0) HALF farthest_alone (latitude_accepted x none) (unfold le of_bits in tt)
 
-    pub latitude-sine : Between (neg one) one (sine_of x)
-    latitude-sine = sine_between x latitude-far
+    pub latitude_sine : Between (neg one) one (sine_of x)
+    latitude_sine = sine_between x latitude_far
 
-    pub latitude-cosine : Between (neg one) one (cosine_of x)
-    latitude-cosine = cosine_between x latitude-far
+    pub latitude_cosine : Between (neg one) one (cosine_of x)
+    latitude_cosine = cosine_between x latitude_far
 
   module _ (none : steep_refusal x ≡ 0) where
-    pub steep-far : size x.0 ≼ farthest_alone
-    steep-far = le_trans (size x.0) steepest farthest_alone (steep_accepted x none) (unfold le of_bits in tt)
+    pub steep_far : size x.0 ≼ farthest_alone
+    steep_far = le_trans (size x.0) steepest farthest_alone (steep_accepted x none) (unfold le of_bits in tt)
 
-    pub steep-tangent : Between (neg (over 16384 1)) (over 16384 1) (tangent_of x)
-    steep-tangent = tangent_between x (steep_accepted x none)
+    pub steep_tangent : Between (neg (over 16384 1)) (over 16384 1) (tangent_of x)
+    steep_tangent = tangent_between x (steep_accepted x none)

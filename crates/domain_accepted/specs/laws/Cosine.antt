@@ -88,15 +88,15 @@ abbrev rest_at : ℕ → Float → Float
 rest_at n a = ((a ⊖ from_whole n ⊗ P1) ⊖ from_whole n ⊗ P2) ⊖ from_whole n ⊗ P3
 
 module _ (n : ℕ) (a : Float) (i : Between operations.zero (over 80 1) a) where
-  abbrev lessFirst : Float
-  lessFirst = a ⊖ from_whole n ⊗ P1
+  abbrev less_first : Float
+  less_first = a ⊖ from_whole n ⊗ P1
 
   abbrev less_rest : Expr → Expr
   less_rest z = (z ⊟ con (from_whole n ⊗ P2)) ⊟ con (from_whole n ⊗ P3)
 
-  rest-away : T (sides_apart n) → Between (neg one) one (rest_at n a)
+  rest_away : T (sides_apart n) → Between (neg one) one (rest_at n a)
       → Between (neg one) (neg away) (rest_at n a) ⊎ Between away one (rest_at n a)
-  rest-away t r =
+  rest_away t r =
       let digits = leb (2 ^ 52) (point_at n) in
       let ends = is_finite (last_below n) && is_finite (first_above n) in
       let long = and_l (full_length n) (within_reach n && (stays_below n && stays_above n)) t in
@@ -104,10 +104,10 @@ module _ (n : ℕ) (a : Float) (i : Between operations.zero (over 80 1) a) where
       let t2 = and_r (within_reach n) (stays_below n && stays_above n) t1 in
       let least = leb→le (2 ^ 52) (point_at n) (and_l digits ends long) in
       let finite = and_r digits ends long in
-      let z : Between (minus_over 128 1) (over 128 1) lessFirst =
+      let z : Between (minus_over 128 1) (over 128 1) less_first =
       bounded binary64 (minus_over 128 1) (over 128 1) (known i ⊟ con (from_whole n ⊗ P1))
       (and_l (within_reach n) (stays_below n && stays_above n) t1) in
-      elim (neighbours (step_at n) (point_at n) least lessFirst (sub-fits binary64 a (from_whole n ⊗ P1)) z.finite) [
+      elim (neighbours (step_at n) (point_at n) least less_first (sub-fits binary64 a (from_whole n ⊗ P1)) z.finite) [
         | inl h ↦
             let j = between z.start (and_l (is_finite (last_below n)) (is_finite (first_above n)) finite) z.from h in
             let k : Between (minus_over 256 1) (neg away) (rest_at n a) =
@@ -133,9 +133,9 @@ sine_away r (inr i) = inr (sine_above r i)
 quarter_away : (n q : ℕ) (a : Float) → Between operations.zero (over 80 1) a → T (keeps_away n q)
     → Between (neg one) one (rest_at n a) → Away (cosine_quarter q (rest_at n a))
 quarter_away n zero a i t r = inr (cosine_above (rest_at n a) r)
-quarter_away n (suc zero) a i t r = opposite_away (sine_series (rest_at n a)) (sine_away (rest_at n a) (rest-away n a i t r))
+quarter_away n (suc zero) a i t r = opposite_away (sine_series (rest_at n a)) (sine_away (rest_at n a) (rest_away n a i t r))
 quarter_away n (suc (suc zero)) a i t r = opposite_away (cosine_series (rest_at n a)) (inr (cosine_above (rest_at n a) r))
-quarter_away n (suc (suc (suc q))) a i t r = sine_away (rest_at n a) (rest-away n a i t r)
+quarter_away n (suc (suc (suc q))) a i t r = sine_away (rest_at n a) (rest_away n a i t r)
 
 -- ---- every number of quarters up to 51, of which 80.0 is less than half a quarter more
 

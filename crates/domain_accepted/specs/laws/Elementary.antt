@@ -29,16 +29,16 @@ use Rattle.root.specs.rules.Root.{root_of, root_rule}
 use Rattle.root.specs.laws.Root.{root_from_zero, root_answered}
 use Rattle.elementary_arc.specs.rules.Arctangent.{supplement_if, both_zero, arctangent_of, arctangent_in}
 use Rattle.elementary_arc.specs.rules.Arcsine.{arcsine_in}
-use Rattle.elementary_arc.specs.laws.Arctangent.{arctangent-in-at-most-half, arctangent-in-at-most-pi, arctangent_refuses_fourteen, arctangent_answered}
-use Rattle.elementary_arc.specs.laws.Arcsine.{arcsine-at-most-half, arcsine-refuses-seven}
+use Rattle.elementary_arc.specs.laws.Arctangent.{arctangent_in_at_most_half, arctangent_in_at_most_pi, arctangent_refuses_fourteen, arctangent_answered}
+use Rattle.elementary_arc.specs.laws.Arcsine.{arcsine_at_most_half, arcsine_refuses_seven}
 use Rattle.domain_accepted.specs.notions.Outcome.{Outcome}
 use Rattle.domain_accepted.specs.notions.Within.{Angle}
-use Rattle.domain_accepted.specs.laws.Outcome.{outcome-answered, outcome-refused}
+use Rattle.domain_accepted.specs.laws.Outcome.{outcome_answered, outcome_refused}
 
 -- ---- arctangent
 
 at_most_half_a_turn : (y x : Float) → Finite y → Finite x → (v : Rad) → arctangent_in y x ≡ answered v → Between (neg PI) PI v.0
-at_most_half_a_turn y x p q v e = size→between PI v.0 (unfold is_finite of_bits in tt) (arctangent-in-at-most-pi y x v e p q)
+at_most_half_a_turn y x p q v e = size→between PI v.0 (unfold is_finite of_bits in tt) (arctangent_in_at_most_pi y x v e p q)
 
 -- half a turn at most, or 14
 pub arctangent_outcome : {Q : ℕ → Type 0} → Q 14 → (y x : Float) → Finite y → Finite x
@@ -83,7 +83,7 @@ arctangent_number_outcome (inf s) (inf t) p q z = absurd (unfold is_finite in p)
 arctangent_number_outcome {Q} (fin s m e) (inf t) p q z =
     subst (Outcome (Angle (Between (neg PI) PI)) Q)
     (sym (arctangent_answered (fin s m e) (inf t) (second_not_zero (fin s m e) (inf t) z)))
-    (outcome-answered (arctangent_of (fin s m e) (inf t)) (at_infinity s t m e))
+    (outcome_answered (arctangent_of (fin s m e) (inf t)) (at_infinity s t m e))
 
 level_at_infinity : (s : Bool) (m : ℕ) (e : ℤ) → size (arctangent_of (fin s m e) (inf false)).0 ≼ HALF
 unfolding arctangent_of bears_minus size neg le div mul add of_bits round
@@ -95,7 +95,7 @@ pub arctangent_number_at_most_half : (y x : Float) → Finite y → (x ≡ nan �
     → arctangent_in y x ≡ answered v → size v.0 ≼ HALF
 unfolding bears_minus
 arctangent_number_at_most_half y nan p q h v e = absurd (q refl)
-arctangent_number_at_most_half y (fin t m c) p q h v e = arctangent-in-at-most-half y (fin t m c) v e p (unfold is_finite in tt) h
+arctangent_number_at_most_half y (fin t m c) p q h v e = arctangent_in_at_most_half y (fin t m c) v e p (unfold is_finite in tt) h
 arctangent_number_at_most_half nan (inf t) p q h v e = absurd (unfold is_finite in p)
 arctangent_number_at_most_half (inf s) (inf t) p q h v e = absurd (unfold is_finite in p)
 arctangent_number_at_most_half (fin s m c) (inf t) p q h v e =
@@ -107,18 +107,18 @@ arctangent_number_at_most_half (fin s m c) (inf t) p q h v e =
 
 module _ {Q : ℕ → Type 0} (seven : Q 7) where
   -- a quarter turn at most, or 7
-  pub arcsine-outcome : (s : Float) → Finite s → Outcome (Angle (Between (neg HALF) HALF)) Q (arcsine_in s)
-  arcsine-outcome s p =
+  pub arcsine_outcome : (s : Float) → Finite s → Outcome (Angle (Between (neg HALF) HALF)) Q (arcsine_in s)
+  arcsine_outcome s p =
       record {
-        answers = λ v e. size→between HALF v.0 (unfold is_finite of_bits in tt) (arcsine-at-most-half s p v e);
-        refuses = λ n e. subst Q (sym (arcsine-refuses-seven s p n e).0) seven;
+        answers = λ v e. size→between HALF v.0 (unfold is_finite of_bits in tt) (arcsine_at_most_half s p v e);
+        refuses = λ n e. subst Q (sym (arcsine_refuses_seven s p n e).0) seven;
       }
 
   -- of an infinity 7
-  pub arcsine-number-outcome : (s : Float) → (s ≡ nan → ⊥) → Outcome (Angle (Between (neg HALF) HALF)) Q (arcsine_in s)
-  arcsine-number-outcome nan p = absurd (p refl)
-  arcsine-number-outcome (inf t) p = unfold arcsine_in lt size of_bits in outcome-refused 7 seven
-  arcsine-number-outcome (fin t m e) p = arcsine-outcome (fin t m e) (unfold is_finite in tt)
+  pub arcsine_number_outcome : (s : Float) → (s ≡ nan → ⊥) → Outcome (Angle (Between (neg HALF) HALF)) Q (arcsine_in s)
+  arcsine_number_outcome nan p = absurd (p refl)
+  arcsine_number_outcome (inf t) p = unfold arcsine_in lt size of_bits in outcome_refused 7 seven
+  arcsine_number_outcome (fin t m e) p = arcsine_outcome (fin t m e) (unfold is_finite in tt)
 
 -- ---- a quotient by what is not zero is no NaN
 
@@ -143,13 +143,13 @@ quotient_not_nan nan y p q z e = absurd p
 quotient_not_nan (inf s) y p q z e = absurd p
 quotient_not_nan (fin s m c) nan p q z e = absurd q
 quotient_not_nan (fin s m c) (inf t) p q z e = absurd q
-quotient_not_nan (fin s m c) (fin t n d) p q z e = by-case (eqb n 0) refl e
+quotient_not_nan (fin s m c) (fin t n d) p q z e = by_case (eqb n 0) refl e
   where
-    by-case : (b : Bool) → eqb n 0 ≡ b
+    by_case : (b : Bool) → eqb n 0 ≡ b
         → cond b (cond (eqb m 0) nan (inf (unlike s t))) (round binary64 (unlike s t) (m * up c * down d) (n * up d * down c)) ≡ nan
         → ⊥
-    by-case true k e = T_not (is_zero (fin t n d)) z (rw (eqb→eq n 0 (holds k)) (zero_is_zero t d))
-    by-case false k e = round_not_nan binary64 (unlike s t) (m * up c * down d) (n * up d * down c) e
+    by_case true k e = T_not (is_zero (fin t n d)) z (rw (eqb→eq n 0 (holds k)) (zero_is_zero t d))
+    by_case false k e = round_not_nan binary64 (unlike s t) (m * up c * down d) (n * up d * down c) e
 
 -- and bears no minus sign where both bear the same
 pub quotient_no_minus : (x y : Float) → Finite x → Finite y → bears_minus x ≡ bears_minus y → bears_minus (x ⊘ y) ≡ false
@@ -158,7 +158,7 @@ quotient_no_minus nan y p q same = absurd p
 quotient_no_minus (inf s) y p q same = absurd p
 quotient_no_minus (fin s m c) nan p q same = absurd q
 quotient_no_minus (fin s m c) (inf t) p q same = absurd q
-quotient_no_minus (fin s m c) (fin t n d) p q same = rw (alike s t same) (by-case (eqb n 0) (eqb m 0))
+quotient_no_minus (fin s m c) (fin t n d) p q same = rw (alike s t same) (by_case (eqb n 0) (eqb m 0))
   where
     alike : (s t : Bool) → s ≡ t → unlike s t ≡ false
     alike true true e = refl
@@ -166,11 +166,11 @@ quotient_no_minus (fin s m c) (fin t n d) p q same = rw (alike s t same) (by-cas
     alike false true e = sym e
     alike false false e = refl
 
-    by-case : (a b : Bool)
+    by_case : (a b : Bool)
         → bears_minus (cond a (cond b nan (inf false)) (round binary64 false (m * up c * down d) (n * up d * down c))) ≡ false
-    by-case true true = refl
-    by-case true false = refl
-    by-case false b =
+    by_case true true = refl
+    by_case true false = refl
+    by_case false b =
         no_minus_of_plus (round binary64 false (m * up c * down d) (n * up d * down c)) (round_plus binary64 (m * up c * down d) (n * up d * down c))
 
 -- nor is it zero, of what is not zero by a number of size 1 at most
@@ -240,4 +240,4 @@ root_outcome {Q} a b p q p2 q2 r =
     let P : Plus x = add_plus binary64 (a ⊗ a) (b ⊗ b) p2 q2 (square_plus a p) (minus_le_plus (a ⊗ a) (b ⊗ b) (square_plus a p) (square_plus b q)) in
     let z : IsFromZero x = record { held = add-fits binary64 (a ⊗ a) (b ⊗ b); finite = is_true (is_finite x) r; plus = no_minus_of_plus x P } in
     subst (Outcome Finite Q) (sym (root_answered x z.finite z.plus))
-    (outcome-answered (root_of x) (holds (root_from_zero x z).finite))
+    (outcome_answered (root_of x) (holds (root_from_zero x z).finite))

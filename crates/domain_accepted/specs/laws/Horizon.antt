@@ -11,18 +11,18 @@ use Rattle.quantity.specs.rules.Refusal.{angle_refusal, latitude_refusal, steep_
 use Rattle.elementary.specs.rules.Sine.{sine_of}
 use Rattle.coords.specs.rules.Arguments.{steep_sky_refusal}
 use Rattle.coords.specs.rules.Horizon.{southward}
-use Rattle.domain_accepted.specs.laws.Accepted.{none_of_three, angle-sine, angle-cosine, latitude-sine, latitude-cosine, steep-tangent}
+use Rattle.domain_accepted.specs.laws.Accepted.{none_of_three, angle_sine, angle_cosine, latitude_sine, latitude_cosine, steep_tangent}
 
 module _ (h d p : Rad) (none : steep_sky_refusal h d p ≡ 0) where
-  pub westward-finite : Finite (sine_of h)
-  westward-finite =
+  pub westward_finite : Finite (sine_of h)
+  westward_finite =
       let n = none_of_three (angle_refusal h) (steep_refusal d) (latitude_refusal p) none in
-      (angle-sine h n.0).finite
+      (angle_sine h n.0).finite
 
-  pub southward-finite : Finite (southward h d p)
+  pub southward_finite : Finite (southward h d p)
   unfolding is_finite le neg add sub mul of_bits round
-  southward-finite =
+  southward_finite =
       let n = none_of_three (angle_refusal h) (steep_refusal d) (latitude_refusal p) none in
       (bounded binary64 (neg (over 32768 1)) (over 32768 1)
-      (known (angle-cosine h n.0) ⊠ known (latitude-sine p n.2) ⊟ known (steep-tangent d n.1) ⊠ known (latitude-cosine p n.2)) tt
+      (known (angle_cosine h n.0) ⊠ known (latitude_sine p n.2) ⊟ known (steep_tangent d n.1) ⊠ known (latitude_cosine p n.2)) tt
       ).finite

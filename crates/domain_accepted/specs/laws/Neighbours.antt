@@ -11,7 +11,7 @@ use Rattle.double.specs.notions.Grid.{grid}
 use Rattle.double.specs.laws.Order.{minus_le_plus}
 use Rattle.double.specs.laws.Rounding.{round_plus}
 use Rattle.double.specs.laws.Exact.{round_own}
-use Rattle.double.specs.laws.Grid.{grid-under, grid-over}
+use Rattle.double.specs.laws.Grid.{grid_under, grid_over}
 use Rattle.double.specs.laws.Numbers.{less_or_not}
 use Rattle.root.specs.laws.Midpoint.{multiple, short}
 
@@ -72,9 +72,9 @@ neighbours j k least (fin false m e) F p = go (less_or_not (k * down e) (m * up 
         → (x ≼ grid binary64 j k) ⊎ (grid binary64 j (suc k) ≼ x)
     go (inl h) =
         inr
-        (grid-under binary64 j (suc k) x (m * up e) 0 (down e) (down_pos e) itself
+        (grid_under binary64 j (suc k) x (m * up e) 0 (down e) (down_pos e) itself
         (flat (suc k * down e) (m * up e * 2 ^ suc j) (2 ^ suc j) (next j k m e (few_digits false m e F) least h)))
     go (inr h) =
         inl
-        (grid-over binary64 j k x (m * up e) 0 (down e) (down_pos e) itself
+        (grid_over binary64 j k x (m * up e) 0 (down e) (down_pos e) itself
         (flat' (m * up e * 2 ^ suc j) (k * down e) (2 ^ suc j) h))

@@ -10,7 +10,7 @@ use Rattle.double.specs.rules.Sign.{is_finite}
 use Rattle.double.specs.rules.Order.{Between}
 use Rattle.double.specs.rules.Whole.{from_whole}
 use Rattle.double.specs.rules.Table.{over, minus_over}
-use Rattle.double.specs.notions.Range.{Range, ◌to◌, span, subRange, inside}
+use Rattle.double.specs.notions.Range.{Range, ◌to◌, span, sub_range, inside}
 use Rattle.double.specs.notions.Grid.{grid}
 use Rattle.elementary.specs.rules.Fold.{P1, P2, P3}
 
@@ -46,13 +46,13 @@ first_above n = grid binary64 (step_at n) (suc (point_at n))
 -- ---- the tests, of angles up to 80.0: less n·P1, and less n·P2 and n·P3 from either side
 
 abbrev less_p1 : ℕ → Range
-less_p1 n = let y = from_whole n ⊗ P1 in subRange binary64 (operations.zero to over 80 1) (span y y)
+less_p1 n = let y = from_whole n ⊗ P1 in sub_range binary64 (operations.zero to over 80 1) (span y y)
 
 abbrev less_rest : ℕ → Range → Range
 less_rest n i =
     let y = from_whole n ⊗ P2 in
     let z = from_whole n ⊗ P3 in
-    subRange binary64 (subRange binary64 i (span y y)) (span z z)
+    sub_range binary64 (sub_range binary64 i (span y y)) (span z z)
 
 abbrev pub full_length : ℕ → Bool
 full_length n = leb (2 ^ 52) (point_at n) && (is_finite (last_below n) && is_finite (first_above n))

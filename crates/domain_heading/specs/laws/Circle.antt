@@ -64,22 +64,22 @@ rem_stays (fin true m e) (fin false n d) F p q z l =
 
 limited_stays : (x full : Float) → T (fits binary64 x) → T (positive full) → Finite x → zero ≼ x → T (lt x full) → limited x full ≡ x
 unfolding limited
-limited_stays x full F p q z l = rw (rem_stays x full F p q z l) (by-case (lt x zero) (x ⊕ full) (not_lt_of_le zero x finite_zero q z))
+limited_stays x full F p q z l = rw (rem_stays x full F p q z l) (by_case (lt x zero) (x ⊕ full) (not_lt_of_le zero x finite_zero q z))
   where
-    by-case : (b : Bool) (y : Float) → T (not b) → cond b y x ≡ x
-    by-case true y t = absurd t
-    by-case false y t = refl
+    by_case : (b : Bool) (y : Float) → T (not b) → cond b y x ≡ x
+    by_case true y t = absurd t
+    by_case false y t = refl
 
 -- ---- on the circle
 
 pub on_circle_stays : (x : Float) → T (fits binary64 x) → Finite x → zero ≼ x → T (lt x turn_in_degrees) → on_circle (deg x) ≡ deg x
 unfolding on_circle below_turn
 on_circle_stays x F q z l =
-    rw (limited_stays x turn_in_degrees F (unfold of_bits in tt) q z l) (by-case (lt x turn_in_degrees) l)
+    rw (limited_stays x turn_in_degrees F (unfold of_bits in tt) q z l) (by_case (lt x turn_in_degrees) l)
   where
-    by-case : (b : Bool) → T b → cond b (deg x) (deg zero) ≡ deg x
-    by-case true t = refl
-    by-case false t = absurd t
+    by_case : (b : Bool) → T b → cond b (deg x) (deg zero) ≡ deg x
+    by_case true t = refl
+    by_case false t = absurd t
 
 -- a whole turn is 0
 pub on_circle_turn : on_circle (deg turn_in_degrees) ≡ deg zero
@@ -89,17 +89,17 @@ on_circle_turn = refl
 -- what lies from 0 to a turn stays, or is the turn
 pub on_circle_cases : (x : Float) → T (fits binary64 x) → Between zero turn_in_degrees x
     → ((on_circle (deg x)).0 ≡ x) ⊎ ((x ≡ turn_in_degrees) × ((on_circle (deg x)).0 ≡ zero))
-on_circle_cases x F i = by-case (lt x turn_in_degrees) (λ t. t) (λ t. t)
+on_circle_cases x F i = by_case (lt x turn_in_degrees) (λ t. t) (λ t. t)
   where
     whole : turn_in_degrees ≼ x → x ≡ turn_in_degrees
     whole h =
         squeezed turn_in_degrees x (unfold fits of_bits in tt) F (unfold of_bits in tt) (plus_of_positive turn_in_degrees x (unfold of_bits in tt) h)
         (between i.end i.end h i.to)
 
-    by-case : (b : Bool) → (T b → T (lt x turn_in_degrees)) → (T (not b) → T (not (lt x turn_in_degrees)))
+    by_case : (b : Bool) → (T b → T (lt x turn_in_degrees)) → (T (not b) → T (not (lt x turn_in_degrees)))
         → ((on_circle (deg x)).0 ≡ x) ⊎ ((x ≡ turn_in_degrees) × ((on_circle (deg x)).0 ≡ zero))
-    by-case true h k = inl (ap (λ (y : Deg). y.0) (on_circle_stays x F i.finite i.from (h tt)))
-    by-case false h k =
+    by_case true h k = inl (ap (λ (y : Deg). y.0) (on_circle_stays x F i.finite i.from (h tt)))
+    by_case false h k =
         let e = whole (le_of_not_lt x turn_in_degrees i.finite i.end (k tt)) in
         inr (e, ap (λ (y : Float). (on_circle (deg y)).0) e ∙ ap (λ (y : Deg). y.0) on_circle_turn)
 

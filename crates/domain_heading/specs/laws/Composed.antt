@@ -21,12 +21,12 @@ use Rattle.sidereal.specs.rules.Apparent.{apparent_of, apparent_sidereal_rule}
 use Rattle.helpers.specs.rules.Circle.{below_turn, on_circle}
 use Rattle.heading.specs.rules.Sky.{northward, bearings, sky_from, sky_in, sky_under}
 use Rattle.heading.specs.rules.Heading.{record_of, heading_refusal, heading_in, heading_rule}
-use Rattle.conditions.specs.laws.Azimuth.{azimuth-at-most-half-turn}
+use Rattle.conditions.specs.laws.Azimuth.{azimuth_at_most_half_turn}
 use Rattle.domain_accepted.specs.laws.Accepted.{none_of_three}
-use Rattle.domain.specs.laws.Days.{second-accepted}
+use Rattle.domain.specs.laws.Days.{second_accepted}
 use Rattle.domain_heading.specs.notions.Composed.{turned_rule, in_sky_rule, composed}
 use Rattle.domain_heading.specs.notions.Sky.{turned}
-use Rattle.domain_heading.specs.laws.Turn.{turned-between}
+use Rattle.domain_heading.specs.laws.Turn.{turned_between}
 
 -- two works that go on alike from what is answered
 then_alike : {A B : Type 0} (a : Answer A) (f g : A → Answer B) → ((x : A) → a ≡ answered x → f x ≡ g x) → then a f ≡ then a g
@@ -36,11 +36,11 @@ then_alike (refused n) f g h = refl
 
 -- the fold refuses nothing that is finite
 fold_taken : (x : Float) → Finite x → limit_to_360_rule (deg x) ≡ answered (within360 (deg x))
-fold_taken x F = by-case (is_finite x) F
+fold_taken x F = by_case (is_finite x) F
   where
-    by-case : (b : Bool) → T b → unless (cond b 0 1) (answered (within360 (deg x))) ≡ answered (within360 (deg x))
-    by-case true t = refl
-    by-case false t = absurd t
+    by_case : (b : Bool) → T b → unless (cond b 0 1) (answered (within360 (deg x))) ≡ answered (within360 (deg x))
+    by_case true t = refl
+    by_case false t = absurd t
 
 bearings_composed : (az alt : Rad) → Finite (turned az) → bearings az alt ≡ turned_rule az alt
 unfolding bearings northward on_circle then
@@ -53,7 +53,7 @@ sky_composed h d p =
     then_alike (az_frm_eq_rule h d p) (λ (az : Rad). sky_from az h d p) (λ (az : Rad). then (alt_frm_eq_rule h d p) (λ (alt : Rad). turned_rule az alt))
     (λ az e.
     then_cong (alt_frm_eq_rule h d p) (λ (alt : Rad). bearings az alt) (λ (alt : Rad). turned_rule az alt)
-    (λ alt. bearings_composed az alt (turned-between az (azimuth-at-most-half-turn h d p az e)).finite))
+    (λ alt. bearings_composed az alt (turned_between az (azimuth_at_most_half_turn h d p az e)).finite))
 
 pub heading_composed : (edition : Edition) (asc : ℕ) (dec ascRate decRate : ℤ) (day1 day2 : Float) (long lat : Rad)
     → heading_refusal day1 day2 long lat ≡ 0
@@ -69,4 +69,4 @@ heading_composed edition asc dec ascRate decRate day1 day2 long lat none =
     (λ (h : Rad). in_sky_rule h (rad (second p)) lat) (λ h. sky_composed h (rad (second p)) lat)
     ∙ ap
     (λ (k : ℕ). then (unless k (answered (apparent_of day2))) (λ (g : Rad). then (hr_angl_frm_observer_long_rule g long (rad (first p))) (λ (h : Rad). in_sky_rule h (rad (second p)) lat)))
-    (sym (second-accepted day1 day2 n.0)))
+    (sym (second_accepted day1 day2 n.0)))

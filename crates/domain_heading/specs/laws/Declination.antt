@@ -21,9 +21,9 @@ use Rattle.units.specs.rules.Degrees.{degrees_of_radian, to_degrees}
 use Rattle.coords.specs.rules.Horizon.{southward, az_frm_eq_rule, alt_frm_eq_rule}
 use Rattle.helpers.specs.rules.Circle.{half_turn}
 use Rattle.heading.specs.rules.Sky.{bearings, sky_from, sky_in}
-use Rattle.conditions.specs.laws.Azimuth.{azimuth-at-most-half-turn}
-use Rattle.conditions.specs.laws.Declination.{altitude_declination, azimuth_refused_there, azimuth_refused_here, azimuth-sign-stays, azimuth-size-there}
-use Rattle.conditions.specs.laws.Declination.{azimuth-size-here}
+use Rattle.conditions.specs.laws.Azimuth.{azimuth_at_most_half_turn}
+use Rattle.conditions.specs.laws.Declination.{altitude_declination, azimuth_refused_there, azimuth_refused_here, azimuth_sign_stays, azimuth_size_there}
+use Rattle.conditions.specs.laws.Declination.{azimuth_size_here}
 use Rattle.domain_heading.specs.notions.Sky.{InSky}
 use Rattle.domain_heading.specs.laws.Turn.{finite_pi, signed_size}
 use Rattle.domain_heading.specs.laws.Sky.{in_sky}
@@ -56,34 +56,34 @@ degrees_sign v far = by_sign (bears_minus v.0) refl
 -- ---- answered
 
 module _ (h d p : Rad) (not_zero : NonZero (southward h d p)) (x z a x' z' a' : Float) (here : sky_in h d p ≡ answered (triple x z a)) (there : sky_in h (opposite d) (opposite p) ≡ answered (triple x' z' a')) where
-  pub in-sky-here : InSky h d p x z a
-  in-sky-here = in_sky h d p x z a here
+  pub in_sky_here : InSky h d p x z a
+  in_sky_here = in_sky h d p x z a here
 
-  pub in-sky-there : InSky h (opposite d) (opposite p) x' z' a'
-  in-sky-there = in_sky h (opposite d) (opposite p) x' z' a' there
+  pub in_sky_there : InSky h (opposite d) (opposite p) x' z' a'
+  in_sky_there = in_sky h (opposite d) (opposite p) x' z' a' there
 
   -- the altitude stays
-  pub sky-altitude-stays : a' ≡ a
-  sky-altitude-stays =
-      in-sky-there.altitude
-      ∙ ap (λ (w : Rad). (to_degrees w).0) (same_value (sym in-sky-there.alt_is ∙ altitude_declination h d p ∙ in-sky-here.alt_is))
-      ∙ sym in-sky-here.altitude
+  pub sky_altitude_stays : a' ≡ a
+  sky_altitude_stays =
+      in_sky_there.altitude
+      ∙ ap (λ (w : Rad). (to_degrees w).0) (same_value (sym in_sky_there.alt_is ∙ altitude_declination h d p ∙ in_sky_here.alt_is))
+      ∙ sym in_sky_here.altitude
 
   -- the azimuth's sign stays
-  pub sky-sign-stays : bears_minus z' ≡ bears_minus z
-  sky-sign-stays =
-      ap bears_minus in-sky-there.azimuth
-      ∙ degrees_sign in-sky-there.az (azimuth-at-most-half-turn h (opposite d) (opposite p) in-sky-there.az in-sky-there.az_is)
-      ∙ azimuth-sign-stays h d p not_zero in-sky-here.az in-sky-there.az in-sky-here.az_is in-sky-there.az_is
-      ∙ sym (degrees_sign in-sky-here.az (azimuth-at-most-half-turn h d p in-sky-here.az in-sky-here.az_is))
-      ∙ sym (ap bears_minus in-sky-here.azimuth)
+  pub sky_sign_stays : bears_minus z' ≡ bears_minus z
+  sky_sign_stays =
+      ap bears_minus in_sky_there.azimuth
+      ∙ degrees_sign in_sky_there.az (azimuth_at_most_half_turn h (opposite d) (opposite p) in_sky_there.az in_sky_there.az_is)
+      ∙ azimuth_sign_stays h d p not_zero in_sky_here.az in_sky_there.az in_sky_here.az_is in_sky_there.az_is
+      ∙ sym (degrees_sign in_sky_here.az (azimuth_at_most_half_turn h d p in_sky_here.az in_sky_here.az_is))
+      ∙ sym (ap bears_minus in_sky_here.azimuth)
 
   -- from south to north, and from north to south
-  pub sky-size-there : bears_minus (southward h d p) ≡ false → size in-sky-there.az.0 ≡ PI ⊖ size in-sky-here.az.0
-  sky-size-there = azimuth-size-there h d p not_zero in-sky-here.az in-sky-there.az in-sky-here.az_is in-sky-there.az_is
+  pub sky_size_there : bears_minus (southward h d p) ≡ false → size in_sky_there.az.0 ≡ PI ⊖ size in_sky_here.az.0
+  sky_size_there = azimuth_size_there h d p not_zero in_sky_here.az in_sky_there.az in_sky_here.az_is in_sky_there.az_is
 
-  pub sky-size-here : bears_minus (southward h d p) ≡ true → size in-sky-here.az.0 ≡ PI ⊖ size in-sky-there.az.0
-  sky-size-here = azimuth-size-here h d p not_zero in-sky-here.az in-sky-there.az in-sky-here.az_is in-sky-there.az_is
+  pub sky_size_here : bears_minus (southward h d p) ≡ true → size in_sky_here.az.0 ≡ PI ⊖ size in_sky_there.az.0
+  sky_size_here = azimuth_size_here h d p not_zero in_sky_here.az in_sky_there.az in_sky_here.az_is in_sky_there.az_is
 
 -- ---- refused
 

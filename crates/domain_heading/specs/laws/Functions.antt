@@ -17,9 +17,9 @@ use Rattle.list.specs.declared.Star.{Star}
 use Rattle.heading.specs.rules.Sky.{northward, sky_in}
 use Rattle.domain_heading.specs.notions.Heading.{hour_angle, Sighted}
 use Rattle.domain_heading.specs.notions.Mirror.{mirrored, Across}
-use Rattle.domain_heading.specs.laws.Sky.{in_sky, sky-azimuth-between}
-use Rattle.domain_heading.specs.laws.Mirror.{sky_hour, headings-across}
-use Rattle.domain_heading.specs.laws.Declination.{sky-altitude-stays, sky-sign-stays, sky_refused_there, sky_refused_here}
+use Rattle.domain_heading.specs.laws.Sky.{in_sky, sky_azimuth_between}
+use Rattle.domain_heading.specs.laws.Mirror.{sky_hour, headings_across}
+use Rattle.domain_heading.specs.laws.Declination.{sky_altitude_stays, sky_sign_stays, sky_refused_there, sky_refused_here}
 
 -- ---- two answers in the sky
 
@@ -35,33 +35,33 @@ sky_across h d p x z a x' z' a' e f = by_values (same_value (sym f ∙ sky_hour 
     by_values : triple x' z' a' ≡ triple (northward (deg (neg z))).0 (neg z) a → (z' ≡ neg z) × (a' ≡ a) × Across x x'
     by_values k =
         let there : x' ≡ (northward (deg (neg z))).0 = cc in
-        (cc, cc, subst (λ (y : Float). Across y x') (sym here) (subst (Across (northward (deg z)).0) (sym there) (headings-across z (sky-azimuth-between h d p x z a e))))
+        (cc, cc, subst (λ (y : Float). Across y x') (sym here) (subst (Across (northward (deg z)).0) (sym there) (headings_across z (sky_azimuth_between h d p x z a e))))
 
 -- ---- the function's
 
 module _ (h d p : Rad) (r s : Three) (meets : shown_three r ≡ sky_in h d p) where
   module _ (meets' : shown_three s ≡ sky_in (opposite h) d p) where
-    pub sky-in-hour : shown_three s ≡ with mirrored (shown_three r)
-    sky-in-hour = carried shown_three (with mirrored) r s meets meets' (sky_hour h d p)
+    pub sky_in_hour : shown_three s ≡ with mirrored (shown_three r)
+    sky_in_hour = carried shown_three (with mirrored) r s meets meets' (sky_hour h d p)
 
-    pub sky-in-hour-refused-there : (n : ℕ) → r ≡ Refused n → s ≡ Refused n
-    sky-in-hour-refused-there n is = shown_three_loses_nothing s (Refused n) (sky-in-hour ∙ ap (λ (q : Three). with mirrored (shown_three q)) is)
+    pub sky_in_hour_refused_there : (n : ℕ) → r ≡ Refused n → s ≡ Refused n
+    sky_in_hour_refused_there n is = shown_three_loses_nothing s (Refused n) (sky_in_hour ∙ ap (λ (q : Three). with mirrored (shown_three q)) is)
 
-    pub sky-in-hour-refused-here : (n : ℕ) → s ≡ Refused n → r ≡ Refused n
-    sky-in-hour-refused-here n is =
-        shown_three_loses_nothing r (Refused n) (with_refused (shown_three r) mirrored n (sym sky-in-hour ∙ ap shown_three is))
+    pub sky_in_hour_refused_here : (n : ℕ) → s ≡ Refused n → r ≡ Refused n
+    sky_in_hour_refused_here n is =
+        shown_three_loses_nothing r (Refused n) (with_refused (shown_three r) mirrored n (sym sky_in_hour ∙ ap shown_three is))
 
-    pub sky-in-hour-answered : (x z a x' z' a' : Float) → r ≡ Are x z a → s ≡ Are x' z' a' → (z' ≡ neg z) × (a' ≡ a) × Across x x'
-    sky-in-hour-answered x z a x' z' a' is is' =
+    pub sky_in_hour_answered : (x z a x' z' a' : Float) → r ≡ Are x z a → s ≡ Are x' z' a' → (z' ≡ neg z) × (a' ≡ a) × Across x x'
+    sky_in_hour_answered x z a x' z' a' is is' =
         sky_across h d p x z a x' z' a' (sym meets ∙ ap shown_three is) (sym meets' ∙ ap shown_three is')
 
   module _ (meets' : shown_three s ≡ sky_in h (opposite d) (opposite p)) where
-    pub sky-in-declination-refused-there : (n : ℕ) → r ≡ Refused n → s ≡ Refused n
-    sky-in-declination-refused-there n is =
+    pub sky_in_declination_refused_there : (n : ℕ) → r ≡ Refused n → s ≡ Refused n
+    sky_in_declination_refused_there n is =
         shown_three_loses_nothing s (Refused n) (meets' ∙ sky_refused_there h d p n (sym meets ∙ ap shown_three is))
 
-    pub sky-in-declination-refused-here : (n : ℕ) → s ≡ Refused n → r ≡ Refused n
-    sky-in-declination-refused-here n is =
+    pub sky_in_declination_refused_here : (n : ℕ) → s ≡ Refused n → r ≡ Refused n
+    sky_in_declination_refused_here n is =
         shown_three_loses_nothing r (Refused n) (meets ∙ sky_refused_here h d p n (sym meets' ∙ ap shown_three is))
 
 -- ---- two sights, end to end
@@ -80,20 +80,20 @@ module _ (edition edition' : Edition) (star star' : Star) (day1 day2 day1' day2'
   dec' = rad (second there.place)
 
   -- the one hour angle is the other's opposite
-  pub heading-mirror : hour' ≡ opposite hour → dec' ≡ dec → lat' ≡ lat → (z' ≡ neg z) × (a' ≡ a) × Across x x'
-  heading-mirror h d p =
+  pub heading_mirror : hour' ≡ opposite hour → dec' ≡ dec → lat' ≡ lat → (z' ≡ neg z) × (a' ≡ a) × Across x x'
+  heading_mirror h d p =
       sky_across hour dec lat x z a x' z' a' here.seen
       (subst (λ (t : Rad). sky_in t dec lat ≡ answered (triple x' z' a')) h
       (subst (λ (t : Rad). sky_in hour' t lat ≡ answered (triple x' z' a')) d
       (subst (λ (t : Rad). sky_in hour' dec' t ≡ answered (triple x' z' a')) p there.seen)))
 
   -- declination and latitude are the others' opposites
-  pub heading-declination : NonZero (southward hour dec lat) → hour' ≡ hour → dec' ≡ opposite dec → lat' ≡ opposite lat
+  pub heading_declination : NonZero (southward hour dec lat) → hour' ≡ hour → dec' ≡ opposite dec → lat' ≡ opposite lat
       → (bears_minus z' ≡ bears_minus z) × (a' ≡ a)
-  heading-declination not_zero h d p =
+  heading_declination not_zero h d p =
       let seen' : sky_in hour (opposite dec) (opposite lat) ≡ answered (triple x' z' a') =
       subst (λ (t : Rad). sky_in t (opposite dec) (opposite lat) ≡ answered (triple x' z' a')) h
       (subst (λ (t : Rad). sky_in hour' t (opposite lat) ≡ answered (triple x' z' a')) d
       (subst (λ (t : Rad). sky_in hour' dec' t ≡ answered (triple x' z' a')) p there.seen))
       in
-      (sky-sign-stays hour dec lat not_zero x z a x' z' a' here.seen seen', sky-altitude-stays hour dec lat not_zero x z a x' z' a' here.seen seen')
+      (sky_sign_stays hour dec lat not_zero x z a x' z' a' here.seen seen', sky_altitude_stays hour dec lat not_zero x z a x' z' a' here.seen seen')

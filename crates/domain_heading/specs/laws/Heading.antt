@@ -26,8 +26,8 @@ use Rattle.heading.specs.rules.Sky.{sky_in, sky_under}
 use Rattle.heading.specs.rules.Heading.{record_of, heading_refusal, heading_in, heading_rule}
 use Rattle.domain_heading.specs.notions.Circle.{IsHeading, east, west}
 use Rattle.domain_heading.specs.notions.Heading.{hour_angle, Sighted}
-use Rattle.domain_heading.specs.laws.Sky.{sky-heading-within, sky-azimuth-between, sky-altitude-between, sky-heading-turned, sky-west, sky-east}
-use Rattle.domain_heading.specs.laws.Sky.{sky-south, sky-north}
+use Rattle.domain_heading.specs.laws.Sky.{sky_heading_within, sky_azimuth_between, sky_altitude_between, sky_heading_turned, sky_west, sky_east}
+use Rattle.domain_heading.specs.laws.Sky.{sky_south, sky_north}
 
 -- ---- the steps that led to an answer
 
@@ -64,46 +64,46 @@ sighted edition asc dec ascRate decRate day1 day2 long lat t e =
 -- ---- a function answers the heading x, the azimuth z and the altitude a
 
 module _ (edition : Edition) (asc : ℕ) (dec ascRate decRate : ℤ) (day1 day2 : Float) (long lat : Rad) (r : Three) (x z a : Float) (meets : shown_three r ≡ heading_rule edition asc dec ascRate decRate day1 day2 long lat) (is : r ≡ Are x z a) where
-  pub of-a-sight : Sighted edition (record_of asc dec ascRate decRate) day1 day2 long lat (triple x z a)
-  of-a-sight = sighted edition asc dec ascRate decRate day1 day2 long lat (triple x z a) (sym meets ∙ ap shown_three is)
+  pub of_a_sight : Sighted edition (record_of asc dec ascRate decRate) day1 day2 long lat (triple x z a)
+  of_a_sight = sighted edition asc dec ascRate decRate day1 day2 long lat (triple x z a) (sym meets ∙ ap shown_three is)
 
   -- the star's hour angle and its declination on the day of the sight
   abbrev pub hour : Rad
-  hour = hour_angle of-a-sight.place day2 long
+  hour = hour_angle of_a_sight.place day2 long
 
-  abbrev pub decThere : Rad
-  decThere = rad (second of-a-sight.place)
+  abbrev pub dec_there : Rad
+  dec_there = rad (second of_a_sight.place)
 
   -- from 0 to below 360
-  pub heading-within : IsHeading x
-  heading-within = sky-heading-within hour decThere lat x z a of-a-sight.seen
+  pub heading_within : IsHeading x
+  heading_within = sky_heading_within hour dec_there lat x z a of_a_sight.seen
 
-  pub heading-finite : Finite x × Finite z × Finite a
-  heading-finite =
-      (heading-within.finite, (sky-azimuth-between hour decThere lat x z a of-a-sight.seen).finite, (sky-altitude-between hour decThere lat x z a of-a-sight.seen).finite)
+  pub heading_finite : Finite x × Finite z × Finite a
+  heading_finite =
+      (heading_within.finite, (sky_azimuth_between hour dec_there lat x z a of_a_sight.seen).finite, (sky_altitude_between hour dec_there lat x z a of_a_sight.seen).finite)
 
-  pub heading-azimuth-between : Between (neg half_turn) half_turn z
-  heading-azimuth-between = sky-azimuth-between hour decThere lat x z a of-a-sight.seen
+  pub heading_azimuth_between : Between (neg half_turn) half_turn z
+  heading_azimuth_between = sky_azimuth_between hour dec_there lat x z a of_a_sight.seen
 
-  pub heading-altitude-between : Between (neg east) east a
-  heading-altitude-between = sky-altitude-between hour decThere lat x z a of-a-sight.seen
+  pub heading_altitude_between : Between (neg east) east a
+  heading_altitude_between = sky_altitude_between hour dec_there lat x z a of_a_sight.seen
 
   -- half a turn from the azimuth, rounded once; a whole turn is 0
-  pub heading-turned : (x ≡ z ⊕ half_turn) ⊎ ((z ⊕ half_turn ≡ turn_in_degrees) × (x ≡ zero))
-  heading-turned = sky-heading-turned hour decThere lat x z a of-a-sight.seen
+  pub heading_turned : (x ≡ z ⊕ half_turn) ⊎ ((z ⊕ half_turn ≡ turn_in_degrees) × (x ≡ zero))
+  heading_turned = sky_heading_turned hour dec_there lat x z a of_a_sight.seen
 
   -- the sine of the hour angle is above zero: from 180 on, or 0, on the meridian in the north
-  pub heading-west : T (lt zero (sine_of hour)) → (half_turn ≼ x) ⊎ (x ≡ zero)
-  heading-west = sky-west hour decThere lat x z a of-a-sight.seen
+  pub heading_west : T (lt zero (sine_of hour)) → (half_turn ≼ x) ⊎ (x ≡ zero)
+  heading_west = sky_west hour dec_there lat x z a of_a_sight.seen
 
   -- below zero: at most 180
-  pub heading-east : T (lt (sine_of hour) zero) → x ≼ half_turn
-  heading-east = sky-east hour decThere lat x z a of-a-sight.seen
+  pub heading_east : T (lt (sine_of hour) zero) → x ≼ half_turn
+  heading_east = sky_east hour dec_there lat x z a of_a_sight.seen
 
   -- the azimuth's second argument bears no minus sign: from 90 to 270
-  pub heading-south : bears_minus (southward hour decThere lat) ≡ false → Between east west x
-  heading-south = sky-south hour decThere lat x z a of-a-sight.seen
+  pub heading_south : bears_minus (southward hour dec_there lat) ≡ false → Between east west x
+  heading_south = sky_south hour dec_there lat x z a of_a_sight.seen
 
   -- it bears one: at most 90, or from 270 on
-  pub heading-north : bears_minus (southward hour decThere lat) ≡ true → (x ≼ east) ⊎ (west ≼ x)
-  heading-north = sky-north hour decThere lat x z a of-a-sight.seen
+  pub heading_north : bears_minus (southward hour dec_there lat) ≡ true → (x ≼ east) ⊎ (west ≼ x)
+  heading_north = sky_north hour dec_there lat x z a of_a_sight.seen

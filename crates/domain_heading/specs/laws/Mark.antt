@@ -22,7 +22,7 @@ use Rattle.quantity.specs.laws.Steps.{refused_not_answered, same_value}
 use Rattle.quantity.specs.laws.Accepted.{lower_none, answered_unless}
 use Rattle.helpers.specs.rules.Angle.{turn_in_degrees}
 use Rattle.helpers.specs.rules.Circle.{circle_refusal}
-use Rattle.helpers.specs.laws.Circle.{circle-finite, circle-from-zero, circle-below-turn}
+use Rattle.helpers.specs.laws.Circle.{circle_finite, circle_from_zero, circle_below_turn}
 use Rattle.heading.specs.rules.Mark.{mark_in, mark_refusal, mark_heading_rule}
 use Rattle.domain_heading.specs.notions.Circle.{IsHeading}
 use Rattle.domain_heading.specs.laws.Circle.{on_circle_stays, on_circle_within}
@@ -30,7 +30,7 @@ use Rattle.domain_heading.specs.laws.Refusals.{unless_refuses, lower_of}
 
 -- an angle that is not refused lies on the circle
 pub circle_accepted : (x : Deg) → circle_refusal x ≡ 0 → IsHeading x.0
-circle_accepted x e = record { finite = circle-finite x e; from = circle-from-zero x e; below = circle-below-turn x e }
+circle_accepted x e = record { finite = circle_finite x e; from = circle_from_zero x e; below = circle_below_turn x e }
 
 in_turn_lem : (x : Deg) → circle_refusal x ≡ 0 → Between zero turn_in_degrees x.0
 in_turn_lem x e =
@@ -61,13 +61,13 @@ NoneOneOrThree n = (n ≡ 0) ⊎ (n ≡ 1) ⊎ (n ≡ 3)
 
 circle_number : (x : Deg) → NoneOneOrThree (circle_refusal x)
 unfolding circle_refusal
-circle_number x = by-case (is_finite x.0) (le zero x.0) (lt x.0 turn_in_degrees)
+circle_number x = by_case (is_finite x.0) (le zero x.0) (lt x.0 turn_in_degrees)
   where
-    by-case : (b c d : Bool) → NoneOneOrThree (cond b (cond c (cond d 0 3) 3) 1)
-    by-case true true true = inl refl
-    by-case true true false = inr (inr refl)
-    by-case true false d = inr (inr refl)
-    by-case false c d = inr (inl refl)
+    by_case : (b c d : Bool) → NoneOneOrThree (cond b (cond c (cond d 0 3) 3) 1)
+    by_case true true true = inl refl
+    by_case true true false = inr (inr refl)
+    by_case true false d = inr (inr refl)
+    by_case false c d = inr (inl refl)
 
 pub mark_refuses : (heading star mark : Deg) (n : ℕ) → mark_heading_rule heading star mark ≡ refused n → (n ≡ 1) ⊎ (n ≡ 3)
 unfolding mark_heading_rule mark_refusal

@@ -85,13 +85,13 @@ other_way_lem z i = subst (λ (y : Float). Between (neg half_turn) y (neg z)) (n
 -- the sum rounds to a whole turn only within 2^−44 of it
 other_north : (z : Float) → Between (neg half_turn) half_turn z → there z ≡ turn_in_degrees → there (neg z) ≼ least
 unfolding is_finite le neg add of_bits
-other_north z i e = by-case (between_cut near_north tt i)
+other_north z i e = by_case (between_cut near_north tt i)
   where
-    by-case : Between (neg half_turn) near_north z ⊎ Between near_north half_turn z → there (neg z) ≼ least
-    by-case (inl j) =
+    by_case : Between (neg half_turn) near_north z ⊎ Between near_north half_turn z → there (neg z) ≼ least
+    by_case (inl j) =
         let k : Between zero below_whole_turn (there z) = bounded binary64 zero below_whole_turn (known j ⊞ con half_turn) tt in
         absurd (subst (λ (y : Float). y ≼ below_whole_turn) e k.to)
-    by-case (inr j) =
+    by_case (inr j) =
         let k : Between zero least (there (neg z)) = bounded binary64 zero least (known (between_neg j) ⊞ con half_turn) tt in
         k.to
 
@@ -100,10 +100,10 @@ unfolding le of_bits
 zero_near = tt
 
 module _ (z : Float) (i : Between (neg half_turn) half_turn z) where
-  pub headings-across : Across (northward (deg z)).0 (northward (deg (neg z))).0
+  pub headings_across : Across (northward (deg z)).0 (northward (deg (neg z))).0
   unfolding northward
-  headings-across =
-      by-case
+  headings_across =
+      by_case
       (on_circle_cases (there z) (add-fits binary64 z half_turn) (in_turn_lem z i))
       (on_circle_cases (there (neg z)) (add-fits binary64 (neg z) half_turn) (in_turn_lem (neg z) (other_way_lem z i)))
     where
@@ -113,15 +113,15 @@ module _ (z : Float) (i : Between (neg half_turn) half_turn z) where
       y : Float
       y = (on_circle (deg (there (neg z)))).0
 
-      by-case : (x ≡ there z) ⊎ ((there z ≡ turn_in_degrees) × (x ≡ zero)) → (y ≡ there (neg z)) ⊎ ((there (neg z) ≡ turn_in_degrees) × (y ≡ zero))
+      by_case : (x ≡ there z) ⊎ ((there z ≡ turn_in_degrees) × (x ≡ zero)) → (y ≡ there (neg z)) ⊎ ((there (neg z) ≡ turn_in_degrees) × (y ≡ zero))
           → Across x y
-      by-case (inl h) (inl k) =
+      by_case (inl h) (inl k) =
           adds_up
           (subst (Between below_whole_turn above_whole_turn) (sym (λ j. h j ⊕ k j))
           (turns_add z i (in_turn_lem z i).finite (in_turn_lem (neg z) (other_way_lem z i)).finite))
-      by-case (inr h) (inl k) = first_north h.1 (subst (λ (v : Float). v ≼ least) (sym k) (other_north z i h.0))
-      by-case (inr h) (inr k) = first_north h.1 (subst (λ (v : Float). v ≼ least) (sym k.1) zero_near)
-      by-case (inl h) (inr k) =
+      by_case (inr h) (inl k) = first_north h.1 (subst (λ (v : Float). v ≼ least) (sym k) (other_north z i h.0))
+      by_case (inr h) (inr k) = first_north h.1 (subst (λ (v : Float). v ≼ least) (sym k.1) zero_near)
+      by_case (inl h) (inr k) =
           second_north
           (subst (λ (v : Float). v ≼ least) (sym (h ∙ ap there (sym (neg_neg z)))) (other_north (neg z) (other_way_lem z i) k.0))
           k.1

@@ -21,11 +21,11 @@ use Rattle.helpers.specs.rules.Angle.{turn_in_degrees}
 use Rattle.coords.specs.rules.Horizon.{southward, az_frm_eq_rule, alt_frm_eq_rule}
 use Rattle.helpers.specs.rules.Circle.{half_turn}
 use Rattle.heading.specs.rules.Sky.{northward, bearings, sky_from, sky_in}
-use Rattle.conditions.specs.laws.Azimuth.{azimuth-sign, azimuth-at-most-quarter-turn, azimuth-at-least-quarter-turn, azimuth-at-most-half-turn}
+use Rattle.conditions.specs.laws.Azimuth.{azimuth_sign, azimuth_at_most_quarter_turn, azimuth_at_least_quarter_turn, azimuth_at_most_half_turn}
 use Rattle.domain.specs.laws.Frames.{alt_frm_eq_at_most_quarter_turn}
 use Rattle.domain_heading.specs.notions.Circle.{IsHeading, east, west}
 use Rattle.domain_heading.specs.notions.Sky.{InSky}
-use Rattle.domain_heading.specs.laws.Turn.{degrees-between, turned-cases, turned-within, turned-west, turned-east, turned-south, turned-north}
+use Rattle.domain_heading.specs.laws.Turn.{degrees_between, turned_cases, turned_within, turned_west, turned_east, turned_south, turned_north}
 
 -- what was answered came of an azimuth and an altitude
 pub in_sky : (h d p : Rad) (x z a : Float) → sky_in h d p ≡ answered (triple x z a) → InSky h d p x z a
@@ -70,40 +70,40 @@ module _ (h d p : Rad) (x z a : Float) (answer : sky_in h d p ≡ answered (trip
   sky = in_sky h d p x z a answer
 
   far : size sky.az.0 ≼ PI
-  far = azimuth-at-most-half-turn h d p sky.az sky.az_is
+  far = azimuth_at_most_half_turn h d p sky.az sky.az_is
 
   -- ---- on the circle, and finite
 
-  pub sky-heading-within : IsHeading x
-  sky-heading-within = subst IsHeading (sym sky.heading) (turned-within sky.az far)
+  pub sky_heading_within : IsHeading x
+  sky_heading_within = subst IsHeading (sym sky.heading) (turned_within sky.az far)
 
-  pub sky-azimuth-between : Between (neg half_turn) half_turn z
-  sky-azimuth-between = subst (Between (neg half_turn) half_turn) (sym sky.azimuth) (degrees-between sky.az far)
+  pub sky_azimuth_between : Between (neg half_turn) half_turn z
+  sky_azimuth_between = subst (Between (neg half_turn) half_turn) (sym sky.azimuth) (degrees_between sky.az far)
 
-  pub sky-altitude-between : Between (neg east) east a
+  pub sky_altitude_between : Between (neg east) east a
   unfolding is_finite le neg mul of_bits
-  sky-altitude-between =
+  sky_altitude_between =
       subst (Between (neg east) east) (sym sky.altitude)
       (bounded binary64 (neg east) east (known (size→between HALF sky.alt.0 tt (alt_frm_eq_at_most_quarter_turn h d p sky.alt sky.alt_is)) ⊠ con degrees_of_radian) tt)
 
   -- ---- the azimuth and half a turn, rounded once; a whole turn is 0
 
-  pub sky-heading-turned : (x ≡ z ⊕ half_turn) ⊎ ((z ⊕ half_turn ≡ turn_in_degrees) × (x ≡ zero))
-  sky-heading-turned = carried_over x z _ _ sky.heading sky.azimuth (turned-cases sky.az far)
+  pub sky_heading_turned : (x ≡ z ⊕ half_turn) ⊎ ((z ⊕ half_turn ≡ turn_in_degrees) × (x ≡ zero))
+  sky_heading_turned = carried_over x z _ _ sky.heading sky.azimuth (turned_cases sky.az far)
 
   -- ---- the halves of the circle
 
   sign : (s : Bool) → bears_minus (sine_of h) ≡ s → bears_minus sky.az.0 ≡ s
-  sign s e = rw (azimuth-sign h d p sky.az sky.az_is) e
+  sign s e = rw (azimuth_sign h d p sky.az sky.az_is) e
 
-  pub sky-west : T (lt zero (sine_of h)) → (half_turn ≼ x) ⊎ (x ≡ zero)
-  sky-west t = rw sky.heading (turned-west sky.az far (sign false (plus_of_above (sine_of h) t)))
+  pub sky_west : T (lt zero (sine_of h)) → (half_turn ≼ x) ⊎ (x ≡ zero)
+  sky_west t = rw sky.heading (turned_west sky.az far (sign false (plus_of_above (sine_of h) t)))
 
-  pub sky-east : T (lt (sine_of h) zero) → x ≼ half_turn
-  sky-east t = rw sky.heading (turned-east sky.az far (sign true (minus_of_below (sine_of h) t)))
+  pub sky_east : T (lt (sine_of h) zero) → x ≼ half_turn
+  sky_east t = rw sky.heading (turned_east sky.az far (sign true (minus_of_below (sine_of h) t)))
 
-  pub sky-south : bears_minus (southward h d p) ≡ false → Between east west x
-  sky-south e = rw sky.heading (turned-south sky.az far (azimuth-at-most-quarter-turn h d p sky.az sky.az_is e))
+  pub sky_south : bears_minus (southward h d p) ≡ false → Between east west x
+  sky_south e = rw sky.heading (turned_south sky.az far (azimuth_at_most_quarter_turn h d p sky.az sky.az_is e))
 
-  pub sky-north : bears_minus (southward h d p) ≡ true → (x ≼ east) ⊎ (west ≼ x)
-  sky-north e = rw sky.heading (turned-north sky.az far (azimuth-at-least-quarter-turn h d p sky.az sky.az_is e))
+  pub sky_north : bears_minus (southward h d p) ≡ true → (x ≼ east) ⊎ (west ≼ x)
+  sky_north e = rw sky.heading (turned_north sky.az far (azimuth_at_least_quarter_turn h d p sky.az sky.az_is e))

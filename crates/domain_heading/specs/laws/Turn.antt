@@ -37,80 +37,80 @@ signed_size (fin false m e) true h q = cc
 signed_size (fin false m e) false h q = refl
 
 module _ (az : Rad) (far : size az.0 ≼ PI) where
-  azimuth-between : Between (neg PI) PI az.0
-  azimuth-between = size→between PI az.0 finite_pi far
+  azimuth_between : Between (neg PI) PI az.0
+  azimuth_between = size→between PI az.0 finite_pi far
 
-  pub degrees-between : Between (neg half_turn) half_turn (to_degrees az).0
+  pub degrees_between : Between (neg half_turn) half_turn (to_degrees az).0
   unfolding is_finite le neg mul of_bits
-  degrees-between = bounded binary64 (neg half_turn) half_turn (known azimuth-between ⊠ con degrees_of_radian) tt
+  degrees_between = bounded binary64 (neg half_turn) half_turn (known azimuth_between ⊠ con degrees_of_radian) tt
 
-  pub turned-between : Between zero turn_in_degrees (turned az)
+  pub turned_between : Between zero turn_in_degrees (turned az)
   unfolding is_finite le neg add mul of_bits
-  turned-between = bounded binary64 zero turn_in_degrees (known azimuth-between ⊠ con degrees_of_radian ⊞ con half_turn) tt
+  turned_between = bounded binary64 zero turn_in_degrees (known azimuth_between ⊠ con degrees_of_radian ⊞ con half_turn) tt
 
   -- one rounding from half a turn; a whole turn is 0
-  pub turned-cases : ((northward (to_degrees az)).0 ≡ turned az) ⊎ ((turned az ≡ turn_in_degrees) × ((northward (to_degrees az)).0 ≡ zero))
+  pub turned_cases : ((northward (to_degrees az)).0 ≡ turned az) ⊎ ((turned az ≡ turn_in_degrees) × ((northward (to_degrees az)).0 ≡ zero))
   unfolding northward
-  turned-cases = on_circle_cases (turned az) (add-fits binary64 (to_degrees az).0 half_turn) turned-between
+  turned_cases = on_circle_cases (turned az) (add-fits binary64 (to_degrees az).0 half_turn) turned_between
 
-  pub turned-within : IsHeading (northward (to_degrees az)).0
+  pub turned_within : IsHeading (northward (to_degrees az)).0
   unfolding northward
-  turned-within = on_circle_within (turned az) turned-between.finite
+  turned_within = on_circle_within (turned az) turned_between.finite
 
   -- ---- the half of the circle, by the azimuth's sign
 
   from_zero : bears_minus az.0 ≡ false → Between zero PI az.0
-  from_zero e = subst (Between zero PI) (sym (signed_size az.0 false e azimuth-between.finite)) (size_between az.0 PI finite_pi far)
+  from_zero e = subst (Between zero PI) (sym (signed_size az.0 false e azimuth_between.finite)) (size_between az.0 PI finite_pi far)
 
-  to-zero : bears_minus az.0 ≡ true → Between (neg PI) (neg zero) az.0
-  to-zero e =
-      subst (Between (neg PI) (neg zero)) (sym (signed_size az.0 true e azimuth-between.finite)) (between_neg (size_between az.0 PI finite_pi far))
+  to_zero : bears_minus az.0 ≡ true → Between (neg PI) (neg zero) az.0
+  to_zero e =
+      subst (Between (neg PI) (neg zero)) (sym (signed_size az.0 true e azimuth_between.finite)) (between_neg (size_between az.0 PI finite_pi far))
 
   -- west of the meridian, or on it in the north
-  pub turned-west : bears_minus az.0 ≡ false → (half_turn ≼ (northward (to_degrees az)).0) ⊎ ((northward (to_degrees az)).0 ≡ zero)
+  pub turned_west : bears_minus az.0 ≡ false → (half_turn ≼ (northward (to_degrees az)).0) ⊎ ((northward (to_degrees az)).0 ≡ zero)
   unfolding is_finite le neg add mul of_bits
-  turned-west e = by-case turned-cases
+  turned_west e = by_case turned_cases
     where
       i : Between half_turn turn_in_degrees (turned az)
       i = bounded binary64 half_turn turn_in_degrees (known (from_zero e) ⊠ con degrees_of_radian ⊞ con half_turn) tt
 
-      by-case : ((northward (to_degrees az)).0 ≡ turned az) ⊎ ((turned az ≡ turn_in_degrees) × ((northward (to_degrees az)).0 ≡ zero))
+      by_case : ((northward (to_degrees az)).0 ≡ turned az) ⊎ ((turned az ≡ turn_in_degrees) × ((northward (to_degrees az)).0 ≡ zero))
           → (half_turn ≼ (northward (to_degrees az)).0) ⊎ ((northward (to_degrees az)).0 ≡ zero)
-      by-case (inl h) = inl (subst (λ (y : Float). half_turn ≼ y) (sym h) i.from)
-      by-case (inr h) = inr h.1
+      by_case (inl h) = inl (subst (λ (y : Float). half_turn ≼ y) (sym h) i.from)
+      by_case (inr h) = inr h.1
 
   -- east of it, or on it
-  pub turned-east : bears_minus az.0 ≡ true → (northward (to_degrees az)).0 ≼ half_turn
+  pub turned_east : bears_minus az.0 ≡ true → (northward (to_degrees az)).0 ≼ half_turn
   unfolding is_finite le neg add mul of_bits
-  turned-east e = by-case turned-cases
+  turned_east e = by_case turned_cases
     where
       i : Between zero half_turn (turned az)
-      i = bounded binary64 zero half_turn (known (to-zero e) ⊠ con degrees_of_radian ⊞ con half_turn) tt
+      i = bounded binary64 zero half_turn (known (to_zero e) ⊠ con degrees_of_radian ⊞ con half_turn) tt
 
-      by-case : ((northward (to_degrees az)).0 ≡ turned az) ⊎ ((turned az ≡ turn_in_degrees) × ((northward (to_degrees az)).0 ≡ zero))
+      by_case : ((northward (to_degrees az)).0 ≡ turned az) ⊎ ((turned az ≡ turn_in_degrees) × ((northward (to_degrees az)).0 ≡ zero))
           → (northward (to_degrees az)).0 ≼ half_turn
-      by-case (inl h) = subst (λ (y : Float). y ≼ half_turn) (sym h) i.to
-      by-case (inr h) = subst (λ (y : Float). y ≼ half_turn) (sym h.1) tt
+      by_case (inl h) = subst (λ (y : Float). y ≼ half_turn) (sym h) i.to
+      by_case (inr h) = subst (λ (y : Float). y ≼ half_turn) (sym h.1) tt
 
   -- ---- the quarters, by its size
 
   -- from east over south to west
-  pub turned-south : size az.0 ≼ HALF → Between east west (northward (to_degrees az)).0
+  pub turned_south : size az.0 ≼ HALF → Between east west (northward (to_degrees az)).0
   unfolding is_finite le neg add mul of_bits
-  turned-south near = by-case turned-cases
+  turned_south near = by_case turned_cases
     where
       i : Between east west (turned az)
       i = bounded binary64 east west (known (size→between HALF az.0 tt near) ⊠ con degrees_of_radian ⊞ con half_turn) tt
 
-      by-case : ((northward (to_degrees az)).0 ≡ turned az) ⊎ ((turned az ≡ turn_in_degrees) × ((northward (to_degrees az)).0 ≡ zero))
+      by_case : ((northward (to_degrees az)).0 ≡ turned az) ⊎ ((turned az ≡ turn_in_degrees) × ((northward (to_degrees az)).0 ≡ zero))
           → Between east west (northward (to_degrees az)).0
-      by-case (inl h) = subst (Between east west) (sym h) i
-      by-case (inr h) = absurd (subst (λ (y : Float). y ≼ west) h.0 i.to)
+      by_case (inl h) = subst (Between east west) (sym h) i
+      by_case (inr h) = absurd (subst (λ (y : Float). y ≼ west) h.0 i.to)
 
   -- from west over north to east
-  pub turned-north : HALF ≼ size az.0 → ((northward (to_degrees az)).0 ≼ east) ⊎ (west ≼ (northward (to_degrees az)).0)
+  pub turned_north : HALF ≼ size az.0 → ((northward (to_degrees az)).0 ≼ east) ⊎ (west ≼ (northward (to_degrees az)).0)
   unfolding is_finite le neg add mul of_bits
-  turned-north past = by_sign (bears_minus az.0) refl turned-cases
+  turned_north past = by_sign (bears_minus az.0) refl turned_cases
     where
       j : Between HALF PI (size az.0)
       j = between tt tt past far
@@ -120,10 +120,10 @@ module _ (az : Rad) (far : size az.0 ≼ PI) where
           → ((northward (to_degrees az)).0 ≼ east) ⊎ (west ≼ (northward (to_degrees az)).0)
       by_sign s e (inr h) = inl (subst (λ (y : Float). y ≼ east) (sym h.1) tt)
       by_sign true e (inl h) =
-          let k : Between (neg PI) (neg HALF) az.0 = subst (Between (neg PI) (neg HALF)) (sym (signed_size az.0 true e azimuth-between.finite)) (between_neg j) in
+          let k : Between (neg PI) (neg HALF) az.0 = subst (Between (neg PI) (neg HALF)) (sym (signed_size az.0 true e azimuth_between.finite)) (between_neg j) in
           let i : Between zero east (turned az) = bounded binary64 zero east (known k ⊠ con degrees_of_radian ⊞ con half_turn) tt in
           inl (subst (λ (y : Float). y ≼ east) (sym h) i.to)
       by_sign false e (inl h) =
-          let k : Between HALF PI az.0 = subst (Between HALF PI) (sym (signed_size az.0 false e azimuth-between.finite)) j in
+          let k : Between HALF PI az.0 = subst (Between HALF PI) (sym (signed_size az.0 false e azimuth_between.finite)) j in
           let i : Between west turn_in_degrees (turned az) = bounded binary64 west turn_in_degrees (known k ⊠ con degrees_of_radian ⊞ con half_turn) tt in
           inr (subst (λ (y : Float). west ≼ y) (sym h) i.from)

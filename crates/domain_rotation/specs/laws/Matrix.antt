@@ -17,7 +17,7 @@ use Rattle.precess_angles.specs.rules.Equatorial.{eq_angles_of}
 use Rattle.domain_accepted.specs.notions.Within.{Within}
 use Rattle.domain_accepted.specs.laws.Near.{within, near_sine, near_cosine}
 use Rattle.domain.specs.notions.Precession.{EqAnglesNear}
-use Rattle.domain.specs.laws.Equatorial.{eq-angles-near}
+use Rattle.domain.specs.laws.Equatorial.{eq_angles_near}
 use Rattle.rotation.specs.rules.Matrix.{Vector, Matrix, entry, row_times, product}
 use Rattle.rotation.specs.rules.Turns.{about_y, about_z, minus, rotation_by, rotation_of}
 use Rattle.domain_rotation.specs.notions.Entries.{Each, Components, Entries, UpToOne}
@@ -83,18 +83,18 @@ right_up_to_one y z Y Z = (
 
 module _ (z : Rad) (Z : Within 2048 z.0) (r : Matrix) (R : Entries UpToOne r) where
   -- a row with the column j
-  abbrev with-column : Expr → Expr → Expr → (j : ℕ) → j < 3 → Expr
-  with-column a b c j h =
+  abbrev with_column : Expr → Expr → Expr → (j : ℕ) → j < 3 → Expr
+  with_column a b c j h =
       sum a (known (entry_at UpToOne r R 0 j (lit< tt) h)) b (known (entry_at UpToOne r R 1 j (lit< tt) h)) c (known (entry_at UpToOne r R 2 j (lit< tt) h))
 
-  turned-up-to-two : Entries (Within 2) (product (about_z z) r)
+  turned_up_to_two : Entries (Within 2) (product (about_z z) r)
   unfolding product row_times about_z is_finite le neg add mul of_bits round
-  turned-up-to-two = (
-    (within 2 (with-column (c z Z) (s z Z) o 0 (lit< tt)) tt, (within 2 (with-column (c z Z) (s z Z) o 1 (lit< tt)) tt, (within 2 (with-column (c z Z) (s z Z) o 2 (lit< tt)) tt, tt))),
+  turned_up_to_two = (
+    (within 2 (with_column (c z Z) (s z Z) o 0 (lit< tt)) tt, (within 2 (with_column (c z Z) (s z Z) o 1 (lit< tt)) tt, (within 2 (with_column (c z Z) (s z Z) o 2 (lit< tt)) tt, tt))),
     (
-      (within 2 (with-column (n z Z) (c z Z) o 0 (lit< tt)) tt, (within 2 (with-column (n z Z) (c z Z) o 1 (lit< tt)) tt, (within 2 (with-column (n z Z) (c z Z) o 2 (lit< tt)) tt, tt))),
+      (within 2 (with_column (n z Z) (c z Z) o 0 (lit< tt)) tt, (within 2 (with_column (n z Z) (c z Z) o 1 (lit< tt)) tt, (within 2 (with_column (n z Z) (c z Z) o 2 (lit< tt)) tt, tt))),
       (
-        (within 2 (with-column o o i 0 (lit< tt)) tt, (within 2 (with-column o o i 1 (lit< tt)) tt, (within 2 (with-column o o i 2 (lit< tt)) tt, tt))),
+        (within 2 (with_column o o i 0 (lit< tt)) tt, (within 2 (with_column o o i 1 (lit< tt)) tt, (within 2 (with_column o o i 2 (lit< tt)) tt, tt))),
         tt,
       ),
     ),
@@ -103,24 +103,24 @@ module _ (z : Rad) (Z : Within 2048 z.0) (r : Matrix) (R : Entries UpToOne r) wh
 -- ---- the rotation of two days
 
 module _ (a : EqAngles) (N : EqAnglesNear a) where
-  minus-xi : Within 2048 (minus a.xi).0
+  minus_xi : Within 2048 (minus a.xi).0
   unfolding is_finite le neg of_bits round
-  minus-xi = within 2048 (known (between_neg N.xi)) tt
+  minus_xi = within 2048 (known (between_neg N.xi)) tt
 
-  minus-zeta : Within 2048 (minus a.zeta).0
+  minus_zeta : Within 2048 (minus a.zeta).0
   unfolding is_finite le neg of_bits round
-  minus-zeta = within 2048 (known (between_neg N.zeta)) tt
+  minus_zeta = within 2048 (known (between_neg N.zeta)) tt
 
-  rotation-by-up-to-two : Entries (Within 2) (rotation_by a)
+  rotation_by_up_to_two : Entries (Within 2) (rotation_by a)
   unfolding rotation_by
-  rotation-by-up-to-two =
-      turned-up-to-two (minus a.zeta) minus-zeta (product (about_y a.theta) (about_z (minus a.xi)))
-      (right_up_to_one a.theta (minus a.xi) N.theta minus-xi)
+  rotation_by_up_to_two =
+      turned_up_to_two (minus a.zeta) minus_zeta (product (about_y a.theta) (about_z (minus a.xi)))
+      (right_up_to_one a.theta (minus a.xi) N.theta minus_xi)
 
 -- so the three angles go into sines too
 pub rotation_up_to_two : (e : Edition) (day1 day2 : Float) → days_refusal day1 day2 ≡ 0 → Entries (Within 2) (rotation_of e day1 day2)
 unfolding rotation_of
-rotation_up_to_two e day1 day2 none = rotation-by-up-to-two (eq_angles_of e day1 day2) (eq-angles-near e day1 day2 none)
+rotation_up_to_two e day1 day2 none = rotation_by_up_to_two (eq_angles_of e day1 day2) (eq_angles_near e day1 day2 none)
 
 -- entry by entry
 pub rotation_entry : (e : Edition) (day1 day2 : Float) → days_refusal day1 day2 ≡ 0 → (i j : ℕ) → i < 3 → j < 3

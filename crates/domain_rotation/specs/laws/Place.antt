@@ -18,13 +18,13 @@ use Rattle.elementary.specs.declared.Direction.{Direction}
 use Rattle.elementary.specs.rules.Direction.{direction_of}
 use Rattle.elementary_arc.specs.rules.Arctangent.{both_zero, arctangent_of, arctangent_in}
 use Rattle.elementary_arc.specs.rules.Arcsine.{arcsine_in}
-use Rattle.elementary_arc.specs.laws.Arcsine.{arcsine-refuses-seven, arcsine_never_meets_fourteen}
-use Rattle.domain_accepted.specs.laws.Accepted.{angle-sine, angle-cosine, latitude-sine, latitude-cosine}
+use Rattle.elementary_arc.specs.laws.Arcsine.{arcsine_refuses_seven, arcsine_never_meets_fourteen}
+use Rattle.domain_accepted.specs.laws.Accepted.{angle_sine, angle_cosine, latitude_sine, latitude_cosine}
 use Rattle.domain_accepted.specs.notions.Outcome.{Outcome, SevenOrFourteen}
 use Rattle.domain_accepted.specs.notions.Within.{Within}
 use Rattle.domain_accepted.specs.laws.Near.{within}
 use Rattle.domain_accepted.specs.laws.Outcome.{outcome_both}
-use Rattle.domain_accepted.specs.laws.Elementary.{arctangent_outcome, arcsine-outcome}
+use Rattle.domain_accepted.specs.laws.Elementary.{arctangent_outcome, arcsine_outcome}
 use Rattle.domain.specs.laws.Elementary.{fourteen_of_zeros}
 use Rattle.rotation.specs.rules.Matrix.{Vector, Matrix, applied, part}
 use Rattle.rotation.specs.rules.Place.{vector_of, place_along, turned, rotated_in}
@@ -35,16 +35,16 @@ use Rattle.domain_rotation.specs.laws.Matrix.{part_at, entry_at, up_to_one}
 -- ---- a matrix applied
 
 module _ (m : Matrix) (v : Vector) (M : Entries (Within 2) m) (U : Components UpToOne v) where
-  abbrev rowExpr : (i : ℕ) → i < 3 → Expr
-  rowExpr i h =
+  abbrev row_expr : (i : ℕ) → i < 3 → Expr
+  row_expr i h =
       (known (entry_at (Within 2) m M i 0 h (lit< tt)) ⊠ known (part_at UpToOne v U 0 (lit< tt)) ⊞ known (entry_at (Within 2) m M i 1 h (lit< tt)) ⊠ known (part_at UpToOne v U 1 (lit< tt)))
       ⊞ known (entry_at (Within 2) m M i 2 h (lit< tt)) ⊠ known (part_at UpToOne v U 2 (lit< tt))
 
-  applied-within : Components (Within 8) (applied m v)
+  applied_within : Components (Within 8) (applied m v)
   unfolding applied is_finite le neg add mul of_bits round
-  applied-within = (
-    within 8 (rowExpr 0 (lit< tt)) tt,
-    (within 8 (rowExpr 1 (lit< tt)) tt, (within 8 (rowExpr 2 (lit< tt)) tt, tt)),
+  applied_within = (
+    within 8 (row_expr 0 (lit< tt)) tt,
+    (within 8 (row_expr 1 (lit< tt)) tt, (within 8 (row_expr 2 (lit< tt)) tt, tt)),
   )
 
 -- ---- 7 of two arcs
@@ -58,12 +58,12 @@ fourteen_not_seven e = omega (arith, same_number e)
 
 seven_of_height : (y x s : Float) → Finite s → both (arctangent_in y x) (arcsine_in s) ≡ refused 7 ↔ T (not (both_zero y x) && lt one (size s))
 unfolding arctangent_in both then
-seven_of_height y x s f = by-case (both_zero y x)
+seven_of_height y x s f = by_case (both_zero y x)
   where
-    by-case : (b : Bool) → both (cond b (refused 14) (answered (arctangent_of y x))) (arcsine_in s) ≡ refused 7 ↔ T (not b && lt one (size s))
-    by-case true = (λ e. absurd (fourteen_not_seven e), λ t. absurd t)
-    by-case false = (
-      λ e. (arcsine-refuses-seven s f 7 (with_refused (arcsine_in s) (λ (v : Rad). pair (arctangent_of y x).0 v.0) 7 e)).1,
+    by_case : (b : Bool) → both (cond b (refused 14) (answered (arctangent_of y x))) (arcsine_in s) ≡ refused 7 ↔ T (not b && lt one (size s))
+    by_case true = (λ e. absurd (fourteen_not_seven e), λ t. absurd t)
+    by_case false = (
+      λ e. (arcsine_refuses_seven s f 7 (with_refused (arcsine_in s) (λ (v : Rad). pair (arctangent_of y x).0 v.0) 7 e)).1,
       λ t. rw (arcsine_high s t),
     )
 
@@ -76,30 +76,30 @@ module _ (m : Matrix) (asc dec : Rad) (M : Entries (Within 2) m) (A : angle_refu
   abbrev w : Vector
   w = turned m asc dec
 
-  vector-within : Components UpToOne (vector_of d)
+  vector_within : Components UpToOne (vector_of d)
   unfolding vector_of direction_of is_finite le neg add mul of_bits round
-  vector-within =
-      let cd = known (latitude-cosine dec D) in (
-        up_to_one (cd ⊠ known (angle-cosine asc A)) tt,
-        (up_to_one (cd ⊠ known (angle-sine asc A)) tt, (latitude-sine dec D, tt)),
+  vector_within =
+      let cd = known (latitude_cosine dec D) in (
+        up_to_one (cd ⊠ known (angle_cosine asc A)) tt,
+        (up_to_one (cd ⊠ known (angle_sine asc A)) tt, (latitude_sine dec D, tt)),
       )
 
-  component-finite : (i : ℕ) → i < 3 → Finite (part w i)
-  component-finite i h = (part_at (Within 8) w (applied-within m (vector_of d) M vector-within) i h).finite
+  component_finite : (i : ℕ) → i < 3 → Finite (part w i)
+  component_finite i h = (part_at (Within 8) w (applied_within m (vector_of d) M vector_within) i h).finite
 
-  pub rotated-outcome : Outcome IsRotated SevenOrFourteen (rotated_in m asc dec)
+  pub rotated_outcome : Outcome IsRotated SevenOrFourteen (rotated_in m asc dec)
   unfolding rotated_in place_along
-  rotated-outcome =
+  rotated_outcome =
       outcome_both (Between (neg PI) PI) (Between (neg HALF) HALF) (arctangent_in (part w 1) (part w 0)) (arcsine_in (part w 2))
-      (arctangent_outcome (inr refl) (part w 1) (part w 0) (component-finite 1 (lit< tt)) (component-finite 0 (lit< tt)))
-      (arcsine-outcome (inl refl) (part w 2) (component-finite 2 (lit< tt)))
+      (arctangent_outcome (inr refl) (part w 1) (part w 0) (component_finite 1 (lit< tt)) (component_finite 0 (lit< tt)))
+      (arcsine_outcome (inl refl) (part w 2) (component_finite 2 (lit< tt)))
 
-  pub rotated-fourteen : rotated_in m asc dec ≡ refused 14 ↔ T (turned_nowhere m asc dec)
+  pub rotated_fourteen : rotated_in m asc dec ≡ refused 14 ↔ T (turned_nowhere m asc dec)
   unfolding rotated_in place_along both then
-  rotated-fourteen =
+  rotated_fourteen =
       fourteen_of_zeros (part w 1) (part w 0) (λ (a : Answer Rad). both a (arcsine_in (part w 2))) refl
       (λ v e. arcsine_never_meets_fourteen (part w 2) (with_refused (arcsine_in (part w 2)) (λ (y : Rad). pair v.0 y.0) 14 e))
 
-  pub rotated-seven : rotated_in m asc dec ≡ refused 7 ↔ T (turned_too_high m asc dec)
+  pub rotated_seven : rotated_in m asc dec ≡ refused 7 ↔ T (turned_too_high m asc dec)
   unfolding rotated_in place_along
-  rotated-seven = seven_of_height (part w 1) (part w 0) (part w 2) (component-finite 2 (lit< tt))
+  rotated_seven = seven_of_height (part w 1) (part w 0) (part w 2) (component_finite 2 (lit< tt))

@@ -21,7 +21,7 @@ use Rattle.star_store.specs.rules.Star.{star_refusal, first_of, second_of}
 use Rattle.star_store.specs.notions.Stated.{past_the_pole}
 use Rattle.star_store.specs.notions.Status.{is_past_the_pole, OfItsPlace}
 use Rattle.star_store.specs.laws.Star.{place_accepted}
-use Rattle.star_store.specs.laws.Status.{status-of-a-star, answer-of-a-star, ten-of-a-star, nine-of-a-star, three-of-a-star, later-of-a-star}
+use Rattle.star_store.specs.laws.Status.{status_of_a_star, answer_of_a_star, ten_of_a_star, nine_of_a_star, three_of_a_star, later_of_a_star}
 use Rattle.rotation.specs.rules.Matrix.{Matrix}
 use Rattle.rotation.specs.rules.Turns.{rotation_of}
 use Rattle.rotation.specs.rules.Place.{rotated_in}
@@ -31,7 +31,7 @@ use Rattle.domain_accepted.specs.notions.Outcome.{Outcome, SevenOrFourteen}
 use Rattle.domain.specs.laws.Star.{finite_of_an_answer}
 use Rattle.domain_rotation.specs.notions.Star.{OfARotatedStar, IsRotated, turned_nowhere, turned_too_high}
 use Rattle.domain_rotation.specs.laws.Matrix.{rotation_up_to_two}
-use Rattle.domain_rotation.specs.laws.Place.{rotated-outcome, rotated-fourteen, rotated-seven}
+use Rattle.domain_rotation.specs.laws.Place.{rotated_outcome, rotated_fourteen, rotated_seven}
 
 module _ (edition : Edition) (star : Star) (day1 day2 : Float) (days : days_refusal day1 day2 ≡ 0) where
   abbrev years : Float
@@ -50,19 +50,19 @@ module _ (edition : Edition) (star : Star) (day1 day2 : Float) (days : days_refu
   outcome : star_refusal star years ≡ 0 → Outcome IsRotated SevenOrFourteen (rotated_in m asc dec)
   outcome e =
       let taken = place_accepted star day1 day2 days e in
-      rotated-outcome m asc dec (rotation_up_to_two edition day1 day2 days) taken.0 taken.1
+      rotated_outcome m asc dec (rotation_up_to_two edition day1 day2 days) taken.0 taken.1
 
-  of-its-place : star_refusal star years ≡ 0 → (n : ℕ) → rotated_in m asc dec ≡ refused n → OfItsPlace n
-  of-its-place e n h = by_number ((outcome e).refuses n h)
+  of_its_place : star_refusal star years ≡ 0 → (n : ℕ) → rotated_in m asc dec ≡ refused n → OfItsPlace n
+  of_its_place e n h = by_number ((outcome e).refuses n h)
     where
       by_number : SevenOrFourteen n → OfItsPlace n
       by_number (inl e) = record { not_three = omega arith; not_nine = omega arith; not_ten = omega arith }
       by_number (inr e) = record { not_three = omega arith; not_nine = omega arith; not_ten = omega arith }
 
-  pub rotated-star-status : OfARotatedStar (status_of (rotated_on edition day1 day2 star))
+  pub rotated_star_status : OfARotatedStar (status_of (rotated_on edition day1 day2 star))
   unfolding rotated_star
-  rotated-star-status =
-      status-of-a-star star day1 day2 days (rotated_in m asc dec) OfARotatedStar
+  rotated_star_status =
+      status_of_a_star star day1 day2 days (rotated_in m asc dec) OfARotatedStar
       (inl refl) (inr (inl refl)) (inr (inr (inr (inl refl)))) (inr (inr (inr (inr (inl refl)))))
       (λ e n h. in_all n ((outcome e).refuses n h))
     where
@@ -70,45 +70,45 @@ module _ (edition : Edition) (star : Star) (day1 day2 : Float) (days : days_refu
       in_all n (inl e) = inr (inr (inl e))
       in_all n (inr e) = inr (inr (inr (inr (inr e))))
 
-  pub rotated-star-ten : rotated_on edition day1 day2 star ≡ refused 10 ↔ T (not (is_kept star))
+  pub rotated_star_ten : rotated_on edition day1 day2 star ≡ refused 10 ↔ T (not (is_kept star))
   unfolding rotated_star
-  rotated-star-ten = ten-of-a-star star day1 day2 days (rotated_in m asc dec) of-its-place
+  rotated_star_ten = ten_of_a_star star day1 day2 days (rotated_in m asc dec) of_its_place
 
-  pub rotated-star-nine : rotated_on edition day1 day2 star ≡ refused 9 ↔ T (is_kept star && not (in_range star))
+  pub rotated_star_nine : rotated_on edition day1 day2 star ≡ refused 9 ↔ T (is_kept star && not (in_range star))
   unfolding rotated_star
-  rotated-star-nine = nine-of-a-star star day1 day2 days (rotated_in m asc dec) of-its-place
+  rotated_star_nine = nine_of_a_star star day1 day2 days (rotated_in m asc dec) of_its_place
 
-  pub rotated-star-three : rotated_on edition day1 day2 star ≡ refused 3 ↔ T (is_kept star && (in_range star && is_past_the_pole star years))
+  pub rotated_star_three : rotated_on edition day1 day2 star ≡ refused 3 ↔ T (is_kept star && (in_range star && is_past_the_pole star years))
   unfolding rotated_star
-  rotated-star-three = three-of-a-star star day1 day2 days (rotated_in m asc dec) of-its-place
+  rotated_star_three = three_of_a_star star day1 day2 days (rotated_in m asc dec) of_its_place
 
-  pub rotated-star-fourteen : rotated_on edition day1 day2 star ≡ refused 14
+  pub rotated_star_fourteen : rotated_on edition day1 day2 star ≡ refused 14
       ↔ T (is_kept star && (in_range star && (not (is_past_the_pole star years) && turned_nowhere m asc dec)))
   unfolding rotated_star
-  rotated-star-fourteen =
-      later-of-a-star star day1 day2 days (rotated_in m asc dec) 14 (record { not_three = omega arith; not_nine = omega arith; not_ten = omega arith }) (turned_nowhere m asc dec)
+  rotated_star_fourteen =
+      later_of_a_star star day1 day2 days (rotated_in m asc dec) 14 (record { not_three = omega arith; not_nine = omega arith; not_ten = omega arith }) (turned_nowhere m asc dec)
       (λ e.
-      rotated-fourteen m asc dec (rotation_up_to_two edition day1 day2 days) (place_accepted star day1 day2 days e).0 (place_accepted star day1 day2 days e).1)
+      rotated_fourteen m asc dec (rotation_up_to_two edition day1 day2 days) (place_accepted star day1 day2 days e).0 (place_accepted star day1 day2 days e).1)
 
-  pub rotated-star-seven : rotated_on edition day1 day2 star ≡ refused 7
+  pub rotated_star_seven : rotated_on edition day1 day2 star ≡ refused 7
       ↔ T (is_kept star && (in_range star && (not (is_past_the_pole star years) && turned_too_high m asc dec)))
   unfolding rotated_star
-  rotated-star-seven =
-      later-of-a-star star day1 day2 days (rotated_in m asc dec) 7 (record { not_three = omega arith; not_nine = omega arith; not_ten = omega arith }) (turned_too_high m asc dec)
+  rotated_star_seven =
+      later_of_a_star star day1 day2 days (rotated_in m asc dec) 7 (record { not_three = omega arith; not_nine = omega arith; not_ten = omega arith }) (turned_too_high m asc dec)
       (λ e.
-      rotated-seven m asc dec (rotation_up_to_two edition day1 day2 days) (place_accepted star day1 day2 days e).0 (place_accepted star day1 day2 days e).1)
+      rotated_seven m asc dec (rotation_up_to_two edition day1 day2 days) (place_accepted star day1 day2 days e).0 (place_accepted star day1 day2 days e).1)
 
   -- half a turn and a quarter at most
-  pub rotated-star-answers : (v : Pair) → rotated_on edition day1 day2 star ≡ answered v → IsRotated v
+  pub rotated_star_answers : (v : Pair) → rotated_on edition day1 day2 star ≡ answered v → IsRotated v
   unfolding rotated_star
-  rotated-star-answers = answer-of-a-star star day1 day2 days (rotated_in m asc dec) IsRotated (λ e. (outcome e).answers)
+  rotated_star_answers = answer_of_a_star star day1 day2 days (rotated_in m asc dec) IsRotated (λ e. (outcome e).answers)
 
   -- so what is stored is finite
-  pub rotated-angles-finite : Finite (first_of (rotated_on edition day1 day2 star)) × Finite (second_of (rotated_on edition day1 day2 star))
-  rotated-angles-finite =
+  pub rotated_angles_finite : Finite (first_of (rotated_on edition day1 day2 star)) × Finite (second_of (rotated_on edition day1 day2 star))
+  rotated_angles_finite =
       finite_of_an_answer (rotated_on edition day1 day2 star)
       (λ v e.
-      let i = rotated-star-answers v e in
+      let i = rotated_star_answers v e in
       (i.0.finite, i.1.finite))
 
 -- 3 at a stated star: at the pole, and over a century past it

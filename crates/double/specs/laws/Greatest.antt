@@ -21,7 +21,7 @@ at_most p c m (negsuc k) short small =
     subst (λ (x : ℕ). x ≤ (2 ^ p - 1) * 2 ^ c * 2 ^ suc k) (sym (mul-one m))
     (le_trans (le_ones p short) (le_trans (le-mul_of_pos_right (2 ^ p - 1) (pow_pos c)) (le-mul_of_pos_right ((2 ^ p - 1) * 2 ^ c) (pow_pos (suc k)))))
 at_most p c m (pos k) short small =
-    subst (λ (x : ℕ). m * 2 ^ k ≤ x) (sym (mul-one ((2 ^ p - 1) * 2 ^ c))) (by-case (nat_le k c) (leb→le k c) (nleb→lt k c))
+    subst (λ (x : ℕ). m * 2 ^ k ≤ x) (sym (mul-one ((2 ^ p - 1) * 2 ^ c))) (by_case (nat_le k c) (leb→le k c) (nleb→lt k c))
   where
     -- where k is above c, m·2^(k − c) has at most p digits too
     beyond : m * 2 ^ k ≡ m * 2 ^ (k - c) * 2 ^ c → m * 2 ^ k ≤ (2 ^ p - 1) * 2 ^ c
@@ -31,9 +31,9 @@ at_most p c m (pos k) short small =
         (le_ones p (lt_of_mul-lt-mul_right (2 ^ c)
         (subst (λ (x : ℕ). x < 2 ^ p * 2 ^ c) q (subst (λ (x : ℕ). m * 2 ^ k < x) (mul-one (2 ^ (p + c)) ∙ pow-add 2 p c) small)))))
 
-    by-case : (b : Bool) → (T b → k ≤ c) → (T (not b) → c < k) → m * 2 ^ k ≤ (2 ^ p - 1) * 2 ^ c
-    by-case true h l = mul-le-mul (le_ones p short) (pow_mono (h tt))
-    by-case false h l =
+    by_case : (b : Bool) → (T b → k ≤ c) → (T (not b) → c < k) → m * 2 ^ k ≤ (2 ^ p - 1) * 2 ^ c
+    by_case true h l = mul-le-mul (le_ones p short) (pow_mono (h tt))
+    by_case false h l =
         beyond
         (ap (λ (x : ℕ). m * 2 ^ x) (sym (back k c (le_of_lt (l tt)))) ∙ ap (λ (x : ℕ). m * x) (pow-add 2 (k - c) c) ∙ sym (mul_assoc m (2 ^ (k - c)) (2 ^ c)))
 

@@ -25,11 +25,11 @@ parts_of_value (fin true m e) a c h = absurd (true≢false h.0)
 parts_of_value (fin false m e) a c h = record { finite = tt; none = refl; some = h.1 }
 
 module _ (f : Format) (j k : ℕ) where
-  grid-rounds : Rounds f (grid f j k) k 0 (2 ^ suc j)
-  grid-rounds = record { sign = false; top = k * 1; is = refl; value = omega arith }
+  grid_rounds : Rounds f (grid f j k) k 0 (2 ^ suc j)
+  grid_rounds = record { sign = false; top = k * 1; is = refl; value = omega arith }
 
-  pub grid-parts : k < 2 ^ prec f → suc j ≤ low f → Parts (grid f j k) k (2 ^ suc j)
-  grid-parts h l =
+  pub grid_parts : k < 2 ^ prec f → suc j ≤ low f → Parts (grid f j k) k (2 ^ suc j)
+  grid_parts h l =
       subst (λ (a : ℕ). Parts (grid f j k) a (2 ^ suc j)) (mul-one k)
       (parts_of_value (grid f j k) (k * 1) (2 ^ suc j) (scaled_value f false k (negsuc j) h (pow_mono l) room))
     where
@@ -44,14 +44,14 @@ module _ (f : Format) (j k : ℕ) where
   -- ---- from fractions to values
 
   module _ (z : Float) (p n d : ℕ) (D : 0 < d) (r : Rounds f z p n d) where
-    pub grid-under : k * d + n * 2 ^ suc j ≤ p * 2 ^ suc j → grid f j k ≼ z
-    grid-under h = rounds_mono f (grid f j k) z k 0 (2 ^ suc j) p n d (pow_pos (suc j)) D grid-rounds r (flat (2 ^ suc j) h)
+    pub grid_under : k * d + n * 2 ^ suc j ≤ p * 2 ^ suc j → grid f j k ≼ z
+    grid_under h = rounds_mono f (grid f j k) z k 0 (2 ^ suc j) p n d (pow_pos (suc j)) D grid_rounds r (flat (2 ^ suc j) h)
       where
         flat : (u : ℕ) → k * d + n * u ≤ p * u → k * d + n * u ≤ p * u + 0 * d
         flat u h = omega arith
 
-    pub grid-over : p * 2 ^ suc j ≤ k * d + n * 2 ^ suc j → z ≼ grid f j k
-    grid-over h = rounds_mono f z (grid f j k) p n d k 0 (2 ^ suc j) D (pow_pos (suc j)) r grid-rounds (flat (2 ^ suc j) h)
+    pub grid_over : p * 2 ^ suc j ≤ k * d + n * 2 ^ suc j → z ≼ grid f j k
+    grid_over h = rounds_mono f z (grid f j k) p n d k 0 (2 ^ suc j) D (pow_pos (suc j)) r grid_rounds (flat (2 ^ suc j) h)
       where
         flat : (u : ℕ) → p * u ≤ k * d + n * u → p * u + 0 * d ≤ k * d + n * u
         flat u h = omega arith
@@ -71,16 +71,16 @@ cancel_over pg dg k u pz nz dz D e h = le_of_mul-le-mul_right (step (mul-le-mul_
     step a b = omega arith
 
 module _ (f : Format) (j k : ℕ) (z : Float) (h : k < 2 ^ prec f) (l : suc j ≤ low f) (F : Finite z) where
-  pub under-grid : grid f j k ≼ z → k * den z + minus_part z * 2 ^ suc j ≤ plus_part z * 2 ^ suc j
-  under-grid t =
-      let p = grid-parts f j k h l in
+  pub under_grid : grid f j k ≼ z → k * den z + minus_part z * 2 ^ suc j ≤ plus_part z * 2 ^ suc j
+  under_grid t =
+      let p = grid_parts f j k h l in
       let g = grid f j k in
       cancel_under (plus_part g) (den g) k (2 ^ suc j) (plus_part z) (minus_part z) (den z) (den_pos g) p.some
       (subst (λ (n : ℕ). plus_part g * den z + minus_part z * den g ≤ plus_part z * den g + n * den z) p.none (le→below g z p.finite F t))
 
-  pub over-grid : z ≼ grid f j k → plus_part z * 2 ^ suc j ≤ k * den z + minus_part z * 2 ^ suc j
-  over-grid t =
-      let p = grid-parts f j k h l in
+  pub over_grid : z ≼ grid f j k → plus_part z * 2 ^ suc j ≤ k * den z + minus_part z * 2 ^ suc j
+  over_grid t =
+      let p = grid_parts f j k h l in
       let g = grid f j k in
       cancel_over (plus_part g) (den g) k (2 ^ suc j) (plus_part z) (minus_part z) (den z) (den_pos g) p.some
       (subst (λ (n : ℕ). plus_part z * den g + n * den z ≤ plus_part g * den z + minus_part z * den g) p.none (le→below z g F p.finite t))

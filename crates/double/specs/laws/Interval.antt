@@ -9,8 +9,8 @@ use Rattle.std.specs.Float.Ieee.Fits.{and_l, and_r}
 use Rattle.std.specs.Float.Ieee.Positive.{positive, above, above_of_le}
 use Rattle.double.specs.rules.Sign.{is_finite}
 use Rattle.double.specs.rules.Order.{◌≼◌, Finite, Between}
-use Rattle.double.specs.notions.Range.{Amid, Range, unknown, ◌to◌, In, span, lesser, greater, is_between, hull, addRange, subRange, mulRange}
-use Rattle.double.specs.notions.Range.{divRange, Expr, known, con, ◌⊞◌, ◌⊟◌, ◌⊠◌, ◌⧄◌, value, range, inside}
+use Rattle.double.specs.notions.Range.{Amid, Range, unknown, ◌to◌, In, span, lesser, greater, is_between, hull, add_range, sub_range, mul_range}
+use Rattle.double.specs.notions.Range.{div_range, Expr, known, con, ◌⊞◌, ◌⊟◌, ◌⊠◌, ◌⧄◌, value, range, inside}
 use Rattle.double.specs.laws.Tests.{by_test}
 use Rattle.double.specs.laws.Mirror.{mul_comm}
 use Rattle.double.specs.laws.Order.{le_trans}
@@ -20,8 +20,8 @@ use Rattle.double.specs.laws.Monotone.{add_mono, sub_mono, mul_amid, div_mono, d
 -- ---- what the tests tell
 
 module _ (a b z : Float) where
-  between-of : T (is_between a b z) → Between a b z
-  between-of t =
+  between_of : T (is_between a b z) → Between a b z
+  between_of t =
       let t' = and_r (is_finite a) (is_finite b && (le a z && le z b)) t in
       let t'' = and_r (is_finite b) (le a z && le z b) t' in
       between (and_l (is_finite a) (is_finite b && (le a z && le z b)) t) (and_l (is_finite b) (le a z && le z b) t')
@@ -40,9 +40,9 @@ in_hull : (p q r s z : Float)
 in_hull p q r s z k =
     by_test (λ (i : Range). In i z) (P && (Q && (R && S))) (a to b) unknown
     (λ t.
-    k a b (between-of a b p (and_l P (Q && (R && S)) t)) (between-of a b q (and_l Q (R && S) (and_r P (Q && (R && S)) t)))
-    (between-of a b r (and_l R S (and_r Q (R && S) (and_r P (Q && (R && S)) t))))
-    (between-of a b s (and_r R S (and_r Q (R && S) (and_r P (Q && (R && S)) t)))))
+    k a b (between_of a b p (and_l P (Q && (R && S)) t)) (between_of a b q (and_l Q (R && S) (and_r P (Q && (R && S)) t)))
+    (between_of a b r (and_l R S (and_r Q (R && S) (and_r P (Q && (R && S)) t))))
+    (between_of a b s (and_r R S (and_r Q (R && S) (and_r P (Q && (R && S)) t)))))
     (λ t. tt)
   where
     a : Float
@@ -80,15 +80,15 @@ positive_of_le c y p q h = at_y y q (above_of_le c y p h)
     at_y (fin false m e) p q = q
 
 module _ (f : Format) where
-  add-in : (i j : Range) (x y : Float) → In i x → In j y → In (addRange f i j) (add f x y)
-  add-in unknown j x y p q = tt
-  add-in (a to b) unknown x y p q = tt
-  add-in (a to b) (c to d) x y p q =
+  add_in_lem : (i j : Range) (x y : Float) → In i x → In j y → In (add_range f i j) (add f x y)
+  add_in_lem unknown j x y p q = tt
+  add_in_lem (a to b) unknown x y p q = tt
+  add_in_lem (a to b) (c to d) x y p q =
       in_span (add f a c) (add f b d) (add f x y)
       (add_mono f a x c y p.start p.finite q.start q.finite p.from q.from)
       (add_mono f x b y d p.finite p.end q.finite q.end p.to q.to)
 
-  sub_in : (i j : Range) (x y : Float) → In i x → In j y → In (subRange f i j) (sub f x y)
+  sub_in : (i j : Range) (x y : Float) → In i x → In j y → In (sub_range f i j) (sub f x y)
   sub_in unknown j x y p q = tt
   sub_in (a to b) unknown x y p q = tt
   sub_in (a to b) (c to d) x y p q =
@@ -104,7 +104,7 @@ module _ (f : Format) where
       (amid lo hi (mul f c e) (mul f d e) (mul f y e) (rw (mul_comm f c e) i) (rw (mul_comm f d e) j)
       (mul_amid f c y d e q.start q.finite q.end p q.from q.to))
 
-  mul_in : (i j : Range) (x y : Float) → In i x → In j y → In (mulRange f i j) (mul f x y)
+  mul_in : (i j : Range) (x y : Float) → In i x → In j y → In (mul_range f i j) (mul f x y)
   mul_in unknown j x y p q = tt
   mul_in (a to b) unknown x y p q = tt
   mul_in (a to b) (c to d) x y p q =
@@ -113,10 +113,10 @@ module _ (f : Format) where
       amid lo hi (mul f a y) (mul f b y) (mul f x y) (along lo hi a c d y p.start q i j) (along lo hi b c d y p.end q k l)
       (mul_amid f a x b y p.start p.finite p.end q.finite p.from p.to))
 
-  div-in : (i j : Range) (x y : Float) → In i x → In j y → In (divRange f i j) (div f x y)
-  div-in unknown j x y p q = tt
-  div-in (a to b) unknown x y p q = tt
-  div-in (a to b) (c to d) x y p q =
+  div_in : (i j : Range) (x y : Float) → In i x → In j y → In (div_range f i j) (div f x y)
+  div_in unknown j x y p q = tt
+  div_in (a to b) unknown x y p q = tt
+  div_in (a to b) (c to d) x y p q =
       by_test (λ (i : Range). In i (div f x y)) (positive c) (hull (div f a c) (div f a d) (div f b c) (div f b d)) unknown
       (λ C.
       let Y = positive_of_le c y C q.finite q.from in
@@ -129,8 +129,8 @@ module _ (f : Format) where
       (inl (div_mono f a x y p.start p.finite Y p.from, div_mono f x b y p.finite p.end Y p.to))))
       (λ t. tt)
 
-  con-in : (c : Float) → In (span c c) c
-  con-in c =
+  con_in : (c : Float) → In (span c c) c
+  con_in c =
       by_test (λ (i : Range). In i c) (is_finite c && is_finite c) (c to c) unknown
       (λ t. between_itself (and_l (is_finite c) (is_finite c) t)) (λ t. tt)
 
@@ -138,11 +138,11 @@ module _ (f : Format) where
 
   pub sound : (e : Expr) → In (range f e) (value f e)
   sound (known i) = i
-  sound (con c) = con-in c
-  sound (d ⊞ e) = add-in (range f d) (range f e) (value f d) (value f e) (sound d) (sound e)
+  sound (con c) = con_in c
+  sound (d ⊞ e) = add_in_lem (range f d) (range f e) (value f d) (value f e) (sound d) (sound e)
   sound (d ⊟ e) = sub_in (range f d) (range f e) (value f d) (value f e) (sound d) (sound e)
   sound (d ⊠ e) = mul_in (range f d) (range f e) (value f d) (value f e) (sound d) (sound e)
-  sound (d ⧄ e) = div-in (range f d) (range f e) (value f d) (value f e) (sound d) (sound e)
+  sound (d ⧄ e) = div_in (range f d) (range f e) (value f d) (value f e) (sound d) (sound e)
 
   widened : (a b : Float) (i : Range) (z : Float) → T (inside a b i) → In i z → Between a b z
   widened a b unknown z t p = absurd t

@@ -70,12 +70,12 @@ abbrev quotient : Format → ℕ → ℕ → Bool → ℕ → ℕ → Float
 quotient f m n s a c = cond (n == 0) (cond (m == 0) nan (inf s)) (round f s a c)
 
 quotient_neg : (f : Format) (m n : ℕ) (s : Bool) (a c : ℕ) → quotient f m n (not s) a c ≡ neg (quotient f m n s a c)
-quotient_neg f m n s a c = rw (round_neg f s a c) (by-case (n == 0))
+quotient_neg f m n s a c = rw (round_neg f s a c) (by_case (n == 0))
   where
-    by-case : (b : Bool)
+    by_case : (b : Bool)
         → cond b (cond (m == 0) nan (inf (not s))) (neg (round f s a c)) ≡ neg (cond b (cond (m == 0) nan (inf s)) (round f s a c))
-    by-case true = infinite_neg (m == 0) s
-    by-case false = refl
+    by_case true = infinite_neg (m == 0) s
+    by_case false = refl
 
 pub div_neg_l : (f : Format) (x y : Float) → div f (neg x) y ≡ neg (div f x y)
 unfolding div neg

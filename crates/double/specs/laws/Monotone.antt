@@ -76,9 +76,9 @@ module _ (f : Format) (n : ℕ) (d : ℤ) (x x' : Float) (p : Finite x) (p' : Fi
       (mul-pos (den_pos x') (den_pos y)) (mul_rounds f x y p tt) (mul_rounds f x' y p' tt)
       (mul_cross_plus (plus_part x) (minus_part x) (den x) (plus_part x') (minus_part x') (den x') (n * up d) (down d) (le→below x x' p p' h))
 
-  mul-anti : mul f x' (fin true n d) ≼ mul f x (fin true n d)
+  mul_anti : mul f x' (fin true n d) ≼ mul f x (fin true n d)
   unfolding is_finite
-  mul-anti =
+  mul_anti =
       let y = fin true n d in
       rounds_mono f (mul f x' y) (mul f x y) _ _ _ _ _ _ (mul-pos (den_pos x') (den_pos y))
       (mul-pos (den_pos x) (den_pos y)) (mul_rounds f x' y p' tt) (mul_rounds f x y p tt)
@@ -91,7 +91,7 @@ unfolding is_finite
 mul_amid f a x b nan p q r s h k = absurd s
 mul_amid f a x b (inf t) p q r s h k = absurd s
 mul_amid f a x b (fin false n d) p q r s h k = inl (mul_mono f n d a x p q h, mul_mono f n d x b q r k)
-mul_amid f a x b (fin true n d) p q r s h k = inr (mul-anti f n d x b q r k, mul-anti f n d a x p q h)
+mul_amid f a x b (fin true n d) p q r s h k = inr (mul_anti f n d x b q r k, mul_anti f n d a x p q h)
 
 -- ---- quotients by a divisor above zero
 
@@ -123,17 +123,17 @@ less_cross a dx mc dc my dy h = step (mul-le-mul_right (a * dx) h)
     step k = omega arith
 
 module _ (f : Format) (m : ℕ) (e : ℤ) (c y : Float) (p : T (positive c)) (q : T (positive y)) (h : c ≼ y) where
-  div-less : div f (fin false m e) y ≼ div f (fin false m e) c
+  div_less : div f (fin false m e) y ≼ div f (fin false m e) c
   unfolding is_finite
-  div-less =
+  div_less =
       let x = fin false m e in
       rounds_mono f (div f x y) (div f x c) _ _ _ _ _ _ (mul-pos (num_pos y q) (den_pos x))
       (mul-pos (num_pos c p) (den_pos x)) (div_rounds f x y tt q) (div_rounds f x c tt p)
       (omega (arith, less_cross (m * up e) (down e) (num c) (den c) (num y) (den y) (le→cross c y p q h)))
 
-  div-more : div f (fin true m e) c ≼ div f (fin true m e) y
+  div_more : div f (fin true m e) c ≼ div f (fin true m e) y
   unfolding is_finite
-  div-more =
+  div_more =
       let x = fin true m e in
       rounds_mono f (div f x c) (div f x y) _ _ _ _ _ _ (mul-pos (num_pos c p) (den_pos x))
       (mul-pos (num_pos y q) (den_pos x)) (div_rounds f x c tt p) (div_rounds f x y tt q)
@@ -145,5 +145,5 @@ pub div_amid : (f : Format) (x c y d : Float) → Finite x → T (positive c) �
 unfolding is_finite
 div_amid f nan c y d p q r s h k = absurd p
 div_amid f (inf t) c y d p q r s h k = absurd p
-div_amid f (fin false m e) c y d p q r s h k = inr (div-less f m e y d r s k, div-less f m e c y q r h)
-div_amid f (fin true m e) c y d p q r s h k = inl (div-more f m e c y q r h, div-more f m e y d r s k)
+div_amid f (fin false m e) c y d p q r s h k = inr (div_less f m e y d r s k, div_less f m e c y q r h)
+div_amid f (fin true m e) c y d p q r s h k = inl (div_more f m e c y q r h, div_more f m e y d r s k)

@@ -156,7 +156,7 @@ rem_between f (inf s) y F p q = absurd q
 rem_between f (fin s m e) nan F p q = absurd p
 rem_between f (fin s m e) (inf t) F p q = absurd p
 rem_between f (fin s m e) (fin true n d) F p q = absurd p
-rem_between f (fin s m e) (fin false n d) F p q = by-case (n == 0) (eqb→eq n 0)
+rem_between f (fin s m e) (fin false n d) F p q = by_case (n == 0) (eqb→eq n 0)
   where
     no : (n : ℕ) → 0 < n → n ≢ 0
     no n h z = omega arith
@@ -170,10 +170,10 @@ rem_between f (fin s m e) (fin false n d) F p q = by-case (n == 0) (eqb→eq n 0
         (mul-le-mul_right (down d) (le_of_lt (mod-lt (m * up e * down d) (mul-pos (mul-pos (ltb→lt 0 n p) (up_pos d)) (down_pos e)))))
         (le_of_eq (mul_assoc (n * up d) (down e) (down d)))
 
-    by-case : (t : Bool) → (T t → n ≡ 0)
+    by_case : (t : Bool) → (T t → n ≡ 0)
         → Between (fin true n d) (fin false n d) (cond t nan (round f s (m * up e * down d % b) (down e * down d)))
-    by-case true z = absurd (no n (ltb→lt 0 n p) (z tt))
-    by-case false z = round_shrinks f s (m * up e * down d % b) (down e * down d) n d F (mul-pos (down_pos e) (down_pos d)) less
+    by_case true z = absurd (no n (ltb→lt 0 n p) (z tt))
+    by_case false z = round_shrinks f s (m * up e * down d % b) (down e * down d) n d F (mul-pos (down_pos e) (down_pos d)) less
 
 -- ---- where no minus sign appears
 
@@ -197,17 +197,17 @@ add_plus f (fin false m e) nan p q r h = absurd q
 add_plus f (fin false m e) (inf u) p q r h = absurd q
 add_plus f (fin false m e) (fin false n d) p q r h = round_plus f (m * up e * down d + n * up d * down e) (down e * down d)
 add_plus f (fin false m e) (fin true n d) p q r h =
-    by-case (nat_lt (m * up e * down d) (n * up d * down e)) (ltb→lt (m * up e * down d) (n * up d * down e))
+    by_case (nat_lt (m * up e * down d) (n * up d * down e)) (ltb→lt (m * up e * down d) (n * up d * down e))
     (nat_lt (n * up d * down e) (m * up e * down d))
   where
     small : n * up d * down e ≤ m * up e * down d
     small = omega (arith, le→below (fin true m e) (fin true n d) tt tt h)
 
-    by-case : (b : Bool) → (T b → m * up e * down d < n * up d * down e) → (c : Bool)
+    by_case : (b : Bool) → (T b → m * up e * down d < n * up d * down e) → (c : Bool)
         → Plus
         (cond b (round f true (n * up d * down e - m * up e * down d) (down e * down d)) (round f (false && c) (m * up e * down d - n * up d * down e) (down e * down d)))
-    by-case true k c = absurd (not-le_of_lt (k tt) small)
-    by-case false k c = round_plus f (m * up e * down d - n * up d * down e) (down e * down d)
+    by_case true k c = absurd (not-le_of_lt (k tt) small)
+    by_case false k c = round_plus f (m * up e * down d - n * up d * down e) (down e * down d)
 
 -- x − y for y ≤ x
 pub sub_plus : (f : Format) (x y : Float) → Finite x → Finite y → Plus x → y ≼ x → Plus (sub f x y)
@@ -222,15 +222,15 @@ div_plus f (fin true m e) y p q r = absurd q
 div_plus f (fin false m e) nan p q r = absurd r
 div_plus f (fin false m e) (inf t) p q r = absurd r
 div_plus f (fin false m e) (fin true n d) p q r = absurd r
-div_plus f (fin false m e) (fin false n d) p q r = by-case (n == 0) (eqb→eq n 0)
+div_plus f (fin false m e) (fin false n d) p q r = by_case (n == 0) (eqb→eq n 0)
   where
     no : (n : ℕ) → 0 < n → n ≢ 0
     no n h z = omega arith
 
-    by-case : (b : Bool) → (T b → n ≡ 0)
+    by_case : (b : Bool) → (T b → n ≡ 0)
         → Plus (cond b (cond (m == 0) nan (inf false)) (round f false (m * up e * down d) (n * up d * down e)))
-    by-case true z = absurd (no n (ltb→lt 0 n r) (z tt))
-    by-case false z = round_plus f (m * up e * down d) (n * up d * down e)
+    by_case true z = absurd (no n (ltb→lt 0 n r) (z tt))
+    by_case false z = round_plus f (m * up e * down d) (n * up d * down e)
 
 -- a quotient of two, of which the first is no larger
 one_rounds : (f : Format) → Rounds f one 1 0 1

@@ -36,11 +36,11 @@ quiet_nan = refl
 
 pub bits_pattern : (x : Float) → T (fits binary64 x) → bits (pattern_of x) ≡ x
 unfolding pattern_of
-bits_pattern x h = by-case (eq x x) refl
+bits_pattern x h = by_case (eq x x) refl
   where
-    by-case : (b : Bool) → eq x x ≡ b → bits (cond b (to_bits binary64 x) 0x7ff8000000000000) ≡ x
-    by-case true e = of_bits-to_bits binary64 x h
-    by-case false e = quiet_nan ∙ sym (only_nan x e)
+    by_case : (b : Bool) → eq x x ≡ b → bits (cond b (to_bits binary64 x) 0x7ff8000000000000) ≡ x
+    by_case true e = of_bits-to_bits binary64 x h
+    by_case false e = quiet_nan ∙ sym (only_nan x e)
 
 -- below an infinity's
 pub pattern_bits : (b : ℕ) → b < 2047 * 2 ^ 52 → pattern_of (bits b) ≡ b

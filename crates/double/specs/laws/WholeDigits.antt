@@ -48,9 +48,9 @@ module _ (m : ℕ) (e : ℤ) (F : T (fits binary64 (fin false m e))) (l : down e
   unfolding is_finite bears_minus
   counted = (count_exact (fin false m e) F refl).1
 
-  fin-near : IsNear (fin false m e)
+  fin_near : IsNear (fin false m e)
   unfolding is_finite bears_minus to_unsigned
-  fin-near =
+  fin_near =
       let d = down e in
       let n = m * up e in
       let c = count (fin false m e) in
@@ -84,7 +84,7 @@ near (fin true m e) F l h = absurd (nothing (m * up e) (down e) (down_pos e) (le
 near (fin false m e) F l h =
     let p = le→below half (fin false m e) (unfold is_finite in tt) (unfold is_finite in tt) l in
     let q = le→below (fin false m e) (bits 0x433fffffffffffff) (unfold is_finite in tt) (unfold is_finite in tt) h in
-    fin-near m e F (omega arith) (omega (arith, down_pos e))
+    fin_near m e F (omega arith) (omega (arith, down_pos e))
 
 -- ---- the pattern b of such a double: the places after the point are 1075 less its exponent's field
 
@@ -133,14 +133,14 @@ module _ (x : Float) (n : IsNear x) where
   again : bits (to_bits binary64 x) ≡ x
   again = of_bits-to_bits binary64 x n.from_zero.held
 
-  pub field-from : 1022 ≤ field x
-  field-from = from (to_bits binary64 x) (from_zero_pattern x n.from_zero) (rw again n.least) (rw again n.most)
+  pub field_from : 1022 ≤ field x
+  field_from = from (to_bits binary64 x) (from_zero_pattern x n.from_zero) (rw again n.least) (rw again n.most)
 
-  pub field-upto : field x ≤ 1075
-  field-upto = upto (to_bits binary64 x) (from_zero_pattern x n.from_zero) (rw again n.least) (rw again n.most)
+  pub field_upto : field x ≤ 1075
+  field_upto = upto (to_bits binary64 x) (from_zero_pattern x n.from_zero) (rw again n.least) (rw again n.most)
 
-  pub digits-cut : (2 ^ 52 + to_bits binary64 x % 2 ^ 52) / 2 ^ (1075 - field x) ≡ whole_part x
-  digits-cut =
+  pub digits_cut_lem : (2 ^ 52 + to_bits binary64 x % 2 ^ 52) / 2 ^ (1075 - field x) ≡ whole_part x
+  digits_cut_lem =
       cut (to_bits binary64 x) (from_zero_pattern x n.from_zero) (rw again n.least) (rw again n.most)
       ∙ ap (λ (y : Float). count y / 2 ^ 1074) again
       ∙ n.part

@@ -45,26 +45,26 @@ hull p q r s =
 -- ---- the four operations
 
 module _ (f : Format) where
-  abbrev pub addRange : Range → Range → Range
-  addRange unknown j = unknown
-  addRange (a to b) unknown = unknown
-  addRange (a to b) (c to d) = span (add f a c) (add f b d)
+  abbrev pub add_range : Range → Range → Range
+  add_range unknown j = unknown
+  add_range (a to b) unknown = unknown
+  add_range (a to b) (c to d) = span (add f a c) (add f b d)
 
-  abbrev pub subRange : Range → Range → Range
-  subRange unknown j = unknown
-  subRange (a to b) unknown = unknown
-  subRange (a to b) (c to d) = span (sub f a d) (sub f b c)
+  abbrev pub sub_range : Range → Range → Range
+  sub_range unknown j = unknown
+  sub_range (a to b) unknown = unknown
+  sub_range (a to b) (c to d) = span (sub f a d) (sub f b c)
 
-  abbrev pub mulRange : Range → Range → Range
-  mulRange unknown j = unknown
-  mulRange (a to b) unknown = unknown
-  mulRange (a to b) (c to d) = hull (mul f a c) (mul f a d) (mul f b c) (mul f b d)
+  abbrev pub mul_range : Range → Range → Range
+  mul_range unknown j = unknown
+  mul_range (a to b) unknown = unknown
+  mul_range (a to b) (c to d) = hull (mul f a c) (mul f a d) (mul f b c) (mul f b d)
 
   -- by a divisor above zero
-  abbrev pub divRange : Range → Range → Range
-  divRange unknown j = unknown
-  divRange (a to b) unknown = unknown
-  divRange (a to b) (c to d) = cond (positive c) (hull (div f a c) (div f a d) (div f b c) (div f b d)) unknown
+  abbrev pub div_range : Range → Range → Range
+  div_range unknown j = unknown
+  div_range (a to b) unknown = unknown
+  div_range (a to b) (c to d) = cond (positive c) (hull (div f a c) (div f a d) (div f b c) (div f b d)) unknown
 
 -- ---- expressions: a double of which bounds are known, a constant, and the four operations
 
@@ -94,10 +94,10 @@ module _ (f : Format) where
   abbrev pub range : Expr → Range
   range (known {a = a} {b = b} i) = a to b
   range (con c) = span c c
-  range (d ⊞ e) = addRange f (range d) (range e)
-  range (d ⊟ e) = subRange f (range d) (range e)
-  range (d ⊠ e) = mulRange f (range d) (range e)
-  range (d ⧄ e) = divRange f (range d) (range e)
+  range (d ⊞ e) = add_range f (range d) (range e)
+  range (d ⊟ e) = sub_range f (range d) (range e)
+  range (d ⊠ e) = mul_range f (range d) (range e)
+  range (d ⧄ e) = div_range f (range d) (range e)
 
 -- a range that lies from a to b
 abbrev pub inside : Float → Float → Range → Bool

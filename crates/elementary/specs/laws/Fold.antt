@@ -23,7 +23,7 @@ use Rattle.double.specs.laws.Sign.{plus_size}
 use Rattle.double.specs.laws.Between.{between, between_cut, size_between, finite_of_size, plus_of_positive}
 use Rattle.double.specs.laws.Fraction.{minus_none, plus_all, rounds_mono, add_rounds, sub_rounds, mul_rounds}
 use Rattle.double.specs.laws.Interval.{bounded}
-use Rattle.double.specs.laws.Grid.{parts_of_value, grid-parts, grid-under, grid-over, under-grid, over-grid}
+use Rattle.double.specs.laws.Grid.{parts_of_value, grid_parts, grid_under, grid_over, under_grid, over_grid}
 use Rattle.double.specs.laws.WholePart.{whole_part_mono, whole_part_true, from_whole_exact, from_whole_between}
 use Rattle.quantity.specs.rules.Refusal.{steepest}
 use Rattle.elementary.specs.rules.Fold.{I, P1, P2, P3, quarters, rest_at, rest}
@@ -77,11 +77,11 @@ fold_exact x h = let k = fold_at_most x h in from_whole_exact (quarters (size x)
 -- ---- a·I lies from k − 1/2 − 2^−21 to k + 1/2, exactly
 
 less_or : (a b : ℕ) → (a < b) ⊎ (b ≤ a)
-less_or a b = by-case (ltb a b) (ltb→lt a b) (nltb→le a b)
+less_or a b = by_case (ltb a b) (ltb→lt a b) (nltb→le a b)
   where
-    by-case : (t : Bool) → (T t → a < b) → (T (not t) → b ≤ a) → (a < b) ⊎ (b ≤ a)
-    by-case true h k = inl (h tt)
-    by-case false h k = inr (k tt)
+    by_case : (t : Bool) → (T t → a < b) → (T (not t) → b ≤ a) → (a < b) ⊎ (b ≤ a)
+    by_case true h k = inl (h tt)
+    by_case false h k = inr (k tt)
 
 -- what one more half does to a point
 half_under : (k p n d : ℕ) → k * d + n * 2 ^ 21 ≤ p * 2 ^ 21 → (k + 2 ^ 20) * (d * 2) + (n * 2 + 0 * d) * 2 ^ 21 ≤ (p * 2 + 1 * d) * 2 ^ 21
@@ -105,8 +105,8 @@ low_end : (n k d p z : ℕ) → z ≡ 0 → 0 < d → k + 1 ≡ n * 2 ^ 21 → p
 low_end n k d p z e D q h l = omega (arith, ap (λ (x : ℕ). x * d) q)
 
 module _ (m : ℕ) (e : ℤ) (n : ℕ) (small : n ≤ 254648) (F : Finite (fin false m e ⊗ I)) (w : IsWholePart n (fin false m e ⊗ I ⊕ half)) where
-  fold-high : m * up e * 5734161139222659 * 2 < (2 * n + 1) * 2 ^ 53 * down e
-  fold-high = elim (less_or (m * up e * 5734161139222659 * 2) ((2 * n + 1) * 2 ^ 53 * down e)) [ inl h ↦ h | inr h ↦ absurd (no h) ]
+  fold_high : m * up e * 5734161139222659 * 2 < (2 * n + 1) * 2 ^ 53 * down e
+  fold_high = elim (less_or (m * up e * 5734161139222659 * 2) ((2 * n + 1) * 2 ^ 53 * down e)) [ inl h ↦ h | inr h ↦ absurd (no h) ]
     where
       no : (2 * n + 1) * 2 ^ 53 * down e ≤ m * up e * 5734161139222659 * 2 → ⊥
       no h =
@@ -115,14 +115,14 @@ module _ (m : ℕ) (e : ℤ) (n : ℕ) (small : n ≤ 254648) (F : Finite (fin f
           let q = a ⊗ I in
           let s = q ⊕ half in
           let k = n * 2 ^ 21 + 2 ^ 20 in
-          let t : grid binary64 20 k ≼ q = grid-under binary64 20 k q _ _ _ (mul-pos (down_pos e) (pow_pos 53)) (mul_rounds binary64 a I tt tt) (high_start (m * up e) (down e) n h) in
-          let u = under-grid binary64 20 k q (omega arith) (lit≤ tt) F t in
-          let t' : grid binary64 20 (k + 2 ^ 20) ≼ s = grid-under binary64 20 (k + 2 ^ 20) s _ _ _ (mul-pos (den_pos q) (pow_pos 1)) (add_rounds binary64 q half F tt) (half_under k (plus_part q) (minus_part q) (den q) u) in
-          let u' = under-grid binary64 20 (k + 2 ^ 20) s (omega arith) (lit≤ tt) w.finite t' in
+          let t : grid binary64 20 k ≼ q = grid_under binary64 20 k q _ _ _ (mul-pos (down_pos e) (pow_pos 53)) (mul_rounds binary64 a I tt tt) (high_start (m * up e) (down e) n h) in
+          let u = under_grid binary64 20 k q (omega arith) (lit≤ tt) F t in
+          let t' : grid binary64 20 (k + 2 ^ 20) ≼ s = grid_under binary64 20 (k + 2 ^ 20) s _ _ _ (mul-pos (den_pos q) (pow_pos 1)) (add_rounds binary64 q half F tt) (half_under k (plus_part q) (minus_part q) (den q) u) in
+          let u' = under_grid binary64 20 (k + 2 ^ 20) s (omega arith) (lit≤ tt) w.finite t' in
           high_end n (den s) (plus_part s) (minus_part s) (minus_none s w.plus) u' (rw (plus_all s w.plus) w.over)
 
-  fold-low : 1 ≤ n → (n * 2 ^ 21 - 2 ^ 20 - 1) * 2 ^ 53 * down e < m * up e * 5734161139222659 * 2 ^ 21
-  fold-low some = elim (less_or ((n * 2 ^ 21 - 2 ^ 20 - 1) * 2 ^ 53 * down e) (m * up e * 5734161139222659 * 2 ^ 21)) [ inl h ↦ h | inr h ↦ absurd (no h) ]
+  fold_low : 1 ≤ n → (n * 2 ^ 21 - 2 ^ 20 - 1) * 2 ^ 53 * down e < m * up e * 5734161139222659 * 2 ^ 21
+  fold_low some = elim (less_or ((n * 2 ^ 21 - 2 ^ 20 - 1) * 2 ^ 53 * down e) (m * up e * 5734161139222659 * 2 ^ 21)) [ inl h ↦ h | inr h ↦ absurd (no h) ]
     where
       no : m * up e * 5734161139222659 * 2 ^ 21 ≤ (n * 2 ^ 21 - 2 ^ 20 - 1) * 2 ^ 53 * down e → ⊥
       no h =
@@ -131,10 +131,10 @@ module _ (m : ℕ) (e : ℤ) (n : ℕ) (small : n ≤ 254648) (F : Finite (fin f
           let q = a ⊗ I in
           let s = q ⊕ half in
           let k = n * 2 ^ 21 - 2 ^ 20 - 1 in
-          let t : q ≼ grid binary64 20 k = grid-over binary64 20 k q _ _ _ (mul-pos (down_pos e) (pow_pos 53)) (mul_rounds binary64 a I tt tt) (low_start (m * up e) (down e) n h) in
-          let u = over-grid binary64 20 k q (omega arith) (lit≤ tt) F t in
-          let t' : s ≼ grid binary64 20 (k + 2 ^ 20) = grid-over binary64 20 (k + 2 ^ 20) s _ _ _ (mul-pos (den_pos q) (pow_pos 1)) (add_rounds binary64 q half F tt) (half_over k (plus_part q) (minus_part q) (den q) u) in
-          let u' = over-grid binary64 20 (k + 2 ^ 20) s (omega arith) (lit≤ tt) w.finite t' in
+          let t : q ≼ grid binary64 20 k = grid_over binary64 20 k q _ _ _ (mul-pos (down_pos e) (pow_pos 53)) (mul_rounds binary64 a I tt tt) (low_start (m * up e) (down e) n h) in
+          let u = over_grid binary64 20 k q (omega arith) (lit≤ tt) F t in
+          let t' : s ≼ grid binary64 20 (k + 2 ^ 20) = grid_over binary64 20 (k + 2 ^ 20) s _ _ _ (mul-pos (den_pos q) (pow_pos 1)) (add_rounds binary64 q half F tt) (half_over k (plus_part q) (minus_part q) (den q) u) in
+          let u' = over_grid binary64 20 (k + 2 ^ 20) s (omega arith) (lit≤ tt) w.finite t' in
           low_end n (k + 2 ^ 20) (den s) (plus_part s) (minus_part s) (minus_none s w.plus) (den_pos s) (omega arith)
           u' (rw (plus_all s w.plus) w.under)
 
@@ -159,14 +159,14 @@ product_exact n h =
     let y = k ⊗ P1 in
     let p = parts_of_value k n 1 (from_whole_exact n (omega arith)) in
     let c = n * 1686629713 in
-    let g = grid-parts binary64 29 c (omega arith) (lit≤ tt) in
+    let g = grid_parts binary64 29 c (omega arith) (lit≤ tt) in
     let r = mul_rounds binary64 k P1 p.finite tt in
     let D = mul-pos (den_pos k) (pow_pos 30) in
-    let t = grid-under binary64 29 c y _ _ _ D r (prod_under n (plus_part k) (minus_part k) (den k) p.some p.none) in
-    let t' = grid-over binary64 29 c y _ _ _ D r (prod_over n (plus_part k) (minus_part k) (den k) p.some p.none) in
+    let t = grid_under binary64 29 c y _ _ _ D r (prod_under n (plus_part k) (minus_part k) (den k) p.some p.none) in
+    let t' = grid_over binary64 29 c y _ _ _ D r (prod_over n (plus_part k) (minus_part k) (den k) p.some p.none) in
     let F = (between g.finite g.finite t t').finite in
-    let u = under-grid binary64 29 c y (omega arith) (lit≤ tt) F t in
-    let u' = over-grid binary64 29 c y (omega arith) (lit≤ tt) F t' in
+    let u = under_grid binary64 29 c y (omega arith) (lit≤ tt) F t in
+    let u' = over_grid binary64 29 c y (omega arith) (lit≤ tt) F t' in
     record { finite = F; is = same (plus_part y * 2 ^ 30) (c * den y + minus_part y * 2 ^ 30) u' u }
   where
     same : (a b : ℕ) → a ≤ b → b ≤ a → a ≡ b
@@ -230,7 +230,7 @@ first_rest m e i =
     (rounds_mono binary64 (a ⊖ y) (over 7 8) _ _ _ 7 0 8 D (pow_pos 3) r (record { sign = false; top = 7; is = refl; value = refl })
     (over-difference (m * up e) (down e) (plus_part y) (minus_part y) (den y)
     (high_difference (m * up e) (down e) n (plus_part y) (minus_part y) (den y) p.is
-    (high_fraction (m * up e) (down e) n small (by_ratio (m * up e) (down e) n (fold-high m e n small F w))))))
+    (high_fraction (m * up e) (down e) n small (by_ratio (m * up e) (down e) n (fold_high m e n small F w))))))
   where
     over-difference : (x d py ny dy : ℕ) → (x * dy + ny * d) * 2 ^ 3 ≤ 7 * (d * dy) + (0 * dy + py * d) * 2 ^ 3
         → (x * dy + ny * d) * 8 + 0 * (d * dy) ≤ 7 * (d * dy) + (0 * dy + py * d) * 8
@@ -243,7 +243,7 @@ first_rest m e i =
         → 8 * n * 1686629713 * down e ≤ m * up e * 2 ^ 33 + 7 * 2 ^ 30 * down e
     lowest {n} (inl h) small F w =
         let k = n * 2 ^ 21 - 2 ^ 20 - 1 in
-        low_fraction (m * up e) (down e) n k small (omega arith) (by_part (m * up e) (down e) k (fold-low m e n small F w (omega arith)))
+        low_fraction (m * up e) (down e) n k small (omega arith) (by_part (m * up e) (down e) k (fold_low m e n small F w (omega arith)))
     lowest {n} (inr h) small F w = none (m * up e) (down e) n h
 
 -- ---- what the fold leaves

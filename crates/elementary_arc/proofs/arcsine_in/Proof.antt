@@ -3,7 +3,7 @@ use mathlib.Core.Path.{sym}
 use Rattle.double.specs.laws.Calls.{asks_nothing}
 use Rattle.double.specs.laws.Tests.{holds, fails}
 use Rattle.elementary_arc.specs.rules.Arcsine.{arcsine_in}
-use Rattle.elementary_arc.specs.laws.Arcsine.{arcsine-by-base, arcsine_of_neither}
+use Rattle.elementary_arc.specs.laws.Arcsine.{arcsine_by_base, arcsine_of_neither}
 use Rattle.elementary_arc.proofs.arcsine_in.Statement.{statement}
 use Rattle.elementary_arc.proofs.arcsine_in.Tie as tie
 
@@ -15,7 +15,7 @@ returns c =
     let c4 = c3.before in
     let size = c4.before.size.ensures in
     rw (c.negated-if.ensures, c1.bears-minus.ensures, c2.base.ensures, c3.arcsine-root.ensures, size)
-    (sym (arcsine-by-base _ (holds (rw (size) at c4.if1.true))))
+    (sym (arcsine_by_base _ (holds (rw (size) at c4.if1.true))))
 
 returns-2 : tie.Need-returns-2
 unfolding arcsine_in

@@ -36,7 +36,7 @@ use Rattle.root.specs.notions.Computed as root
 use Rattle.elementary_arc.specs.rules.Arctangent.{base, arctangent_of, both_zero}
 use Rattle.elementary_arc.specs.rules.Arcsine.{square, arcsine_in, arcsine_rule}
 use Rattle.elementary_arc.specs.notions.Computed.{computed}
-use Rattle.elementary_arc.specs.laws.Arctangent.{arctangent_answered, arctangent-ahead, arctangent-sign, arctangent-finite, arctangent-at-most-half}
+use Rattle.elementary_arc.specs.laws.Arctangent.{arctangent_answered, arctangent_ahead, arctangent_sign, arctangent_finite, arctangent_at_most_half}
 
 abbrev arcsine_of : Float → Rad
 arcsine_of s = arctangent_of s (root_of (square s))
@@ -66,23 +66,23 @@ module _ (s : Float) (h : size s ≼ one) where
       (sub_plus binary64 one s tt place.finite tt place.to)
       (add_plus binary64 one s tt place.finite tt place.from)
 
-  square-finite : Finite (square s)
+  square_finite : Finite (square s)
   unfolding is_finite le neg add sub mul of_bits round
-  square-finite = (bounded binary64 zero (over 4 1) ((con one ⊟ known place) ⊠ (con one ⊞ known place)) tt).finite
+  square_finite = (bounded binary64 zero (over 4 1) ((con one ⊟ known place) ⊠ (con one ⊞ known place)) tt).finite
 
-  square-from-zero : IsFromZero (square s)
-  square-from-zero =
+  square_from_zero : IsFromZero (square s)
+  square_from_zero =
       record {
         held = mul-fits binary64 (one ⊖ s) (one ⊕ s);
-        finite = is_true (is_finite (square s)) square-finite;
+        finite = is_true (is_finite (square s)) square_finite;
         plus = no_minus_of_plus (square s) square_plus;
       }
 
-  root-double : IsFromZero (root_of (square s))
-  root-double = root_from_zero (square s) square-from-zero
+  root_double : IsFromZero (root_of (square s))
+  root_double = root_from_zero (square s) square_from_zero
 
-  root-finite : Finite (root_of (square s))
-  root-finite = holds root-double.finite
+  root_finite : Finite (root_of (square s))
+  root_finite = holds root_double.finite
 
   -- of a zero the square is 1, so that the arctangent never meets two zeros
   square_of_zero : T (is_zero s) → square s ≡ one
@@ -92,30 +92,30 @@ module _ (s : Float) (h : size s ≼ one) where
       squeezed one (square s) tt (mul-fits binary64 (one ⊖ s) (one ⊕ s)) tt square_plus
       (bounded binary64 one one ((con one ⊟ known at_zero) ⊠ (con one ⊞ known at_zero)) tt)
 
-  pub arcsine-of-no-zeros : T (not (both_zero s (root_of (square s))))
-  arcsine-of-no-zeros = by-case (is_zero s) (λ z. z)
+  pub arcsine_of_no_zeros : T (not (both_zero s (root_of (square s))))
+  arcsine_of_no_zeros = by_case (is_zero s) (λ z. z)
     where
-      by-case : (b : Bool) → (T b → T (is_zero s)) → T (not (b && is_zero (root_of (square s))))
-      by-case true z = rw (square_of_zero (z tt)) root_of_one
-      by-case false z = tt
+      by_case : (b : Bool) → (T b → T (is_zero s)) → T (not (b && is_zero (root_of (square s))))
+      by_case true z = rw (square_of_zero (z tt)) root_of_one
+      by_case false z = tt
 
   -- neither the root nor the arctangent is refused
-  pub arcsine-answered : arcsine_in s ≡ answered (arcsine_of s)
+  pub arcsine_answered : arcsine_in s ≡ answered (arcsine_of s)
   unfolding arcsine_in then
-  arcsine-answered =
-      rw (not-past, root_answered (square s) square-from-zero.finite square-from-zero.plus)
-      (arctangent_answered s (root_of (square s)) arcsine-of-no-zeros)
+  arcsine_answered =
+      rw (not_past, root_answered (square s) square_from_zero.finite square_from_zero.plus)
+      (arctangent_answered s (root_of (square s)) arcsine_of_no_zeros)
     where
-      not-past : lt one (size s) ≡ false
-      not-past = is_false (lt one (size s)) (not_lt_of_le (size s) one (rw (finite_size s) place.finite) finite_one h)
+      not_past : lt one (size s) ≡ false
+      not_past = is_false (lt one (size s)) (not_lt_of_le (size s) one (rw (finite_size s) place.finite) finite_one h)
 
   -- base with s's sign, since the root bears no minus sign
-  pub arcsine-by-base : arcsine_in s ≡ answered (rad (negated_if (bears_minus s) (base (size s) (root_of (square s)))))
-  arcsine-by-base =
-      arcsine-answered
+  pub arcsine_by_base : arcsine_in s ≡ answered (rad (negated_if (bears_minus s) (base (size s) (root_of (square s)))))
+  arcsine_by_base =
+      arcsine_answered
       ∙ ap answered
-      (arctangent-ahead s (root_of (square s)) place.finite root-finite arcsine-of-no-zeros root-double.plus
-      (size_no_minus (root_of (square s)) root-double.plus))
+      (arctangent_ahead s (root_of (square s)) place.finite root_finite arcsine_of_no_zeros root_double.plus
+      (size_no_minus (root_of (square s)) root_double.plus))
 
 -- what is neither up to 1 in size nor past it is a NaN, which the root refuses
 pub arcsine_of_neither : (s : Float) → T (not (le (size s) one)) → T (not (lt one (size s))) → arcsine_in s ≡ refused 1
@@ -136,43 +136,43 @@ module _ (s : Float) (p : Finite s) where
   up_to_one t = le_of_not_lt one (size s) finite_one (rw (finite_size s) p) (fails t)
 
   -- 7 is the only refusal, and is given only past 1 in size
-  pub arcsine-refuses-seven : (n : ℕ) → arcsine_in s ≡ refused n → (n ≡ 7) × T (lt one (size s))
-  arcsine-refuses-seven n e = by-case (lt one (size s)) refl
+  pub arcsine_refuses_seven : (n : ℕ) → arcsine_in s ≡ refused n → (n ≡ 7) × T (lt one (size s))
+  arcsine_refuses_seven n e = by_case (lt one (size s)) refl
     where
-      by-case : (b : Bool) → lt one (size s) ≡ b → (n ≡ 7) × T (lt one (size s))
-      by-case true t = (cc (past_one t), holds t)
-      by-case false t =
-          let a = arcsine-answered s (up_to_one t) in
+      by_case : (b : Bool) → lt one (size s) ≡ b → (n ≡ 7) × T (lt one (size s))
+      by_case true t = (cc (past_one t), holds t)
+      by_case false t =
+          let a = arcsine_answered s (up_to_one t) in
           let z : ◌≡◌ {A = ℕ} 0 1 = cc in
           absurd (omega arith)
 
   module _ (v : Rad) (e : arcsine_in s ≡ answered v) where
-    within-one : size s ≼ one
-    within-one = by-case (lt one (size s)) refl
+    within_one : size s ≼ one
+    within_one = by_case (lt one (size s)) refl
       where
-        by-case : (b : Bool) → lt one (size s) ≡ b → size s ≼ one
-        by-case true t =
+        by_case : (b : Bool) → lt one (size s) ≡ b → size s ≼ one
+        by_case true t =
             let a = past_one t in
             let z : ◌≡◌ {A = ℕ} 0 1 = cc in
             absurd (omega arith)
-        by-case false t = up_to_one t
+        by_case false t = up_to_one t
 
-    is-arcsine : v ≡ arcsine_of s
-    is-arcsine = cc (arcsine-answered s within-one)
+    is_arcsine : v ≡ arcsine_of s
+    is_arcsine = cc (arcsine_answered s within_one)
 
     -- the answer bears s's sign
-    pub arcsine-sign : bears_minus v.0 ≡ bears_minus s
-    arcsine-sign = rw is-arcsine (arctangent-sign s (root_of (square s)) p (root-finite s within-one) (arcsine-of-no-zeros s within-one))
+    pub arcsine_sign : bears_minus v.0 ≡ bears_minus s
+    arcsine_sign = rw is_arcsine (arctangent_sign s (root_of (square s)) p (root_finite s within_one) (arcsine_of_no_zeros s within_one))
 
-    pub arcsine-finite : Finite v.0
-    arcsine-finite = rw is-arcsine (arctangent-finite s (root_of (square s)) p (root-finite s within-one) (arcsine-of-no-zeros s within-one))
+    pub arcsine_finite : Finite v.0
+    arcsine_finite = rw is_arcsine (arctangent_finite s (root_of (square s)) p (root_finite s within_one) (arcsine_of_no_zeros s within_one))
 
     -- a quarter turn at most
-    pub arcsine-at-most-half : size v.0 ≼ HALF
-    arcsine-at-most-half =
-        rw is-arcsine
-        (arctangent-at-most-half s (root_of (square s)) p (root-finite s within-one) (arcsine-of-no-zeros s within-one)
-        (root-double s within-one).plus)
+    pub arcsine_at_most_half : size v.0 ≼ HALF
+    arcsine_at_most_half =
+        rw is_arcsine
+        (arctangent_at_most_half s (root_of (square s)) p (root_finite s within_one) (arcsine_of_no_zeros s within_one)
+        (root_double s within_one).plus)
 
 -- ---- 14 is never met, of any number: inner, and called alone
 
@@ -187,18 +187,18 @@ of_infinity t = apart (of_answer of_rad) refl
 pub arcsine_never_meets_fourteen : (s : Float) → arcsine_in s ≢ refused 14
 arcsine_never_meets_fourteen nan = of_nan
 arcsine_never_meets_fourteen (inf t) = of_infinity t
-arcsine_never_meets_fourteen (fin t m d) = λ e. no (arcsine-refuses-seven (fin t m d) (unfold is_finite in tt) 14 e).0
+arcsine_never_meets_fourteen (fin t m d) = λ e. no (arcsine_refuses_seven (fin t m d) (unfold is_finite in tt) 14 e).0
   where
     no : ◌≡◌ {A = ℕ} 14 7 → ⊥
     no h = omega arith
 
 pub arcsine_alone_never_meets_fourteen : (s : Float) → arcsine_rule s ≢ refused 14
 unfolding arcsine_rule
-arcsine_alone_never_meets_fourteen s e = by-case (is_finite s) e
+arcsine_alone_never_meets_fourteen s e = by_case (is_finite s) e
   where
     no : ◌≡◌ {A = ℕ} 1 14 → ⊥
     no h = omega arith
 
-    by-case : (b : Bool) → unless (cond b 0 1) (arcsine_in s) ≡ refused 14 → ⊥
-    by-case true e = arcsine_never_meets_fourteen s e
-    by-case false e = no (same_number e)
+    by_case : (b : Bool) → unless (cond b 0 1) (arcsine_in s) ≡ refused 14 → ⊥
+    by_case true e = arcsine_never_meets_fourteen s e
+    by_case false e = no (same_number e)

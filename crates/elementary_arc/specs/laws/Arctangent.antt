@@ -117,14 +117,14 @@ larger_positive (fin true m e) x p q r s h k = absurd q
 larger_positive (fin false m e) nan p q r s h k = absurd r
 larger_positive (fin false m e) (inf t) p q r s h k = absurd r
 larger_positive (fin false m e) (fin true n d) p q r s h k = absurd s
-larger_positive (fin false m e) (fin false n d) p q r s h k = by-case (ltb 0 n) (nltb→le 0 n)
+larger_positive (fin false m e) (fin false n d) p q r s h k = by_case (ltb 0 n) (nltb→le 0 n)
   where
     none_left : (a b x y : ℕ) → b ≡ 0 → a * x + 0 * y ≤ b * y + 0 * x → a * x ≤ 0
     none_left a b x y z h = omega (arith, ap (λ (k : ℕ). k * y) z)
 
-    by-case : (b : Bool) → (T (not b) → n ≤ 0) → T b
-    by-case true z = tt
-    by-case false z =
+    by_case : (b : Bool) → (T (not b) → n ≤ 0) → T b
+    by_case true z = tt
+    by_case false z =
         let z' = z tt in
         let N : n ≡ 0 = omega arith in
         let B : n * up d ≡ 0 = rw N (omega arith) in
@@ -170,46 +170,46 @@ supplement_plus true b i = plus_of_positive HALF (PI ⊖ b) (unfold of_bits in t
 supplement_plus false b i = i.plus
 
 module _ (y x : Float) (p : Finite y) (q : Finite x) (n : T (not (both_zero y x))) where
-  supplement-size : size (supplement_if (bears_minus x) (base (size y) (size x))) ≡ supplement_if (bears_minus x) (base (size y) (size x))
-  supplement-size =
+  supplement_size : size (supplement_if (bears_minus x) (base (size y) (size x))) ≡ supplement_if (bears_minus x) (base (size y) (size x))
+  supplement_size =
       size_plus (supplement_if (bears_minus x) (base (size y) (size x)))
       (supplement_plus (bears_minus x) (base (size y) (size x)) (base_of y x p q n))
 
   -- its size is base, or its supplement where x bears a minus sign
-  pub arctangent-size : size (arctangent_of y x).0 ≡ supplement_if (bears_minus x) (base (size y) (size x))
+  pub arctangent_size : size (arctangent_of y x).0 ≡ supplement_if (bears_minus x) (base (size y) (size x))
   unfolding arctangent_of
-  arctangent-size = rw (supplement-size) (size_negated (bears_minus y) (supplement_if (bears_minus x) (base (size y) (size x))) ∙ supplement-size)
+  arctangent_size = rw (supplement_size) (size_negated (bears_minus y) (supplement_if (bears_minus x) (base (size y) (size x))) ∙ supplement_size)
 
   -- it bears y's sign
-  pub arctangent-sign : bears_minus (arctangent_of y x).0 ≡ bears_minus y
+  pub arctangent_sign : bears_minus (arctangent_of y x).0 ≡ bears_minus y
   unfolding arctangent_of
-  arctangent-sign =
-      rw (supplement-size)
+  arctangent_sign =
+      rw (supplement_size)
       (minus_negated (bears_minus y) (supplement_if (bears_minus x) (base (size y) (size x))) (supplement_plus (bears_minus x) (base (size y) (size x)) (base_of y x p q n)))
 
   -- base with y's sign, where x bears no minus sign
-  pub arctangent-ahead : bears_minus x ≡ false → size x ≡ x → arctangent_of y x ≡ rad (negated_if (bears_minus y) (base (size y) x))
+  pub arctangent_ahead : bears_minus x ≡ false → size x ≡ x → arctangent_of y x ≡ rad (negated_if (bears_minus y) (base (size y) x))
   unfolding arctangent_of
-  arctangent-ahead h same = rw (supplement-size, h, same)
+  arctangent_ahead h same = rw (supplement_size, h, same)
 
-  pub arctangent-finite : Finite (arctangent_of y x).0
-  arctangent-finite = rw (← finite_size (arctangent_of y x).0, arctangent-size) (by_sign (bears_minus x))
+  pub arctangent_finite : Finite (arctangent_of y x).0
+  arctangent_finite = rw (← finite_size (arctangent_of y x).0, arctangent_size) (by_sign (bears_minus x))
     where
       by_sign : (s : Bool) → Finite (supplement_if s (base (size y) (size x)))
       by_sign true = (behind (base (size y) (size x)) (base_of y x p q n)).finite
       by_sign false = (base_of y x p q n).place.finite
 
   -- a quarter turn at most, where x bears no minus sign
-  pub arctangent-at-most-half : bears_minus x ≡ false → size (arctangent_of y x).0 ≼ HALF
-  arctangent-at-most-half h = rw (arctangent-size, h) (base_of y x p q n).place.to
+  pub arctangent_at_most_half : bears_minus x ≡ false → size (arctangent_of y x).0 ≼ HALF
+  arctangent_at_most_half h = rw (arctangent_size, h) (base_of y x p q n).place.to
 
   -- a quarter turn at least, where x bears one
-  pub arctangent-at-least-half : bears_minus x ≡ true → HALF ≼ size (arctangent_of y x).0
-  arctangent-at-least-half h = rw (arctangent-size, h) (behind (base (size y) (size x)) (base_of y x p q n)).from
+  pub arctangent_at_least_half : bears_minus x ≡ true → HALF ≼ size (arctangent_of y x).0
+  arctangent_at_least_half h = rw (arctangent_size, h) (behind (base (size y) (size x)) (base_of y x p q n)).from
 
   -- and half a turn at most in any case
-  pub arctangent-at-most-pi : size (arctangent_of y x).0 ≼ PI
-  arctangent-at-most-pi = rw arctangent-size (by_sign (bears_minus x))
+  pub arctangent_at_most_pi : size (arctangent_of y x).0 ≼ PI
+  arctangent_at_most_pi = rw arctangent_size (by_sign (bears_minus x))
     where
       by_sign : (s : Bool) → supplement_if s (base (size y) (size x)) ≼ PI
       by_sign true = (behind (base (size y) (size x)) (base_of y x p q n)).to
@@ -266,11 +266,11 @@ arctangent_behind y (fin s m e) n h = opposite_signs y (fin s m e) n h (rw h)
 -- 14 is the only refusal, and is given only of two zeros
 pub arctangent_refuses_fourteen : (y x : Float) (n : ℕ) → arctangent_in y x ≡ refused n → (n ≡ 14) × T (both_zero y x)
 unfolding arctangent_in
-arctangent_refuses_fourteen y x n e = by-case (both_zero y x) e
+arctangent_refuses_fourteen y x n e = by_case (both_zero y x) e
   where
-    by-case : (b : Bool) → cond b (refused 14) (answered (arctangent_of y x)) ≡ refused n → (n ≡ 14) × T b
-    by-case true e = (sym (same_number e), tt)
-    by-case false e = absurd (refused_not_answered (sym e))
+    by_case : (b : Bool) → cond b (refused 14) (answered (arctangent_of y x)) ≡ refused n → (n ≡ 14) × T b
+    by_case true e = (sym (same_number e), tt)
+    by_case false e = absurd (refused_not_answered (sym e))
 
 pub arctangent_of_zeros : (y x : Float) → T (both_zero y x) → arctangent_in y x ≡ refused 14
 unfolding arctangent_in
@@ -281,33 +281,33 @@ unfolding arctangent_in
 arctangent_answered y x n = rw (is_false (both_zero y x) n)
 
 module _ (y x : Float) (v : Rad) (e : arctangent_in y x ≡ answered v) where
-  is-arctangent : T (not (both_zero y x)) × (v ≡ arctangent_of y x)
+  is_arctangent : T (not (both_zero y x)) × (v ≡ arctangent_of y x)
   unfolding arctangent_in
-  is-arctangent = by-case (both_zero y x) e
+  is_arctangent = by_case (both_zero y x) e
     where
-      by-case : (b : Bool) → cond b (refused 14) (answered (arctangent_of y x)) ≡ answered v → T (not b) × (v ≡ arctangent_of y x)
-      by-case true e = absurd (refused_not_answered e)
-      by-case false e = (tt, sym (same_value e))
+      by_case : (b : Bool) → cond b (refused 14) (answered (arctangent_of y x)) ≡ answered v → T (not b) × (v ≡ arctangent_of y x)
+      by_case true e = absurd (refused_not_answered e)
+      by_case false e = (tt, sym (same_value e))
 
   module _ (p : Finite y) (q : Finite x) where
-    pub arctangent-in-sign : bears_minus v.0 ≡ bears_minus y
-    arctangent-in-sign = rw is-arctangent.1 (arctangent-sign y x p q is-arctangent.0)
+    pub arctangent_in_sign : bears_minus v.0 ≡ bears_minus y
+    arctangent_in_sign = rw is_arctangent.1 (arctangent_sign y x p q is_arctangent.0)
 
-    pub arctangent-in-finite : Finite v.0
-    arctangent-in-finite = rw is-arctangent.1 (arctangent-finite y x p q is-arctangent.0)
+    pub arctangent_in_finite : Finite v.0
+    arctangent_in_finite = rw is_arctangent.1 (arctangent_finite y x p q is_arctangent.0)
 
-    pub arctangent-in-at-most-half : bears_minus x ≡ false → size v.0 ≼ HALF
-    arctangent-in-at-most-half h = rw is-arctangent.1 (arctangent-at-most-half y x p q is-arctangent.0 h)
+    pub arctangent_in_at_most_half : bears_minus x ≡ false → size v.0 ≼ HALF
+    arctangent_in_at_most_half h = rw is_arctangent.1 (arctangent_at_most_half y x p q is_arctangent.0 h)
 
-    pub arctangent-in-at-least-half : bears_minus x ≡ true → HALF ≼ size v.0
-    arctangent-in-at-least-half h = rw is-arctangent.1 (arctangent-at-least-half y x p q is-arctangent.0 h)
+    pub arctangent_in_at_least_half : bears_minus x ≡ true → HALF ≼ size v.0
+    arctangent_in_at_least_half h = rw is_arctangent.1 (arctangent_at_least_half y x p q is_arctangent.0 h)
 
-    pub arctangent-in-at-most-pi : size v.0 ≼ PI
-    arctangent-in-at-most-pi = rw is-arctangent.1 (arctangent-at-most-pi y x p q is-arctangent.0)
+    pub arctangent_in_at_most_pi : size v.0 ≼ PI
+    arctangent_in_at_most_pi = rw is_arctangent.1 (arctangent_at_most_pi y x p q is_arctangent.0)
 
 pub arctangent_in_behind : (y x : Float) (v : Rad) → arctangent_in y x ≡ answered v → (w : Rad) → arctangent_in y (neg x) ≡ answered w
     → bears_minus x ≡ false → size w.0 ≡ PI ⊖ size v.0
 arctangent_in_behind y x v e w e' h =
-    let here = is-arctangent y x v e in
-    let there = is-arctangent y (neg x) w e' in
+    let here = is_arctangent y x v e in
+    let there = is_arctangent y (neg x) w e' in
     rw (here.1, there.1) (arctangent_behind y x here.0 h)

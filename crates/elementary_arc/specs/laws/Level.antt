@@ -10,20 +10,20 @@ use Rattle.elementary_arc.specs.rules.Arctangent.{near, atn, base, arctangent_of
 use Rattle.elementary_arc.specs.rules.Level.{lesser_over, reduced, base_from, arc_by_signs}
 
 level_atn : (v : Float) → cond (le v near) (arctangent_series (reduced v)) (QUARTER ⊕ arctangent_series (reduced v)) ≡ atn v
-level_atn v = by-case (le v near) v ((v ⊖ one) ⊘ (v ⊕ one))
+level_atn v = by_case (le v near) v ((v ⊖ one) ⊘ (v ⊕ one))
   where
-    by-case : (b : Bool) (p q : Float)
+    by_case : (b : Bool) (p q : Float)
         → cond b (arctangent_series (cond b p q)) (QUARTER ⊕ arctangent_series (cond b p q)) ≡ cond b (arctangent_series p) (QUARTER ⊕ arctangent_series q)
-    by-case true p q = refl
-    by-case false p q = refl
+    by_case true p q = refl
+    by_case false p q = refl
 
 pub level_base : (y x : Float) → base_from y x (lesser_over y x) (arctangent_series (reduced (lesser_over y x))) ≡ base y x
 level_base y x =
-    ap (λ (t : Float). cond (le y x) t (HALF ⊖ t)) (level_atn (lesser_over y x)) ∙ by-case (le y x) (y ⊘ x) (x ⊘ y)
+    ap (λ (t : Float). cond (le y x) t (HALF ⊖ t)) (level_atn (lesser_over y x)) ∙ by_case (le y x) (y ⊘ x) (x ⊘ y)
   where
-    by-case : (b : Bool) (p q : Float) → cond b (atn (cond b p q)) (HALF ⊖ atn (cond b p q)) ≡ cond b (atn p) (HALF ⊖ atn q)
-    by-case true p q = refl
-    by-case false p q = refl
+    by_case : (b : Bool) (p q : Float) → cond b (atn (cond b p q)) (HALF ⊖ atn (cond b p q)) ≡ cond b (atn p) (HALF ⊖ atn q)
+    by_case true p q = refl
+    by_case false p q = refl
 
 -- a lane's work, step by step, is its arctangent
 pub level_arctangent : (y x : Float) {up across v u a b r : Float} → up ≡ size y → across ≡ size x → v ≡ lesser_over up across → u ≡ reduced v

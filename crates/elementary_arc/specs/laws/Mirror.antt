@@ -39,24 +39,24 @@ arctangent_odd y x =
 
 pub arctangent_in_odd : (y x : Float) → arctangent_in (neg y) x ≡ with opposite (arctangent_in y x)
 unfolding arctangent_in
-arctangent_in_odd y x = rw (zero_neg y, arctangent_odd y x) (by-case (both_zero y x))
+arctangent_in_odd y x = rw (zero_neg y, arctangent_odd y x) (by_case (both_zero y x))
   where
-    by-case : (b : Bool)
+    by_case : (b : Bool)
         → cond b (refused 14) (answered (opposite (arctangent_of y x))) ≡ with opposite (cond b (refused 14) (answered (arctangent_of y x)))
-    by-case true = refl
-    by-case false = refl
+    by_case true = refl
+    by_case false = refl
 
 pub arcsine_in_odd : (s : Float) → arcsine_in (neg s) ≡ with opposite (arcsine_in s)
 unfolding arcsine_in then
 arcsine_in_odd s =
     rw (size_neg s, sub_neg_r binary64 one s, add_neg_r binary64 one s, mul_comm binary64 (one ⊕ s) (one ⊖ s))
-    (by-case (lt one (size s)))
+    (by_case (lt one (size s)))
   where
     by-root : (a : Answer Float) → then a (λ (r : Float). arctangent_in (neg s) r) ≡ with opposite (then a (λ (r : Float). arctangent_in s r))
     by-root (answered r) = arctangent_in_odd s r
     by-root (refused n) = refl
 
-    by-case : (b : Bool)
+    by_case : (b : Bool)
         → cond b (refused 7) (then (root_rule ((one ⊖ s) ⊗ (one ⊕ s))) (λ (r : Float). arctangent_in (neg s) r)) ≡ with opposite (cond b (refused 7) (then (root_rule ((one ⊖ s) ⊗ (one ⊕ s))) (λ (r : Float). arctangent_in s r)))
-    by-case true = refl
-    by-case false = by-root (root_rule ((one ⊖ s) ⊗ (one ⊕ s)))
+    by_case true = refl
+    by_case false = by-root (root_rule ((one ⊖ s) ⊗ (one ⊕ s)))

@@ -9,7 +9,7 @@ use Rattle.precess_angles.specs.rules.Days.{days_refusal}
 use Rattle.chain.specs.rules.Obliquity.{mean_obliquity_of}
 use Rattle.chain.specs.rules.Night.{night_from, night_of}
 use Rattle.list.specs.declared.Star.{Star}
-use Rattle.batch.specs.laws.Star.{star-under-a-night}
+use Rattle.batch.specs.laws.Star.{star_under_a_night}
 use Rattle.sidereal.specs.rules.Mean.{mean_of}
 use Rattle.sidereal.specs.rules.Apparent.{apparent_from, apparent_of}
 use Rattle.heading.specs.rules.Sky.{sky_under}
@@ -20,7 +20,7 @@ pub heading_under_a_night : (edition : Edition) (star : Star) (day1 day2 : Float
 unfolding heading_in heading_under
 heading_under_a_night edition star day1 day2 long lat days =
     ap (λ (place : Answer Pair). then place (λ (p : Pair). sky_under (apparent_of day2) (rad (first p)) (rad (second p)) long lat))
-    (star-under-a-night star day1 day2 days edition)
+    (star_under_a_night star day1 day2 days edition)
 
 pub apparent_of_a_night : (edition : Edition) (day1 day2 : Float)
     → apparent_from (mean_of day2) (night_of edition day1 day2).nutation (mean_obliquity_of day2) ≡ apparent_of day2

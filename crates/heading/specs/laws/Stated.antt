@@ -24,7 +24,7 @@ use Rattle.list.specs.rules.Record.{in_range}
 use Rattle.star_store.specs.rules.Star.{star_refusal}
 use Rattle.star_store.specs.notions.Stated.{moving}
 use Rattle.batch.specs.rules.Star.{star_rule, star_under}
-use Rattle.batch.specs.laws.Star.{star-under-a-night}
+use Rattle.batch.specs.laws.Star.{star_under_a_night}
 use Rattle.sidereal.specs.rules.Mean.{mean_of}
 use Rattle.sidereal.specs.rules.Apparent.{apparent_of}
 use Rattle.sidereal.specs.notions.Computed as sidereal
@@ -40,7 +40,7 @@ days_taken = refl
 
 place_from_them : (edition : Edition) (star : Star) → star_rule edition star earlier epoch ≡ place_from edition star (nutation_of epoch) (velocity_of epoch)
 unfolding night_of
-place_from_them edition star = sym (star-under-a-night star earlier epoch days_taken edition)
+place_from_them edition star = sym (star_under_a_night star earlier epoch days_taken edition)
 
 heading_worked_out : (edition : Edition) (star : Star) (long lat : Rad)
     → heading_in edition star earlier epoch long lat ≡ heading_from edition star long lat nutation velocity

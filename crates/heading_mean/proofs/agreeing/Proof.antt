@@ -6,7 +6,7 @@ use lib.ListN.{length, drop, get_or}
 use borrow.Author.Rules.{rules}
 use Rattle.double.specs.laws.Calls.{asks_nothing}
 use Rattle.heading_mean.specs.rules.Reference.{agreeing}
-use Rattle.heading_mean.specs.laws.Reference.{vote-within, agreeing-next, agreeing-done}
+use Rattle.heading_mean.specs.laws.Reference.{vote_within, agreeing_next, agreeing_done}
 use Rattle.heading_mean.proofs.agreeing.Statement.{statement}
 use Rattle.heading_mean.proofs.agreeing.Tie as tie
 
@@ -26,7 +26,7 @@ add-count c =
     let a = pass.before.before.before.args in
     record {
       fits =
-          omega (arith, (add-i c).ranges, pass.before.loop.invariant.1, c.vote.ensures, vote-within a.reference (get_or a.headings.now pass.before.loop.i 0));
+          omega (arith, (add-i c).ranges, pass.before.loop.invariant.1, c.vote.ensures, vote_within a.reference (get_or a.headings.now pass.before.loop.i 0));
     }
 
 loop-again : tie.Need-loop-preserved invariant-loop decreases-loop
@@ -37,16 +37,16 @@ loop-again c =
     let s = start.args.headings.now in
     let r = start.args.reference in (
       omega (arith, pass.loop-test.true),
-      omega (arith, pass.before.loop.invariant.1, c.vote.ensures, vote-within r (get_or s i 0)),
+      omega (arith, pass.before.loop.invariant.1, c.vote.ensures, vote_within r (get_or s i 0)),
       ap (λ (n : ℕ). pass.before.loop.count + n + agreeing r (drop (i + 1) s)) c.vote.ensures
-          ∙ agreeing-next r s i pass.before.loop.count pass.loop-test.true
+          ∙ agreeing_next r s i pass.before.loop.count pass.loop-test.true
           ∙ pass.before.loop.invariant.2,
     )
 
 returns : tie.Need-returns invariant-loop decreases-loop
 returns c =
     let start = c.before.before.before in
-    agreeing-done start.args.reference start.args.headings.now c.before.loop.i c.before.loop.count (omega (arith, c.loop-test.false))
+    agreeing_done start.args.reference start.args.headings.now c.before.loop.i c.before.loop.count (omega (arith, c.loop-test.false))
     ∙ c.before.loop.invariant.2
 
 pub agreeing-spec : {M : Type 1} → statement M

@@ -4,14 +4,14 @@ use Prim.Native.Nat.{ℕ, ◌≤◌}
 use lib.ListN.{length}
 use Rattle.double.specs.laws.Calls.{asks_nothing}
 use Rattle.heading_mean.specs.rules.Reference.{is_reference}
-use Rattle.heading_mean.specs.laws.Reference.{agreeing-within, more_than_half}
+use Rattle.heading_mean.specs.laws.Reference.{agreeing_within, more_than_half}
 use Rattle.heading_mean.proofs.is_reference.Statement.{statement}
 use Rattle.heading_mean.proofs.is_reference.Tie as tie
 
 sub-result : tie.Need-overflow-sub-result
 sub-result c =
     let s = c.before.before.before.args.headings.now in
-    subst (λ (n : ℕ). n ≤ length s) (sym c.agreeing.ensures) (agreeing-within _ s)
+    subst (λ (n : ℕ). n ≤ length s) (sym c.agreeing.ensures) (agreeing_within _ s)
 
 returns : tie.Need-returns
 unfolding is_reference

@@ -7,7 +7,7 @@ use borrow.Author.Rules.{rules}
 use Rattle.double.specs.laws.Calls.{asks_nothing}
 use Rattle.quantity.specs.rules.Refusal.{lower}
 use Rattle.residual_sheet.specs.rules.Residuals.{least_refusal}
-use Rattle.residual_sheet.specs.laws.Residuals.{least-next, least-done}
+use Rattle.residual_sheet.specs.laws.Residuals.{least_next, least_done}
 use Rattle.heading_mean.specs.rules.Mean.{bits_refusal}
 use Rattle.heading_mean.proofs.least_refusal.Statement.{statement}
 use Rattle.heading_mean.proofs.least_refusal.Tie as tie
@@ -27,13 +27,13 @@ loop-again c =
       omega (arith, pass.loop-test.true),
       ap (λ (n : ℕ). lower n (least_refusal bits_refusal (drop (pass.before.loop.i + 1) s)))
           (rw (at_one.circle-refusal.ensures, at-pattern.of-pattern.ensures) at c.lower.ensures)
-          ∙ least-next bits_refusal s pass.before.loop.i pass.before.loop.refusal pass.loop-test.true
+          ∙ least_next bits_refusal s pass.before.loop.i pass.before.loop.refusal pass.loop-test.true
           ∙ pass.before.loop.invariant.1,
     )
 
 returns : tie.Need-returns invariant-loop decreases-loop
 returns c =
-    least-done bits_refusal c.before.before.before.args.headings.now c.before.loop.i c.before.loop.refusal (omega (arith, c.loop-test.false))
+    least_done bits_refusal c.before.before.before.args.headings.now c.before.loop.i c.before.loop.refusal (omega (arith, c.loop-test.false))
     ∙ c.before.loop.invariant.1
 
 pub least-refusal-spec : {M : Type 1} → statement M

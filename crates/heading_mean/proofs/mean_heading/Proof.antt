@@ -4,7 +4,7 @@ use borrow.Author.Rules.{rules}
 use Rattle.double.specs.laws.Calls.{asks_nothing}
 use Rattle.quantity.specs.laws.Answer.{refuses, goes_on}
 use Rattle.heading_mean.specs.rules.Mean.{mean_heading_rule}
-use Rattle.heading_mean.specs.laws.Accepted.{headings_accepted, with-reference, without-reference}
+use Rattle.heading_mean.specs.laws.Accepted.{headings_accepted, with_reference, without_reference}
 use Rattle.heading_mean.proofs.mean_heading.Statement.{statement}
 use Rattle.heading_mean.proofs.mean_heading.Tie as tie
 
@@ -25,7 +25,7 @@ returns-2 c =
     let at_place = there.before in
     let accepted = at_place.before in
     goes_on accepted.before.headings-refusal.ensures accepted.if1.false
-    (rw at-pattern.of-pattern.ensures at c.mean-from.ensures ∙ with-reference _ _ at_place.reference-place.ensures there.if2.true)
+    (rw at-pattern.of-pattern.ensures at c.mean-from.ensures ∙ with_reference _ _ at_place.reference-place.ensures there.if2.true)
 
 returns-3 : tie.Need-returns-3
 unfolding mean_heading_rule
@@ -33,7 +33,7 @@ returns-3 c =
     let at_place = c.before in
     let accepted = at_place.before in
     goes_on accepted.before.headings-refusal.ensures accepted.if1.false
-    (without-reference _ _ at_place.reference-place.ensures c.if2.false)
+    (without_reference _ _ at_place.reference-place.ensures c.if2.false)
 
 pub mean-heading-spec : {M : Type 1} → statement M
 mean-heading-spec =

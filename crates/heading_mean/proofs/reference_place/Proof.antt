@@ -6,7 +6,7 @@ use lib.ListN.{length, drop}
 use borrow.Author.Rules.{rules}
 use Rattle.double.specs.laws.Calls.{asks_nothing}
 use Rattle.heading_mean.specs.rules.Reference.{first_reference, reference_place}
-use Rattle.heading_mean.specs.laws.Reference.{reference-here, reference-next, reference-none}
+use Rattle.heading_mean.specs.laws.Reference.{reference_here, reference_next, reference_none}
 use Rattle.heading_mean.proofs.reference_place.Statement.{statement}
 use Rattle.heading_mean.proofs.reference_place.Tie as tie
 
@@ -22,7 +22,7 @@ returns c =
     let pass = at_test.before.before in
     let s = pass.before.before.before.args.headings.now in
     let i = pass.before.loop.i in
-    omega (arith, reference-here s s i pass.loop-test.true (sym at_test.is-reference.ensures ∙ c.if1.true), pass.before.loop.invariant.1)
+    omega (arith, reference_here s s i pass.loop-test.true (sym at_test.is-reference.ensures ∙ c.if1.true), pass.before.loop.invariant.1)
 
 loop-again : tie.Need-loop-preserved invariant-loop decreases-loop
 loop-again c =
@@ -31,13 +31,13 @@ loop-again c =
     let s = pass.before.before.before.args.headings.now in
     let i = pass.before.loop.i in (
       omega (arith, pass.loop-test.true),
-      reference-next s s i pass.loop-test.true (sym at_test.is-reference.ensures ∙ c.if1.false) ∙ pass.before.loop.invariant.1,
+      reference_next s s i pass.loop-test.true (sym at_test.is-reference.ensures ∙ c.if1.false) ∙ pass.before.loop.invariant.1,
     )
 
 returns-2 : tie.Need-returns-2 invariant-loop decreases-loop
 returns-2 c =
     let s = c.before.before.before.args.headings.now in
-    omega (arith, reference-none s s c.before.loop.i (omega (arith, c.loop-test.false)), c.before.loop.invariant.1)
+    omega (arith, reference_none s s c.before.loop.i (omega (arith, c.loop-test.false)), c.before.loop.invariant.1)
 
 pub reference-place-spec : {M : Type 1} → statement M
 reference-place-spec =

@@ -9,7 +9,7 @@ use Rattle.lent.specs.rules.Rows.{upto}
 use Rattle.residual_sheet.specs.rules.Running.{running_of, AtMost}
 use Rattle.residual_sheet.specs.laws.Running.{entry_more}
 use Rattle.heading_mean.specs.rules.Mean.{entry_from}
-use Rattle.heading_mean.specs.laws.Grown.{first-at-most}
+use Rattle.heading_mean.specs.laws.Grown.{first_at_most}
 use Rattle.heading_mean.proofs.running_from.Statement.{statement}
 use Rattle.heading_mean.proofs.running_from.Tie as tie
 
@@ -42,7 +42,7 @@ onward-requires c κs =
     let i = pass.before.loop.i in
     let start = pass.before.before.before in
     subst (AtMost i) (sym pass.before.loop.invariant.1)
-    (first-at-most start.args.reference start.args.headings.now i (omega (arith, pass.loop-test.true, start.requires)))
+    (first_at_most start.args.reference start.args.headings.now i (omega (arith, pass.loop-test.true, start.requires)))
 
 returns : tie.Need-returns invariant-loop decreases-loop
 returns c =

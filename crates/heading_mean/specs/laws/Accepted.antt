@@ -13,7 +13,7 @@ use Rattle.helpers.specs.rules.Circle.{circle_refusal}
 use Rattle.list.specs.rules.Stars.{most_stars}
 use Rattle.residual_sheet.specs.notions.Place.{Some, none, some}
 use Rattle.residual_sheet.specs.laws.Parts.{some_or_none, is_none, is_some}
-use Rattle.residual_sheet.specs.laws.Residuals.{least-accepted}
+use Rattle.residual_sheet.specs.laws.Residuals.{least_accepted}
 use Rattle.heading_mean.specs.declared.Mean.{Mean}
 use Rattle.heading_mean.specs.declared.Mean.TheVariants.{Is, Refused}
 use Rattle.heading_mean.specs.rules.Reference.{heading_of, reference_place}
@@ -54,21 +54,21 @@ headings_accepted headings e = by_number (some_or_none (number_refusal (length h
 -- ---- each of them
 
 pub each_accepted : (headings : List ℕ) → Accepted headings → (i : ℕ) → i < length headings → circle_refusal (heading_of (get_or headings i 0)) ≡ 0
-each_accepted headings a i h = least-accepted bits_refusal headings i h a.each
+each_accepted headings a i h = least_accepted bits_refusal headings i h a.each
 
 -- ---- the two ends of the work
 
 module _ (headings : List ℕ) where
-  pub with-reference : (i : ℕ) → i ≡ reference_place headings → i < length headings
+  pub with_reference : (i : ℕ) → i ≡ reference_place headings → i < length headings
       → answered (mean_from (heading_of (get_or headings i 0)) headings) ≡ mean_in headings
   unfolding mean_in
-  with-reference i e h =
+  with_reference i e h =
       ap (λ (k : ℕ). answered (mean_from (heading_of (get_or headings k 0)) headings)) e
       ∙ rw (lt-ltb (reference_place headings) (length headings) (omega arith))
 
-  pub without-reference : (i : ℕ) → i ≡ reference_place headings → length headings ≤ i → refused 20 ≡ mean_in headings
+  pub without_reference : (i : ℕ) → i ≡ reference_place headings → length headings ≤ i → refused 20 ≡ mean_in headings
   unfolding mean_in
-  without-reference i e h = rw (le-ltb (reference_place headings) (length headings) (omega arith))
+  without_reference i e h = rw (le-ltb (reference_place headings) (length headings) (omega arith))
 
 -- ---- a contract `shown_mean r ≡ rule` holds of one r only
 

@@ -17,7 +17,7 @@ use Rattle.heading_mean.specs.rules.Mean.{headings_refusal, entry_from, entries_
 use Rattle.heading_mean.specs.notions.Accepted.{Accepted}
 use Rattle.heading_mean.specs.notions.Near.{InTurn, reference_of, Answered, IsOffset}
 use Rattle.heading_mean.specs.laws.Accepted.{headings_accepted, each_accepted}
-use Rattle.heading_mean.specs.laws.Means.{offset-within, sum-finite, mean_in_turn}
+use Rattle.heading_mean.specs.laws.Means.{offset_within, sum_finite, mean_in_turn}
 
 -- ---- those that agree are those taken in
 
@@ -86,11 +86,11 @@ answered_from headings m e = by-refusal (eqb (headings_refusal headings) 0) refl
     by-refusal false f e = absurd (refused_is_none e)
 
 module _ {headings : List ℕ} {m : MeanAndSheet} (a : Answered headings m) where
-  pub reference-accepted : circle_refusal (reference_of headings) ≡ 0
-  reference-accepted = each_accepted headings a.accepted (reference_place headings) a.there
+  pub reference_accepted : circle_refusal (reference_of headings) ≡ 0
+  reference_accepted = each_accepted headings a.accepted (reference_place headings) a.there
 
-  pub some-taken : 0 < (figures_from (reference_of headings) headings).count
-  some-taken =
+  pub some_taken : 0 < (figures_from (reference_of headings) headings).count
+  some_taken =
       omega (
         arith,
         a.accepted.some,
@@ -106,7 +106,7 @@ mean_heading_in_turn headings x s e =
     let r = reference_of headings in
     let f = figures_from r headings in
     subst InTurn (sym (ap heading a.is))
-    (mean_in_turn r f.sum f.count (sum-finite r headings a.accepted.few (some-taken a) (reference-accepted a)))
+    (mean_in_turn r f.sum f.count (sum_finite r headings a.accepted.few (some_taken a) (reference_accepted a)))
   where
     heading : MeanAndSheet → Deg
     heading (mean y t) = y
@@ -120,7 +120,7 @@ mean_heading_offset headings x s e =
     let f = figures_from r headings in
     record {
       offset = mean_residual f.sum f.count ⊘ milliarcseconds_of_degree;
-      within = offset-within r headings a.accepted.few (some-taken a);
+      within = offset_within r headings a.accepted.few (some_taken a);
       is = ap heading a.is;
     }
   where

@@ -15,7 +15,7 @@ use Rattle.double.specs.laws.Numbers.{less_or_not}
 use Rattle.double.specs.laws.Rounding.{round_neg}
 use Rattle.double.specs.laws.Order.{le→below}
 use Rattle.double.specs.laws.Fraction.{add_rounds, sub_rounds}
-use Rattle.double.specs.laws.Grid.{grid-under, grid-over, under-grid, over-grid}
+use Rattle.double.specs.laws.Grid.{grid_under, grid_over, under_grid, over_grid}
 use Rattle.double.specs.laws.Count.{count_exact}
 use Rattle.helpers.specs.rules.Angle.{turn_in_degrees}
 use Rattle.heading_mean.specs.notions.Arc.{unit, over, under, Counted, Near, Around}
@@ -114,8 +114,8 @@ near_above z p n P N c r low high =
     let whole : k * unit + rest ≡ v * 2097152 = div-add-mod' (v * 2097152) unit in
     let part : rest < unit = mod-lt (v * 2097152) unit_pos in
     let small : k ≤ 2147483648 = few k rest v (omega arith) whole in
-    let a = under-grid binary64 20 k z (omega arith) (lit≤ tt) c.finite (grid-under binary64 20 k z P N unit unit_pos r (omega arith)) in
-    let b = over-grid binary64 20 (k + 1) z (omega arith) (lit≤ tt) c.finite (grid-over binary64 20 (k + 1) z P N unit unit_pos r (omega arith)) in
+    let a = under_grid binary64 20 k z (omega arith) (lit≤ tt) c.finite (grid_under binary64 20 k z P N unit unit_pos r (omega arith)) in
+    let b = over_grid binary64 20 (k + 1) z (omega arith) (lit≤ tt) c.finite (grid_over binary64 20 (k + 1) z P N unit unit_pos r (omega arith)) in
     let x = cancelled k p n (plus_part z) (minus_part z) (den z) unit (den_pos z) c.plus c.minus (omega (arith, a)) in
     let y = cancelled_back (k + 1) p n (plus_part z) (minus_part z) (den z) unit (den_pos z) c.plus c.minus (omega (arith, b)) in
     record { from = omega arith; to = omega arith }
@@ -148,8 +148,8 @@ module _ {x y : Float} {px nx py ny : ℕ} (a : Counted x px nx) (b : Counted y 
       (add_rounds binary64 x y a.finite b.finite))
       h k
 
-  pub difference-near : (p n : ℕ) → Counted (x ⊖ y) p n → px + ny ≤ nx + py + 1024 * unit → nx + py ≤ px + ny + 1024 * unit → Near p n (px + ny) (nx + py)
-  difference-near p n c h k =
+  pub difference_near : (p n : ℕ) → Counted (x ⊖ y) p n → px + ny ≤ nx + py + 1024 * unit → nx + py ≤ px + ny + 1024 * unit → Near p n (px + ny) (nx + py)
+  difference_near p n c h k =
       near (x ⊖ y) p n (px + ny) (nx + py) c
       (same_value binary64 (x ⊖ y) (plus_part x * den y + minus_part y * den x) (minus_part x * den y + plus_part y * den x) (den x * den y) (px + ny) (nx + py) unit
       (mul-pos (den_pos x) (den_pos y)) unit_pos

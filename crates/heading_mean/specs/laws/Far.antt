@@ -32,7 +32,7 @@ use Rattle.units.specs.rules.Nearest.{nearest_whole}
 use Rattle.remainder.specs.laws.Remainder.{remainder_is_only}
 use Rattle.helpers.specs.rules.Angle.{turn_in_degrees, within360, remainder, limited}
 use Rattle.helpers.specs.rules.Circle.{half_turn, circle_refusal}
-use Rattle.helpers.specs.laws.Circle.{circle-from-zero, circle-below-turn}
+use Rattle.helpers.specs.laws.Circle.{circle_from_zero, circle_below_turn}
 use Rattle.helpers.specs.laws.Limit.{limited_degrees}
 use Rattle.residual_sheet.specs.rules.Residual.{rounded, is_aside, farthest_taken}
 use Rattle.heading_mean.specs.rules.Residual.{taken_back, across, residual_from}
@@ -58,16 +58,16 @@ module _ (reference heading : Deg) (R : circle_refusal reference ≡ 0) (H : cir
 
   within : (x : Deg) → circle_refusal x ≡ 0 → Between zero turn_in_degrees x.0
   unfolding is_finite of_bits
-  within x e = between tt tt (circle-from-zero x e) (le_of_lt x.0 turn_in_degrees (circle-below-turn x e))
+  within x e = between tt tt (circle_from_zero x e) (le_of_lt x.0 turn_in_degrees (circle_below_turn x e))
 
   -- `limit_to_360` refuses no difference
-  pub difference-within : Between (neg turn_in_degrees) turn_in_degrees difference
+  pub difference_within : Between (neg turn_in_degrees) turn_in_degrees difference
   unfolding is_finite le neg sub of_bits
-  difference-within = bounded binary64 (neg turn_in_degrees) turn_in_degrees (known (within heading H) ⊟ known (within reference R)) tt
+  difference_within = bounded binary64 (neg turn_in_degrees) turn_in_degrees (known (within heading H) ⊟ known (within reference R)) tt
 
-  pub across-within : Between minus_half_turn half_turn (across reference heading).0
+  pub across_within : Between minus_half_turn half_turn (across reference heading).0
   unfolding across
-  across-within = taken_back_within (within360 (deg difference)) (limited_degrees difference difference-within.finite)
+  across_within = taken_back_within (within360 (deg difference)) (limited_degrees difference difference_within.finite)
 
 -- ---- what is far is set aside
 
@@ -102,7 +102,7 @@ pub far_is_aside : (reference heading : Deg) → circle_refusal reference ≡ 0 
 unfolding residual_from rounded
 far_is_aside reference heading R H f =
     let a = across reference heading in
-    lt-ltb farthest_taken (nearest_whole (size (milliarcseconds a))) (omega (arith, far_large a.0 (across-within reference heading R H) f))
+    lt-ltb farthest_taken (nearest_whole (size (milliarcseconds a))) (omega (arith, far_large a.0 (across_within reference heading R H) f))
 
 -- ---- what is half a turn off is far
 
@@ -138,9 +138,9 @@ back_far x i =
 
 module _ (d : Float) (F : T (fits binary64 d)) where
   -- it is its own remainder
-  few-counts : Finite d → size d ≼ over_half → count d < count turn_in_degrees
+  few_counts : Finite d → size d ≼ over_half → count d < count turn_in_degrees
   unfolding is_finite fits size of_bits
-  few-counts p h =
+  few_counts p h =
       let k : count over_half < count turn_in_degrees = unfold count in ltb→lt (count over_half) (count turn_in_degrees) tt in
       lt_of_le_of_lt (count_order d over_half F tt p tt h) k
 
@@ -148,16 +148,16 @@ module _ (d : Float) (F : T (fits binary64 d)) where
   unfolding limited
   folded h p = ap (λ (r : Float). cond (lt r zero) (r ⊕ turn_in_degrees) r) (own_remainder d F p h)
 
-  half-folded : Between under_half over_half d ⊎ Between (neg over_half) (neg under_half) d → Between under_half over_half (limited d turn_in_degrees)
+  half_folded : Between under_half over_half d ⊎ Between (neg over_half) (neg under_half) d → Between under_half over_half (limited d turn_in_degrees)
   unfolding is_finite le neg add of_bits
-  half-folded (inl i) =
+  half_folded (inl i) =
       let s : size d ≼ over_half = between→size over_half d (between_wider {a = neg over_half} {b = under_half} {c = over_half} {d = over_half} {z = d} tt tt tt tt i) in
-      subst (Between under_half over_half) (folded (few-counts i.finite s) i.finite)
+      subst (Between under_half over_half) (folded (few_counts i.finite s) i.finite)
       (by_test (Between under_half over_half) (lt d zero) (d ⊕ turn_in_degrees) d
       (λ t. absurd (≼_trans under_half d zero i.from (le_of_lt d zero t))) (λ t. i))
-  half-folded (inr i) =
+  half_folded (inr i) =
       let s : size d ≼ over_half = between→size over_half d (between_wider {a = neg over_half} {b = neg over_half} {c = neg under_half} {d = over_half} {z = d} tt tt tt tt i) in
-      subst (Between under_half over_half) (folded (few-counts i.finite s) i.finite)
+      subst (Between under_half over_half) (folded (few_counts i.finite s) i.finite)
       (by_test (Between under_half over_half) (lt d zero) (d ⊕ turn_in_degrees) d
       (λ t. bounded binary64 under_half over_half (known i ⊞ con turn_in_degrees) tt)
       (λ t. absurd (≼_trans zero d (neg under_half) (le_of_not_lt d zero i.finite tt t) i.to)))
@@ -166,7 +166,7 @@ pub half_a_turn_is_far : (reference heading : Deg) → HalfATurnOff reference he
 unfolding across
 half_a_turn_is_far reference heading o =
     let d = heading.0 ⊖ reference.0 in
-    back_far (within360 (deg d)) (half-folded d (sub-fits binary64 heading.0 reference.0) o)
+    back_far (within360 (deg d)) (half_folded d (sub-fits binary64 heading.0 reference.0) o)
 
 -- of a difference the other way: it is the same with the other sign
 turned : (x y : Float) → Finite x → Finite y → (a b : Float) → Between a b (x ⊖ y) → Between (neg b) (neg a) (y ⊖ x)

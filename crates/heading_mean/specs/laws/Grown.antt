@@ -15,12 +15,12 @@ use Rattle.heading_mean.specs.rules.Reference.{heading_of}
 use Rattle.heading_mean.specs.rules.Mean.{entry_from, entries_from, mean_of, mean, mean_from}
 
 module _ (reference : Deg) (headings : List ℕ) where
-  pub first-at-most : (n : ℕ) → n ≤ most_stars → AtMost n (running_of (upto n (entry_from reference headings)))
+  pub first_at_most : (n : ℕ) → n ≤ most_stars → AtMost n (running_of (upto n (entry_from reference headings)))
   unfolding entry_from
-  first-at-most n h = entries_at_most n (λ (i : ℕ). 0) (λ (i : ℕ). residual_from reference (heading_of (get_or headings i 0))) h
+  first_at_most n h = entries_at_most n (λ (i : ℕ). 0) (λ (i : ℕ). residual_from reference (heading_of (get_or headings i 0))) h
 
-  pub all-at-most : length headings ≤ most_stars → AtMost most_stars (running_of (entries_from reference headings))
-  all-at-most h = few_at_most (length headings) _ (first-at-most (length headings) h)
+  pub all_at_most : length headings ≤ most_stars → AtMost most_stars (running_of (entries_from reference headings))
+  all_at_most h = few_at_most (length headings) _ (first_at_most (length headings) h)
 
   whole :
       (let r = running_of (entries_from reference headings) in mean (mean_of reference (pos r.above -ℤ pos r.below) r.count) (sheet_from r))
@@ -33,9 +33,9 @@ module _ (reference : Deg) (headings : List ℕ) where
       sums ∙ ap (mean (mean_of reference (figures_of es).sum c)) (grown_is_sheet es)
 
   -- by what each call gives
-  pub grown-is-mean : (r : Running) (x : Deg) (s : Sheet) → r ≡ running_of (entries_from reference headings)
+  pub grown_is_mean : (r : Running) (x : Deg) (s : Sheet) → r ≡ running_of (entries_from reference headings)
       → x ≡ mean_of reference (pos r.above -ℤ pos r.below) r.count → s ≡ sheet_from r → mean x s ≡ mean_from reference headings
-  grown-is-mean r x s e f g =
+  grown_is_mean r x s e f g =
       ap (λ (y : Deg). mean y s) f
       ∙ ap (mean (mean_of reference (pos r.above -ℤ pos r.below) r.count)) g
       ∙ ap (λ (q : Running). mean (mean_of reference (pos q.above -ℤ pos q.below) q.count) (sheet_from q)) e

@@ -22,10 +22,10 @@ use Rattle.quantity.specs.rules.Answer.{answered}
 use Rattle.units.specs.rules.Degrees.{milliarcseconds_of_degree}
 use Rattle.helpers.specs.rules.Angle.{turn_in_degrees, limited, remainder}
 use Rattle.helpers.specs.rules.Circle.{below_turn, on_circle, circle_refusal}
-use Rattle.helpers.specs.laws.Circle.{circle-finite, circle-from-zero, circle-below-turn}
+use Rattle.helpers.specs.laws.Circle.{circle_finite, circle_from_zero, circle_below_turn}
 use Rattle.helpers.specs.laws.Limit.{limited_degrees}
 use Rattle.remainder.specs.rules.Remainder.{IsRemainder}
-use Rattle.remainder.specs.laws.Exact.{remainder-is-exact}
+use Rattle.remainder.specs.laws.Exact.{remainder_is_exact}
 use Rattle.residual_sheet.specs.declared.Sheet.{Sheet}
 use Rattle.residual_sheet.specs.rules.Residual.{is_aside}
 use Rattle.heading_mean.specs.rules.Residual.{residual_from}
@@ -36,13 +36,13 @@ use Rattle.heading_mean.specs.notions.Near.{farthest_offset, reference_of, Answe
 use Rattle.heading_mean.specs.notions.Order.{Reordered, Shared}
 use Rattle.heading_mean.specs.notions.Arc.{unit, over, under, Within, Counted, Near}
 use Rattle.heading_mean.specs.laws.Accepted.{each_accepted}
-use Rattle.heading_mean.specs.laws.Means.{offset-within, sum-finite}
-use Rattle.heading_mean.specs.laws.Answered.{agreeing_counted, more_than_half_agree, answered_from, reference-accepted}
-use Rattle.heading_mean.specs.laws.Order.{references_share_a_sight, reordered_references, reordered-mean}
+use Rattle.heading_mean.specs.laws.Means.{offset_within, sum_finite}
+use Rattle.heading_mean.specs.laws.Answered.{agreeing_counted, more_than_half_agree, answered_from, reference_accepted}
+use Rattle.heading_mean.specs.laws.Order.{references_share_a_sight, reordered_references, reordered_mean}
 use Rattle.heading_mean.specs.laws.Far.{folded}
 use Rattle.heading_mean.specs.laws.Arc.{unit_pos, counted, counts_order, sum_near, turn_counted, zero_counted, turn_count}
 use Rattle.heading_mean.specs.laws.Arc.{none_under, heading_counted, around_longer, around_turned, around_added}
-use Rattle.heading_mean.specs.laws.Legs.{offset_counts, sight-near}
+use Rattle.heading_mean.specs.laws.Legs.{offset_counts, sight_near}
 
 -- ---- a whole turn is 0
 
@@ -82,12 +82,12 @@ rest_once (suc zero) m a t e h k l = omega arith
 rest_once (suc (suc q)) m a t e h k l = absurd (omega arith)
 
 module _ (s : Float) (F : T (fits binary64 s)) (p : Finite s) where
-  turn-some : 0 < count turn_in_degrees
-  turn-some = omega (arith, turn_count, unit_pos)
+  turn_some : 0 < count turn_in_degrees
+  turn_some = omega (arith, turn_count, unit_pos)
 
   exact : IsRemainder s turn_in_degrees (remainder s turn_in_degrees)
   unfolding is_finite fits of_bits
-  exact = remainder-is-exact s turn_in_degrees F tt (is_true (is_finite s) p) refl turn-some
+  exact = remainder_is_exact s turn_in_degrees F tt (is_true (is_finite s) p) refl turn_some
 
   -- from one turn up to two
   once : bears_minus s ≡ false → count turn_in_degrees ≤ count s → count s < 2 * count turn_in_degrees
@@ -101,7 +101,7 @@ module _ (s : Float) (F : T (fits binary64 s)) (p : Finite s) where
       rest : count r ≡ count s - count turn_in_degrees
       rest =
           exact.rest
-          ∙ rest_once _ (count s % count turn_in_degrees) (count s) (count turn_in_degrees) (div-add-mod' (count s) (count turn_in_degrees)) (mod-lt (count s) turn-some) h k
+          ∙ rest_once _ (count s % count turn_in_degrees) (count s) (count turn_in_degrees) (div-add-mod' (count s) (count turn_in_degrees)) (mod-lt (count s) turn_some) h k
 
       by_flag : (t : Bool) → lt r operations.zero ≡ t → count (cond t (r ⊕ turn_in_degrees) r) ≡ count s - count turn_in_degrees
       by_flag true e = absurd (no_minus (holds e))
@@ -118,8 +118,8 @@ Most x = count x.0 ≤ 360 * unit
 
 heading_most : (x : Deg) → circle_refusal x ≡ 0 → T (fits binary64 x.0) → Most x
 heading_most x e F =
-    let c = heading_counted x.0 F (circle-finite x e) (circle-from-zero x e) in
-    omega (arith, counts_order c turn_counted (le_of_lt x.0 turn_in_degrees (circle-below-turn x e)))
+    let c = heading_counted x.0 F (circle_finite x e) (circle_from_zero x e) in
+    omega (arith, counts_order c turn_counted (le_of_lt x.0 turn_in_degrees (circle_below_turn x e)))
 
 module _ (reference : Deg) (R : circle_refusal reference ≡ 0) (fr : T (fits binary64 reference.0)) (o : Float) (fo : T (fits binary64 o))
     (i : Between (neg farthest_offset) farthest_offset o) (fin : Finite (reference.0 ⊕ o)) where
@@ -136,10 +136,10 @@ module _ (reference : Deg) (R : circle_refusal reference ≡ 0) (fr : T (fits bi
   fs = add-fits binary64 reference.0 o
 
   cr : Counted reference.0 r 0
-  cr = heading_counted reference.0 fr (circle-finite reference R) (circle-from-zero reference R)
+  cr = heading_counted reference.0 fr (circle_finite reference R) (circle_from_zero reference R)
 
-  r-most : r ≤ 360 * unit
-  r-most = heading_most reference R fr
+  r_most : r ≤ 360 * unit
+  r_most = heading_most reference R fr
 
   offset : (2097152 * over o ≤ 582590 * unit + 2097152 * under o) × (2097152 * under o ≤ 582590 * unit + 2097152 * over o)
   offset = offset_counts o fo i
@@ -147,12 +147,12 @@ module _ (reference : Deg) (R : circle_refusal reference ≡ 0) (fr : T (fits bi
   cs : Counted s (over s) (under s)
   cs = counted s fs fin
 
-  s-near : Near (over s) (under s) (r + over o) (0 + under o)
-  s-near =
-      sum_near cr (counted o fo i.finite) (over s) (under s) cs (omega (arith, r-most, offset.0)) (omega (arith, offset.1))
+  s_near : Near (over s) (under s) (r + over o) (0 + under o)
+  s_near =
+      sum_near cr (counted o fo i.finite) (over s) (under s) cs (omega (arith, r_most, offset.0)) (omega (arith, offset.1))
 
-  f-within : Between operations.zero turn_in_degrees f
-  f-within = limited_degrees s fin
+  f_within : Between operations.zero turn_in_degrees f
+  f_within = limited_degrees s fin
 
   ff : T (fits binary64 f)
   unfolding limited
@@ -161,15 +161,15 @@ module _ (reference : Deg) (R : circle_refusal reference ≡ 0) (fr : T (fits bi
       (remainder s turn_in_degrees) (λ t. add-fits binary64 (remainder s turn_in_degrees) turn_in_degrees) (λ t. rem-fits binary64 s turn_in_degrees fs)
 
   cf : Counted f (count f) 0
-  cf = heading_counted f ff f-within.finite f-within.from
+  cf = heading_counted f ff f_within.finite f_within.from
 
-  f-most : count f ≤ 360 * unit
-  f-most = omega (arith, counts_order cf turn_counted f-within.to)
+  f_most : count f ≤ 360 * unit
+  f_most = omega (arith, counts_order cf turn_counted f_within.to)
 
   -- where the sum lies, and its fold
   pub data Fold : Type 0 where
     in_turn_lem : over s + 0 ≡ count f + under s → Fold
-    past-turn : over s + 0 ≡ count f + under s + 360 * unit → Fold
+    past_turn : over s + 0 ≡ count f + under s + 360 * unit → Fold
     before : Near (count f) 0 (over s + 360 * unit) (under s + 0) → Fold
 
   fold : Fold
@@ -178,43 +178,43 @@ module _ (reference : Deg) (R : circle_refusal reference ≡ 0) (fr : T (fits bi
       small : (t : Bool) → lt s operations.zero ≡ t → cond t (s ⊕ turn_in_degrees) s ≡ f → Fold
       small true e g =
           before
-          (sum_near cs turn_counted (count f) 0 (subst (λ (z : Float). Counted z (count f) 0) (sym g) cf) (omega (arith, s-near.to, r-most, offset.0))
-          (omega (arith, s-near.from, offset.1)))
+          (sum_near cs turn_counted (count f) 0 (subst (λ (z : Float). Counted z (count f) 0) (sym g) cf) (omega (arith, s_near.to, r_most, offset.0))
+          (omega (arith, s_near.from, offset.1)))
       small false e g =
           let n = none_under s fs fin (le_of_not_lt s operations.zero fin zero_counted.finite (fails e)) in
           in_turn_lem (omega (arith, n.0, n.1, ap count g))
 
       by_count : (count s < count turn_in_degrees) ⊎ (count turn_in_degrees ≤ count s) → Fold
       by_count (inl k) = small (lt s operations.zero) refl (folded s fs k fin)
-      by_count (inr k) = by_sign (bears_minus s) refl s-near.from s-near.to
+      by_count (inr k) = by_sign (bears_minus s) refl s_near.from s_near.to
         where
           by_sign : (b : Bool) → bears_minus s ≡ b → 2097152 * (r + over o + cond b (count s) 0) ≤ 2097152 * (cond b 0 (count s) + (0 + under o)) + unit
               → 2097152 * (cond b 0 (count s) + (0 + under o)) ≤ 2097152 * (r + over o + cond b (count s) 0) + unit → Fold
           by_sign true e f t = absurd (omega (arith, k, turn_count, unit_pos, f, offset.1))
           by_sign false e g t =
-              let c = once s fs fin e k (omega (arith, t, turn_count, r-most, offset.0, unit_pos)) in
-              past-turn (rw e (omega (arith, c, k, turn_count)))
+              let c = once s fs fin e k (omega (arith, t, turn_count, r_most, offset.0, unit_pos)) in
+              past_turn (rw e (omega (arith, c, k, turn_count)))
 
   -- within 1000.1 seconds of the reference, on either side of north
-  pub folded-near : Within 1000100 reference (below_turn (deg f))
-  folded-near = by_turn (turned f ff f-within) fold
+  pub folded_near : Within 1000100 reference (below_turn (deg f))
+  folded_near = by_turn (turned f ff f_within) fold
     where
       m : ℕ
       m = count (below_turn (deg f)).0
 
       by_turn : (m ≡ count f) ⊎ ((m ≡ 0) × (360 * unit ≤ count f)) → Fold → Within 1000100 reference (below_turn (deg f))
-      by_turn (inl e) (in_turn_lem k) = inl (omega (arith, e, k, s-near.from, s-near.to, offset.0, offset.1), omega (arith, e, k, s-near.from, s-near.to, offset.0, offset.1))
-      by_turn (inl e) (past-turn k) = inr (inr (omega (arith, e, k, s-near.to, offset.0)))
-      by_turn (inl e) (before n) = inr (inl (omega (arith, e, n.from, s-near.from, offset.1)))
-      by_turn (inr e) (in_turn_lem k) = inr (inr (omega (arith, e.0, e.1, k, s-near.to, offset.0)))
-      by_turn (inr e) (past-turn k) = absurd (omega (arith, e.1, k, s-near.to, offset.0, r-most, unit_pos))
-      by_turn (inr e) (before n) = inl (omega (arith, e.0, n.to, n.from, f-most, s-near.from, offset.1), omega (arith, e.0))
+      by_turn (inl e) (in_turn_lem k) = inl (omega (arith, e, k, s_near.from, s_near.to, offset.0, offset.1), omega (arith, e, k, s_near.from, s_near.to, offset.0, offset.1))
+      by_turn (inl e) (past_turn k) = inr (inr (omega (arith, e, k, s_near.to, offset.0)))
+      by_turn (inl e) (before n) = inr (inl (omega (arith, e, n.from, s_near.from, offset.1)))
+      by_turn (inr e) (in_turn_lem k) = inr (inr (omega (arith, e.0, e.1, k, s_near.to, offset.0)))
+      by_turn (inr e) (past_turn k) = absurd (omega (arith, e.1, k, s_near.to, offset.0, r_most, unit_pos))
+      by_turn (inr e) (before n) = inl (omega (arith, e.0, n.to, n.from, f_most, s_near.from, offset.1), omega (arith, e.0))
 
-  pub folded-most : count (below_turn (deg f)).0 ≤ 360 * unit
-  folded-most = by_turn (turned f ff f-within)
+  pub folded_most : count (below_turn (deg f)).0 ≤ 360 * unit
+  folded_most = by_turn (turned f ff f_within)
     where
       by_turn : (count (below_turn (deg f)).0 ≡ count f) ⊎ ((count (below_turn (deg f)).0 ≡ 0) × (360 * unit ≤ count f)) → count (below_turn (deg f)).0 ≤ 360 * unit
-      by_turn (inl e) = omega (arith, e, f-most)
+      by_turn (inl e) = omega (arith, e, f_most)
       by_turn (inr e) = omega (arith, e.0)
 
 -- ---- the mean of a set, from a reference of it
@@ -237,8 +237,8 @@ vote_agrees reference b e = by_flag (is_aside (residual_from reference (heading_
     by_flag false e = refl
 
 module _ (headings : List ℕ) (a : Accepted headings) where
-  abbrev meanBy : ℕ → Deg
-  meanBy b =
+  abbrev mean_by : ℕ → Deg
+  mean_by b =
       let f = figures_from (heading_of b) headings in
       mean_of (heading_of b) f.sum f.count
 
@@ -246,35 +246,35 @@ module _ (headings : List ℕ) (a : Accepted headings) where
     some : 0 < (figures_from (heading_of b) headings).count
     some = omega (arith, agreeing_counted (heading_of b) headings, more_than_half_agree headings b is)
 
-    reference-fits : T (fits binary64 (heading_of b).0)
-    reference-fits = of_bits-fits binary64 b
+    reference_fits : T (fits binary64 (heading_of b).0)
+    reference_fits = of_bits-fits binary64 b
 
-    reference-most : Most (heading_of b)
-    reference-most = heading_most (heading_of b) B reference-fits
+    reference_most : Most (heading_of b)
+    reference_most = heading_most (heading_of b) B reference_fits
 
     -- within 1000.1 seconds of the reference
-    pub mean-near : Within 1000100 (heading_of b) (meanBy b)
+    pub mean_near : Within 1000100 (heading_of b) (mean_by b)
     unfolding mean_of on_circle
-    mean-near =
-        folded-near (heading_of b) B reference-fits _ (div-fits binary64 _ milliarcseconds_of_degree)
-        (offset-within (heading_of b) headings a.few some) (sum-finite (heading_of b) headings a.few some B)
+    mean_near =
+        folded_near (heading_of b) B reference_fits _ (div-fits binary64 _ milliarcseconds_of_degree)
+        (offset_within (heading_of b) headings a.few some) (sum_finite (heading_of b) headings a.few some B)
 
-    mean-most : Most (meanBy b)
+    mean_most : Most (mean_by b)
     unfolding mean_of on_circle
-    mean-most =
-        folded-most (heading_of b) B reference-fits _ (div-fits binary64 _ milliarcseconds_of_degree)
-        (offset-within (heading_of b) headings a.few some) (sum-finite (heading_of b) headings a.few some B)
+    mean_most =
+        folded_most (heading_of b) B reference_fits _ (div-fits binary64 _ milliarcseconds_of_degree)
+        (offset_within (heading_of b) headings a.few some) (sum_finite (heading_of b) headings a.few some B)
 
   -- two references share a sight, so that their means lie within 4001 seconds of each other
-  pub means-near : (b c : ℕ) → circle_refusal (heading_of b) ≡ 0 → circle_refusal (heading_of c) ≡ 0 → is_reference headings b ≡ true
-      → is_reference headings c ≡ true → Within 4001000 (meanBy b) (meanBy c)
-  means-near b c B C p q =
+  pub means_near : (b c : ℕ) → circle_refusal (heading_of b) ≡ 0 → circle_refusal (heading_of c) ≡ 0 → is_reference headings b ≡ true
+      → is_reference headings c ≡ true → Within 4001000 (mean_by b) (mean_by c)
+  means_near b c B C p q =
       around_longer (1296000000 * unit) (4000400 * unit) (4001000 * unit) _ _ (omega arith)
-      (within_added 1000100 3000300 (meanBy b) (heading_of b) (meanBy c) mb rb mc (within_turned 1000100 (heading_of b) (meanBy b) (mean-near b B p))
-      (within_added 1000100 2000200 (heading_of b) h (meanBy c) rb hm mc (sight-near (heading_of b) h B H (reference-fits b B p) (of_bits-fits binary64 _) (vote_agrees (heading_of b) _ common.first))
-      (within_added 1000100 1000100 h (heading_of c) (meanBy c) hm rc mc
-      (within_turned 1000100 (heading_of c) h (sight-near (heading_of c) h C H (reference-fits c C q) (of_bits-fits binary64 _) (vote_agrees (heading_of c) _ common.second)))
-      (mean-near c C q))))
+      (within_added 1000100 3000300 (mean_by b) (heading_of b) (mean_by c) mb rb mc (within_turned 1000100 (heading_of b) (mean_by b) (mean_near b B p))
+      (within_added 1000100 2000200 (heading_of b) h (mean_by c) rb hm mc (sight_near (heading_of b) h B H (reference_fits b B p) (of_bits-fits binary64 _) (vote_agrees (heading_of b) _ common.first))
+      (within_added 1000100 1000100 h (heading_of c) (mean_by c) hm rc mc
+      (within_turned 1000100 (heading_of c) h (sight_near (heading_of c) h C H (reference_fits c C q) (of_bits-fits binary64 _) (vote_agrees (heading_of c) _ common.second)))
+      (mean_near c C q))))
     where
       common : Shared (heading_of b) (heading_of c) headings
       common = references_share_a_sight headings b c p q
@@ -286,24 +286,24 @@ module _ (headings : List ℕ) (a : Accepted headings) where
       H = each_accepted headings a common.place common.there
 
       rb : Most (heading_of b)
-      rb = reference-most b B p
+      rb = reference_most b B p
 
       rc : Most (heading_of c)
-      rc = reference-most c C q
+      rc = reference_most c C q
 
       hm : Most h
       hm = heading_most h H (of_bits-fits binary64 _)
 
-      mb : Most (meanBy b)
-      mb = mean-most b B p
+      mb : Most (mean_by b)
+      mb = mean_most b B p
 
-      mc : Most (meanBy c)
-      mc = mean-most c C q
+      mc : Most (mean_by c)
+      mc = mean_most c C q
 
 -- ---- every answer
 
 mean_is : {headings : List ℕ} {x : Deg} {f : Sheet} (a : Answered headings (mean x f))
-    → x ≡ meanBy headings a.accepted (get_or headings (reference_place headings) 0)
+    → x ≡ mean_by headings a.accepted (get_or headings (reference_place headings) 0)
 unfolding mean_from
 mean_is a = ap heading a.is
   where
@@ -315,7 +315,7 @@ pub mean_heading_near : (headings : List ℕ) (x : Deg) (f : Sheet) → mean_hea
 mean_heading_near headings x f e =
     let a = answered_from headings (mean x f) e in
     subst (λ (y : Deg). Within 1000100 (reference_of headings) y) (sym (mean_is a))
-    (mean-near headings a.accepted (get_or headings (reference_place headings) 0) (reference-accepted a) a.agreed)
+    (mean_near headings a.accepted (get_or headings (reference_place headings) 0) (reference_accepted a) a.agreed)
 
 -- in any order of the set it lies within 4001 seconds of what it was
 pub any_order_near : (s t : List ℕ) (x y : Deg) (f g : Sheet) → Reordered s t → mean_heading_rule s ≡ answered (mean x f)
@@ -326,6 +326,6 @@ any_order_near s t x y f g r p q =
     let c = get_or t (reference_place t) 0 in
     let there = reordered_references s t c r ∙ b.agreed in
     subst (λ (z : Deg). Within 4001000 z y) (sym (mean_is a))
-    (subst (λ (z : Deg). Within 4001000 (meanBy s a.accepted (get_or s (reference_place s) 0)) z)
-    (reordered-mean (heading_of c) s t r ∙ sym (mean_is b))
-    (means-near s a.accepted (get_or s (reference_place s) 0) c (reference-accepted a) (reference-accepted b) a.agreed there))
+    (subst (λ (z : Deg). Within 4001000 (mean_by s a.accepted (get_or s (reference_place s) 0)) z)
+    (reordered_mean (heading_of c) s t r ∙ sym (mean_is b))
+    (means_near s a.accepted (get_or s (reference_place s) 0) c (reference_accepted a) (reference_accepted b) a.agreed there))

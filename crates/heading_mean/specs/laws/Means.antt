@@ -17,7 +17,7 @@ use Rattle.quantity.specs.rules.Angle.{deg}
 use Rattle.units.specs.rules.Degrees.{milliarcseconds_of_degree}
 use Rattle.helpers.specs.rules.Angle.{turn_in_degrees, within360}
 use Rattle.helpers.specs.rules.Circle.{below_turn, on_circle, circle_refusal}
-use Rattle.helpers.specs.laws.Circle.{circle-from-zero, circle-below-turn}
+use Rattle.helpers.specs.laws.Circle.{circle_from_zero, circle_below_turn}
 use Rattle.helpers.specs.laws.Limit.{limited_degrees}
 use Rattle.list.specs.rules.Stars.{most_stars}
 use Rattle.residual_sheet.specs.declared.Residual.{Residual}
@@ -30,8 +30,8 @@ use Rattle.heading_mean.specs.rules.Residual.{residual_from}
 use Rattle.heading_mean.specs.rules.Reference.{heading_of}
 use Rattle.heading_mean.specs.rules.Mean.{entry_from, entries_from, figures_from, mean_residual, mean_of}
 use Rattle.heading_mean.specs.notions.Near.{AllFrom, AllTo, westmost, eastmost, farthest_offset, InTurn}
-use Rattle.heading_mean.specs.laws.Grown.{all-at-most}
-use Rattle.heading_mean.specs.laws.Quotient.{quotient-from, quotient-to}
+use Rattle.heading_mean.specs.laws.Grown.{all_at_most}
+use Rattle.heading_mean.specs.laws.Quotient.{quotient_from, quotient_to}
 
 -- ---- sums of what is bounded
 
@@ -71,18 +71,18 @@ module _ (reference : Deg) (headings : List ℕ) (few : length headings ≤ most
   abbrev xs : List Residual
   xs = taken_in (entries_from reference headings)
 
-  abbrev meanHere : Float
-  meanHere = mean_residual (figures_from reference headings).sum (figures_from reference headings).count
+  abbrev mean_here : Float
+  mean_here = mean_residual (figures_from reference headings).sum (figures_from reference headings).count
 
   abbrev in_parts : Float
   in_parts = mean_residual (pos (above_of xs) -ℤ pos (below_of xs)) (length xs)
 
-  same : in_parts ≡ meanHere
+  same : in_parts ≡ mean_here
   unfolding figures_of
   same = ap (λ (z : ℤ). mean_residual z (length xs)) (sym (sum_in_parts xs))
 
   bound : AtMost most_stars (running_of (entries_from reference headings))
-  bound = all-at-most reference headings few
+  bound = all_at_most reference headings few
 
   counted : length xs ≤ 3000
   unfolding running_of
@@ -97,18 +97,18 @@ module _ (reference : Deg) (headings : List ℕ) (few : length headings ≤ most
   taken = some
 
   -- not below the least, nor above the greatest, that is taken in
-  pub mean-from-least : (l : Residual) → AllFrom l xs → of_int binary64 (whole_of l) ≼ meanHere
-  mean-from-least l a =
-      subst (λ (z : ℤ). of_int binary64 z ≼ meanHere) (sym (whole_in_parts l))
+  pub mean_from_least : (l : Residual) → AllFrom l xs → of_int binary64 (whole_of l) ≼ mean_here
+  mean_from_least l a =
+      subst (λ (z : ℤ). of_int binary64 z ≼ mean_here) (sym (whole_in_parts l))
       (subst (λ (m : Float). of_int binary64 (pos (above l) -ℤ pos (below l)) ≼ m) same
-      (quotient-from (above_of xs) (below_of xs) (length xs) (omega (arith, sizes)) (omega (arith, sizes)) taken (omega (arith, counted)) (above l) (below l)
+      (quotient_from (above_of xs) (below_of xs) (length xs) (omega (arith, sizes)) (omega (arith, sizes)) taken (omega (arith, counted)) (above l) (below l)
       (sums_from l xs a)))
 
-  pub mean-to-greatest : (g : Residual) → AllTo g xs → meanHere ≼ of_int binary64 (whole_of g)
-  mean-to-greatest g a =
-      subst (λ (z : ℤ). meanHere ≼ of_int binary64 z) (sym (whole_in_parts g))
+  pub mean_to_greatest : (g : Residual) → AllTo g xs → mean_here ≼ of_int binary64 (whole_of g)
+  mean_to_greatest g a =
+      subst (λ (z : ℤ). mean_here ≼ of_int binary64 z) (sym (whole_in_parts g))
       (subst (λ (m : Float). m ≼ of_int binary64 (pos (above g) -ℤ pos (below g))) same
-      (quotient-to (above_of xs) (below_of xs) (length xs) (omega (arith, sizes)) (omega (arith, sizes)) taken (omega (arith, counted)) (above g) (below g)
+      (quotient_to (above_of xs) (below_of xs) (length xs) (omega (arith, sizes)) (omega (arith, sizes)) taken (omega (arith, counted)) (above g) (below g)
       (sums_to g xs a)))
 
   near : AllNear xs
@@ -119,21 +119,21 @@ module _ (reference : Deg) (headings : List ℕ) (few : length headings ≤ most
   abbrev million : Float
   million = bits 0x412e848000000000
 
-  mean-within : Between (neg million) million meanHere
+  mean_within : Between (neg million) million mean_here
   unfolding of_int is_finite neg of_bits round
-  mean-within = between tt tt (mean-from-least westmost (from_westmost xs near)) (mean-to-greatest eastmost (to_eastmost xs near))
+  mean_within = between tt tt (mean_from_least westmost (from_westmost xs near)) (mean_to_greatest eastmost (to_eastmost xs near))
 
   -- and within 1000 seconds on either side, in degrees
-  pub offset-within : Between (neg farthest_offset) farthest_offset (meanHere ⊘ milliarcseconds_of_degree)
+  pub offset_within : Between (neg farthest_offset) farthest_offset (mean_here ⊘ milliarcseconds_of_degree)
   unfolding is_finite le neg div of_bits
-  offset-within = bounded binary64 (neg farthest_offset) farthest_offset (known mean-within ⧄ con milliarcseconds_of_degree) tt
+  offset_within = bounded binary64 (neg farthest_offset) farthest_offset (known mean_within ⧄ con milliarcseconds_of_degree) tt
 
   -- `limit_to_360` refuses no sum
-  pub sum-finite : circle_refusal reference ≡ 0 → Finite (reference.0 ⊕ (meanHere ⊘ milliarcseconds_of_degree))
+  pub sum_finite : circle_refusal reference ≡ 0 → Finite (reference.0 ⊕ (mean_here ⊘ milliarcseconds_of_degree))
   unfolding is_finite le neg add of_bits
-  sum-finite e =
-      let r = between {a = zero} {b = turn_in_degrees} {z = reference.0} tt tt (circle-from-zero reference e) (le_of_lt reference.0 turn_in_degrees (circle-below-turn reference e)) in
-      (bounded binary64 (neg turn_in_degrees) (bits 0x4086800000000000) (known r ⊞ known offset-within) tt).finite
+  sum_finite e =
+      let r = between {a = zero} {b = turn_in_degrees} {z = reference.0} tt tt (circle_from_zero reference e) (le_of_lt reference.0 turn_in_degrees (circle_below_turn reference e)) in
+      (bounded binary64 (neg turn_in_degrees) (bits 0x4086800000000000) (known r ⊞ known offset_within) tt).finite
 
 -- ---- in the turn
 

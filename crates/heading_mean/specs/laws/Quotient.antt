@@ -110,13 +110,13 @@ module _ (p n c : ℕ) (P : p ≤ 2 ^ 53) (N : n ≤ 2 ^ 53) (C : 0 < c) (few : 
   under = mul-pos (mul-pos C (den_pos y)) (den_pos x)
 
   -- a − b is not above it where it is none times the count
-  pub quotient-from : (a b : ℕ) → a * c + n ≤ p + b * c → of_int binary64 (pos a -ℤ pos b) ≼ x ⊘ y
-  quotient-from a b h =
+  pub quotient_from : (a b : ℕ) → a * c + n ≤ p + b * c → of_int binary64 (pos a -ℤ pos b) ≼ x ⊘ y
+  quotient_from a b h =
       rounds_mono binary64 (of_int binary64 (pos a -ℤ pos b)) (x ⊘ y) a b 1 (plus_part x * den y) (minus_part x * den y) (c * den y * den x)
       (omega arith) under (sum_rounds a b) quotient (crossed a b c p n (plus_part x) (minus_part x) (den x) (den y) exact.value h)
 
   -- nor below it likewise
-  pub quotient-to : (a b : ℕ) → p + b * c ≤ a * c + n → x ⊘ y ≼ of_int binary64 (pos a -ℤ pos b)
-  quotient-to a b h =
+  pub quotient_to : (a b : ℕ) → p + b * c ≤ a * c + n → x ⊘ y ≼ of_int binary64 (pos a -ℤ pos b)
+  quotient_to a b h =
       rounds_mono binary64 (x ⊘ y) (of_int binary64 (pos a -ℤ pos b)) (plus_part x * den y) (minus_part x * den y) (c * den y * den x) a b 1
       under (omega arith) quotient (sum_rounds a b) (crossed_back a b c p n (plus_part x) (minus_part x) (den x) (den y) exact.value h)

@@ -14,22 +14,22 @@ use Rattle.heading_mean.specs.rules.Reference.{heading_of, vote, agreeing, is_re
 -- ---- how many agree
 
 module _ (reference : Deg) where
-  pub vote-within : (b : ℕ) → vote reference b ≤ 1
+  pub vote_within : (b : ℕ) → vote reference b ≤ 1
   unfolding vote
-  vote-within b =
+  vote_within b =
       by_test (λ (n : ℕ). n ≤ 1) (is_aside (residual_from reference (heading_of b))) 0 1 (λ t. omega arith) (λ t. omega arith)
 
-  next-vote : (s : List ℕ) (i : ℕ) → i < length s
+  next_vote : (s : List ℕ) (i : ℕ) → i < length s
       → agreeing reference (drop i s) ≡ vote reference (get_or s i 0) + agreeing reference (drop (suc i) s)
   unfolding agreeing
-  next-vote [] i h = absurd (omega arith)
-  next-vote (b ∷ bs) zero h = refl
-  next-vote (b ∷ bs) (suc i) h = next-vote bs i (le_of_suc-le-suc h)
+  next_vote [] i h = absurd (omega arith)
+  next_vote (b ∷ bs) zero h = refl
+  next_vote (b ∷ bs) (suc i) h = next_vote bs i (le_of_suc-le-suc h)
 
-  pub agreeing-next : (s : List ℕ) (i n : ℕ) → i < length s
+  pub agreeing_next : (s : List ℕ) (i n : ℕ) → i < length s
       → n + vote reference (get_or s i 0) + agreeing reference (drop (i + 1) s) ≡ n + agreeing reference (drop i s)
-  agreeing-next s i n h =
-      ap (λ (k : ℕ). n + vote reference (get_or s i 0) + agreeing reference (drop k s)) (add-one i) ∙ omega (arith, next-vote s i h)
+  agreeing_next s i n h =
+      ap (λ (k : ℕ). n + vote reference (get_or s i 0) + agreeing reference (drop k s)) (add-one i) ∙ omega (arith, next_vote s i h)
 
   none_left : (s : List ℕ) (i : ℕ) → length s ≤ i → agreeing reference (drop i s) ≡ 0
   unfolding agreeing
@@ -38,13 +38,13 @@ module _ (reference : Deg) where
   none_left (b ∷ bs) zero h = absurd (omega arith)
   none_left (b ∷ bs) (suc i) h = none_left bs i (le_of_suc-le-suc h)
 
-  pub agreeing-done : (s : List ℕ) (i n : ℕ) → length s ≤ i → n ≡ n + agreeing reference (drop i s)
-  agreeing-done s i n h = omega (arith, none_left s i h)
+  pub agreeing_done : (s : List ℕ) (i n : ℕ) → length s ≤ i → n ≡ n + agreeing reference (drop i s)
+  agreeing_done s i n h = omega (arith, none_left s i h)
 
-  pub agreeing-within : (s : List ℕ) → agreeing reference s ≤ length s
+  pub agreeing_within : (s : List ℕ) → agreeing reference s ≤ length s
   unfolding agreeing
-  agreeing-within [] = omega arith
-  agreeing-within (b ∷ bs) = omega (arith, vote-within b, agreeing-within bs)
+  agreeing_within [] = omega arith
+  agreeing_within (b ∷ bs) = omega (arith, vote_within b, agreeing_within bs)
 
 -- more agree than do not
 pub more_than_half : (n a : ℕ) → a ≤ n → ltb (n - a) a ≡ ltb n (2 * a)
@@ -57,27 +57,27 @@ more_than_half n a h = by-half (ltb (n - a) a) refl
 -- ---- the first
 
 module _ (all : List ℕ) where
-  pub reference-here : (s : List ℕ) (i : ℕ) → i < length s → is_reference all (get_or s i 0) ≡ true → first_reference all (drop i s) ≡ 0
+  pub reference_here : (s : List ℕ) (i : ℕ) → i < length s → is_reference all (get_or s i 0) ≡ true → first_reference all (drop i s) ≡ 0
   unfolding first_reference
-  reference-here [] i h e = absurd (omega arith)
-  reference-here (b ∷ bs) zero h e = rw e
-  reference-here (b ∷ bs) (suc i) h e = reference-here bs i (le_of_suc-le-suc h) e
+  reference_here [] i h e = absurd (omega arith)
+  reference_here (b ∷ bs) zero h e = rw e
+  reference_here (b ∷ bs) (suc i) h e = reference_here bs i (le_of_suc-le-suc h) e
 
-  reference-after : (s : List ℕ) (i : ℕ) → i < length s → is_reference all (get_or s i 0) ≡ false
+  reference_after : (s : List ℕ) (i : ℕ) → i < length s → is_reference all (get_or s i 0) ≡ false
       → first_reference all (drop i s) ≡ suc (first_reference all (drop (suc i) s))
   unfolding first_reference
-  reference-after [] i h e = absurd (omega arith)
-  reference-after (b ∷ bs) zero h e = rw e
-  reference-after (b ∷ bs) (suc i) h e = reference-after bs i (le_of_suc-le-suc h) e
+  reference_after [] i h e = absurd (omega arith)
+  reference_after (b ∷ bs) zero h e = rw e
+  reference_after (b ∷ bs) (suc i) h e = reference_after bs i (le_of_suc-le-suc h) e
 
-  pub reference-next : (s : List ℕ) (i : ℕ) → i < length s → is_reference all (get_or s i 0) ≡ false
+  pub reference_next : (s : List ℕ) (i : ℕ) → i < length s → is_reference all (get_or s i 0) ≡ false
       → i + 1 + first_reference all (drop (i + 1) s) ≡ i + first_reference all (drop i s)
-  reference-next s i h e =
-      ap (λ (k : ℕ). i + 1 + first_reference all (drop k s)) (add-one i) ∙ omega (arith, reference-after s i h e)
+  reference_next s i h e =
+      ap (λ (k : ℕ). i + 1 + first_reference all (drop k s)) (add-one i) ∙ omega (arith, reference_after s i h e)
 
-  pub reference-none : (s : List ℕ) (i : ℕ) → length s ≤ i → first_reference all (drop i s) ≡ 0
+  pub reference_none : (s : List ℕ) (i : ℕ) → length s ≤ i → first_reference all (drop i s) ≡ 0
   unfolding first_reference
-  reference-none [] zero h = refl
-  reference-none [] (suc i) h = refl
-  reference-none (b ∷ bs) zero h = absurd (omega arith)
-  reference-none (b ∷ bs) (suc i) h = reference-none bs i (le_of_suc-le-suc h)
+  reference_none [] zero h = refl
+  reference_none [] (suc i) h = refl
+  reference_none (b ∷ bs) zero h = absurd (omega arith)
+  reference_none (b ∷ bs) (suc i) h = reference_none bs i (le_of_suc-le-suc h)

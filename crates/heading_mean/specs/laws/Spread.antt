@@ -34,7 +34,7 @@ use Rattle.heading_mean.specs.rules.Mean.{entries_from, figures_from}
 use Rattle.heading_mean.specs.rules.Spread.{is_night, root_over, scatter, spread_of, mean_error}
 use Rattle.heading_mean.specs.notions.Night.{Night}
 use Rattle.heading_mean.specs.laws.Quotient.{whole_parts, positive_whole}
-use Rattle.heading_mean.specs.laws.Grown.{all-at-most}
+use Rattle.heading_mean.specs.laws.Grown.{all_at_most}
 
 pub night_figures : (n s q : ℕ) → is_night n s q ≡ true → Night n s q
 unfolding is_night
@@ -117,25 +117,25 @@ module _ (reference : Deg) (headings : List ℕ) where
   size_is = ap nat_abs (sum_in_parts xs) ∙ gap_size (above_of xs) (below_of xs)
 
   -- the subtraction in the spread takes nothing that is not there
-  pub scatter-is-there : (let f = figures_from reference headings in nat_abs f.sum * nat_abs f.sum ≤ f.count * f.squares)
-  scatter-is-there = rw (size_is) (unfold figures_of in squares_enough xs)
+  pub scatter_is_there : (let f = figures_from reference headings in nat_abs f.sum * nat_abs f.sum ≤ f.count * f.squares)
+  scatter_is_there = rw (size_is) (unfold figures_of in squares_enough xs)
 
-  figures-within : length headings ≤ most_stars
+  figures_within : length headings ≤ most_stars
       → (let f = figures_from reference headings in (f.count ≤ 3000) × (nat_abs f.sum ≤ 3000000000) × (f.squares ≤ 3000000000000000))
   unfolding figures_of running_of
-  figures-within few =
-      let m = all-at-most reference headings few in (
+  figures_within few =
+      let m = all_at_most reference headings few in (
         omega (arith, m.counted),
         omega (arith, size_is, m.counted, m.sizes),
         omega (arith, m.counted, m.squared),
       )
 
   -- the figures of every accepted set, two of whose sights agree with the reference, are a night's
-  pub figures-are-a-night : length headings ≤ most_stars → 2 ≤ (figures_from reference headings).count
+  pub figures_are_a_night : length headings ≤ most_stars → 2 ≤ (figures_from reference headings).count
       → (let f = figures_from reference headings in is_night f.count (nat_abs f.sum) f.squares ≡ true)
   unfolding is_night
-  figures-are-a-night few two =
-      let b = figures-within few in
+  figures_are_a_night few two =
+      let b = figures_within few in
       rw (le-leb 2 _ two, le-leb _ 3000 b.0, le-leb _ 3000000000 b.1, le-leb _ 3000000000000000 b.2)
 
 -- ---- it is a number
@@ -165,9 +165,9 @@ module _ (a b : ℕ) (A : a ≤ 9000000000000000000) (B : 0 < b) (C : b ≤ 2700
   unfolding is_finite le div of_bits of_int round
   quotient_within = bounded binary64 operations.zero most (known top ⧄ known bottom) tt
 
-  root-over-finite : is_finite (root_over a b) ≡ true
+  root_over_finite : is_finite (root_over a b) ≡ true
   unfolding root_over
-  root-over-finite =
+  root_over_finite =
       let p = div_plus binary64 (from_whole a) (from_whole b) top.finite (from_whole_plus a) (positive_whole (from_whole b) b (whole_parts b (omega arith)) B) in
       root_answers_finite quotient (root_of quotient) (div-fits binary64 (from_whole a) (from_whole b))
       (root_answered quotient (is_true (is_finite quotient) quotient_within.finite) (no_minus_of_plus quotient p))
@@ -180,22 +180,22 @@ module _ (n s q : ℕ) where
   some_more h = mul-pos {m = n * n} {n = n - 1} (mul-pos {m = n} {n = n} (omega arith) (omega arith)) (omega arith)
 
   -- whatever the figures are
-  pub spread-finite : is_finite (spread_of n s q) ≡ true
+  pub spread_finite : is_finite (spread_of n s q) ≡ true
   unfolding spread_of
-  spread-finite = by_flag (is_night n s q) refl
+  spread_finite = by_flag (is_night n s q) refl
     where
       by_flag : (t : Bool) → is_night n s q ≡ t → is_finite (cond t (root_over (scatter n s q) (n * (n - 1))) operations.zero) ≡ true
       by_flag true e =
           let f = night_figures n s q e in
-          root-over-finite (scatter n s q) (n * (n - 1)) (omega (arith, f.times)) (some_pairs f.two) (omega (arith, f.divisor))
+          root_over_finite (scatter n s q) (n * (n - 1)) (omega (arith, f.times)) (some_pairs f.two) (omega (arith, f.divisor))
       by_flag false e = is_true (is_finite operations.zero) finite_zero
 
-  pub mean-error-finite : is_finite (mean_error n s q) ≡ true
+  pub mean_error_finite : is_finite (mean_error n s q) ≡ true
   unfolding mean_error
-  mean-error-finite = by_flag (is_night n s q) refl
+  mean_error_finite = by_flag (is_night n s q) refl
     where
       by_flag : (t : Bool) → is_night n s q ≡ t → is_finite (cond t (root_over (scatter n s q) (n * n * (n - 1))) operations.zero) ≡ true
       by_flag true e =
           let f = night_figures n s q e in
-          root-over-finite (scatter n s q) (n * n * (n - 1)) (omega (arith, f.times)) (some_more f.two) f.divisors
+          root_over_finite (scatter n s q) (n * n * (n - 1)) (omega (arith, f.times)) (some_more f.two) f.divisors
       by_flag false e = is_true (is_finite operations.zero) finite_zero

@@ -14,7 +14,7 @@ use Rattle.list.specs.rules.Stars.{most_stars}
 use Rattle.residual_sheet.specs.rules.Residuals.{least_refusal}
 use Rattle.heading_mean.specs.rules.Reference.{heading_of, is_reference, first_reference, reference_place}
 use Rattle.heading_mean.specs.rules.Mean.{bits_refusal, number_refusal, headings_refusal, MeanAndSheet, mean_from, mean_in, mean_heading_rule}
-use Rattle.heading_mean.specs.laws.Accepted.{with-reference, without-reference}
+use Rattle.heading_mean.specs.laws.Accepted.{with_reference, without_reference}
 use Rattle.heading_mean.specs.laws.OneOff.{not_after}
 
 -- ---- none is a reference
@@ -29,7 +29,7 @@ pub none_agree_refused : (headings : List ℕ) → headings_refusal headings ≡
 unfolding mean_heading_rule
 none_agree_refused headings e f =
     let p = none_first headings headings f in
-    rw e (sym (without-reference headings (reference_place headings) refl (omega (arith, p))))
+    rw e (sym (without_reference headings (reference_place headings) refl (omega (arith, p))))
 
 -- ---- no other refusal is above 8
 
@@ -80,7 +80,7 @@ refused_none_agree headings e i h = by-refusal (eqb (headings_refusal headings) 
     no_answer : is_reference headings (get_or headings i 0) ≡ true → mean_in headings ≡ refused 20 → ⊥
     no_answer f g =
         let there = not_after headings headings i h f in
-        omega (arith, ap told (with-reference headings (reference_place headings) refl (omega (arith, there)) ∙ g))
+        omega (arith, ap told (with_reference headings (reference_place headings) refl (omega (arith, there)) ∙ g))
 
     by_flag : (t : Bool) → is_reference headings (get_or headings i 0) ≡ t → mean_in headings ≡ refused 20 → t ≡ false
     by_flag true f g = absurd (no_answer f g)

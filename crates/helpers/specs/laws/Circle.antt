@@ -10,24 +10,24 @@ use Rattle.helpers.specs.rules.Angle.{turn_in_degrees}
 use Rattle.helpers.specs.rules.Circle.{circle_refusal}
 
 module _ (x : Deg) (e : circle_refusal x ≡ 0) where
-  finite-then : (t : Bool) (n : ℕ) → cond t n 1 ≡ 0 → (T t) × (n ≡ 0)
-  finite-then true n e = (tt, e)
-  finite-then false n e = absurd (omega arith)
+  finite_then : (t : Bool) (n : ℕ) → cond t n 1 ≡ 0 → (T t) × (n ≡ 0)
+  finite_then true n e = (tt, e)
+  finite_then false n e = absurd (omega arith)
 
-  within-then : (t : Bool) (n : ℕ) → cond t n 3 ≡ 0 → (T t) × (n ≡ 0)
-  within-then true n e = (tt, e)
-  within-then false n e = absurd (omega arith)
+  within_then : (t : Bool) (n : ℕ) → cond t n 3 ≡ 0 → (T t) × (n ≡ 0)
+  within_then true n e = (tt, e)
+  within_then false n e = absurd (omega arith)
 
-  pub circle-finite : Finite x.0
+  pub circle_finite : Finite x.0
   unfolding circle_refusal
-  circle-finite = (finite-then (is_finite x.0) _ e).0
+  circle_finite = (finite_then (is_finite x.0) _ e).0
 
   rest : cond {A = ℕ} (le zero x.0) (cond (lt x.0 turn_in_degrees) 0 3) 3 ≡ 0
   unfolding circle_refusal
-  rest = (finite-then (is_finite x.0) _ e).1
+  rest = (finite_then (is_finite x.0) _ e).1
 
-  pub circle-from-zero : zero ≼ x.0
-  circle-from-zero = (within-then (le zero x.0) _ rest).0
+  pub circle_from_zero : zero ≼ x.0
+  circle_from_zero = (within_then (le zero x.0) _ rest).0
 
-  pub circle-below-turn : T (lt x.0 turn_in_degrees)
-  circle-below-turn = (within-then (lt x.0 turn_in_degrees) 0 (within-then (le zero x.0) _ rest).1).0
+  pub circle_below_turn : T (lt x.0 turn_in_degrees)
+  circle_below_turn = (within_then (lt x.0 turn_in_degrees) 0 (within_then (le zero x.0) _ rest).1).0

@@ -9,7 +9,7 @@ use lib.ListN.{length, take, get_or}
 use lib.Seq.{take-suc, take-length}
 use Rattle.double.specs.laws.Calls.{asks_nothing}
 use Rattle.lent.specs.rules.Writing.{Wrote}
-use Rattle.lent.specs.laws.Writing.{after, same, nothing, length-kept}
+use Rattle.lent.specs.laws.Writing.{after, same, nothing, length_kept}
 use Rattle.lent.proofs.put.Statement.{statement}
 use Rattle.lent.proofs.put.Tie as tie
 
@@ -41,7 +41,7 @@ loop-again c =
     (search rules, same (one_more src pass.loop.i (omega arith)) (after pass.loop.invariant.1 c.before.before.put_byte.ensures))
 
 same_length : tie.Need-same-length invariant-loop decreases-loop
-same_length c = length-kept c.before.loop.invariant.1
+same_length c = length_kept c.before.loop.invariant.1
 
 returns : tie.Need-returns invariant-loop decreases-loop
 returns c =

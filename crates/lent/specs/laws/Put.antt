@@ -9,7 +9,7 @@ use Rattle.quantity.specs.laws.Steps.{same_value, refused_not_answered, stepped,
 use Rattle.lent.specs.rules.Writing.{offset_after, Wrote}
 use Rattle.lent.specs.rules.Put.{shown_written, room_for, laid, Put}
 use Rattle.lent.specs.notions.Put.{Stands}
-use Rattle.lent.specs.laws.Writing.{whole, length-kept}
+use Rattle.lent.specs.laws.Writing.{whole, length_kept}
 use Rattle.lent.specs.declared.Written.{Written}
 use Rattle.lent.specs.declared.Written.TheVariants.{To, Refused}
 
@@ -35,11 +35,11 @@ module _ (text : Answer (List ℕ)) (old : List ℕ) (at : ℕ) where
 
     -- the same by a test of the size
     module _ (size : ℕ) (long : size ≡ length t) (b : Bool) (test : b ≡ leb (at + size) (length old)) where
-      pub tested-no-room : b ≡ false → Put text old at old (Refused 8)
-      tested-no-room h = no_room (omega (arith, leb-false (at + size) (length old) (sym test ∙ h)))
+      pub tested_no_room : b ≡ false → Put text old at old (Refused 8)
+      tested_no_room h = no_room (omega (arith, leb-false (at + size) (length old) (sym test ∙ h)))
 
-      pub tested-puts : b ≡ true → (new : List ℕ) (next : ℕ) → Wrote old at t new next → Put text old at new (To next)
-      tested-puts h new next w = puts new next (omega (arith, leb-true (at + size) (length old) (sym test ∙ h))) w
+      pub tested_puts : b ≡ true → (new : List ℕ) (next : ℕ) → Wrote old at t new next → Put text old at new (To next)
+      tested_puts h new next w = puts new next (omega (arith, leb-true (at + size) (length old) (sym test ∙ h))) w
 
 -- a text that was put stands in the slice
 pub put_stands : (text : Answer (List ℕ)) (old new : List ℕ) (at next : ℕ) → Put text old at new (To next)
@@ -67,7 +67,7 @@ pub offset_inside : (text : Answer (List ℕ)) {old new : List ℕ} {at next : �
 offset_inside text {old} {new} {at} {next} {r} p is =
     let s = put_stands text old new at next (subst (Put text old at new) is p) in
     let w : Wrote old at s.t new (offset_after old at s.t) = record { text = s.slice ∙ sym (whole old at s.t s.room); offset = refl } in
-    omega (arith, length-kept w, s.room, s.after)
+    omega (arith, length_kept w, s.room, s.after)
 
 -- 8 for a short slice comes last: any other refusal is given, however short the slice
 pub own_refusal_first : (old : List ℕ) (at k : ℕ) → room_for old at (refused k) ≡ refused k

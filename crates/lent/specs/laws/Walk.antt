@@ -4,7 +4,7 @@ use Rattle.std.proofs.Common.{sym, ap, add-one, arith}
 use Rattle.lent.specs.rules.Writing.{Wrote}
 use Rattle.lent.specs.rules.Texts.{texts}
 use Rattle.lent.specs.notions.Walk.{Walked}
-use Rattle.lent.specs.laws.Writing.{after, same, nothing, length-kept}
+use Rattle.lent.specs.laws.Writing.{after, same, nothing, length_kept}
 
 module _ {old : List ℕ} {at n : ℕ} {f : ℕ → List ℕ} where
   pub begun : {offset : ℕ} → offset ≡ min at (length old) → Walked old at n f old offset 0
@@ -20,4 +20,4 @@ module _ {old : List ℕ} {at n : ℕ} {f : ℕ → List ℕ} where
 
   -- the slice's length
   pub stays : {new : List ℕ} {offset i : ℕ} → Walked old at n f new offset i → length new ≡ length old
-  stays w = length-kept w.wrote
+  stays w = length_kept w.wrote

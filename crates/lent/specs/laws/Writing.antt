@@ -11,12 +11,12 @@ use Rattle.lent.specs.rules.Writing.{written, offset_after, Wrote}
 
 module _ {A : Type 0} where
   -- the slice's length stays
-  length-written : (old : List A) (at : ℕ) (t : List A) → length (written old at t) ≡ length old
+  length_written : (old : List A) (at : ℕ) (t : List A) → length (written old at t) ≡ length old
   unfolding written
-  length-written [] at t = refl
-  length-written (x ∷ old) (suc at) t = ap suc (length-written old at t)
-  length-written (x ∷ old) zero [] = refl
-  length-written (x ∷ old) zero (b ∷ t) = ap suc (length-written old zero t)
+  length_written [] at t = refl
+  length_written (x ∷ old) (suc at) t = ap suc (length_written old at t)
+  length_written (x ∷ old) zero [] = refl
+  length_written (x ∷ old) zero (b ∷ t) = ap suc (length_written old zero t)
 
   joined : (old : List A) (at : ℕ) (t u : List A) (n : ℕ) → n ≡ offset_after old at t
       → written (written old at t) n u ≡ written old at (t ++ u)
@@ -33,7 +33,7 @@ module _ {A : Type 0} where
   after {old} {t} {o} {u} {p} {at} {n} {m} a b =
       record {
         text = b.text ∙ ap (λ (l : List A). written l n u) a.text ∙ joined old at t u n a.offset;
-        offset = omega (arith, a.offset, b.offset, length-append t u, ap length a.text ∙ length-written old at t);
+        offset = omega (arith, a.offset, b.offset, length-append t u, ap length a.text ∙ length_written old at t);
       }
 
   -- the same text, said otherwise
@@ -70,12 +70,12 @@ module _ {A : Type 0} where
       stays (x ∷ l) (suc k) h = ap (λ (m : List A). x ∷ m) (stays l k (omega arith))
       stays (x ∷ l) zero h = absurd (omega arith)
 
-  pub length-kept : {old t new : List A} {at n : ℕ} → Wrote old at t new n → length new ≡ length old
-  length-kept {old} {t} {new} {at} w = ap length w.text ∙ length-written old at t
+  pub length_kept : {old t new : List A} {at n : ℕ} → Wrote old at t new n → length new ≡ length old
+  length_kept {old} {t} {new} {at} w = ap length w.text ∙ length_written old at t
 
   -- the offset after a text lies in the slice
   pub inside : {old t new : List A} {at n : ℕ} → Wrote old at t new n → n ≤ length new
-  inside w = omega (arith, w.offset, length-kept w)
+  inside w = omega (arith, w.offset, length_kept w)
 
   -- a text that has room
   pub whole : (old : List A) (at : ℕ) (t : List A) → at + length t ≤ length old

@@ -10,7 +10,7 @@ use Rattle.double.specs.laws.Calls.{asks_nothing}
 use Rattle.quantity.specs.rules.Answer.{answered, refused}
 use Rattle.list.specs.rules.Record.{in_range}
 use Rattle.list.specs.rules.Stars.{is_list, stars, count_of, nth}
-use Rattle.list.specs.laws.Stars.{length-stars}
+use Rattle.list.specs.laws.Stars.{length_stars}
 use Rattle.list.specs.rules.Find.{index_of, entry, find_rule}
 use Rattle.list.specs.declared.Star.{Star}
 use Rattle.list.proofs.find.Statement.{statement}
@@ -19,10 +19,10 @@ use Rattle.list.proofs.find.Tie as tie
 -- the index that was found, past the end and before it
 module _ (s : List ℕ) (number i : ℕ) (t : is_list s ≡ true) (z : eqb number 0 ≡ false) (e : i ≡ index_of number (stars s)) where
   absent : count_of s ≤ i → refused 10 ≡ find_rule s number
-  absent h = rw (t, z, ← e, length-stars s, le-ltb i (count_of s) h)
+  absent h = rw (t, z, ← e, length_stars s, le-ltb i (count_of s) h)
 
   present : i < count_of s → (r : Star) → r ≡ nth s i → entry i r ≡ find_rule s number
-  present h r f = rw (t, z, ← e, length-stars s, lt-ltb i (count_of s) h) (ap (entry i) f)
+  present h r f = rw (t, z, ← e, length_stars s, lt-ltb i (count_of s) h) (ap (entry i) f)
 
 returns : tie.Need-returns
 returns c = simp (sym c.before.is_list_lem.ensures ∙ not-true _ c.if1.true)
@@ -40,18 +40,18 @@ module _ (c : tie.Else2) where
 
 returns-3 : tie.Need-returns-3
 returns-3 c =
-    let at-index = c.before.before in
-    absent _ _ at-index.index_of.result (listed at-index.before) (numbered at-index.before) at-index.index_of.ensures
+    let at_index = c.before.before in
+    absent _ _ at_index.index_of.result (listed at_index.before) (numbered at_index.before) at_index.index_of.ensures
     (omega (arith, c.before.count.ensures, c.if3.true))
 
 -- the star was found, and the answer is its entry
 module _ (c : tie.After-nth) where
-  abbrev at-index : tie.After-index-of
-  at-index = c.before.before.before
+  abbrev at_index : tie.After-index-of
+  at_index = c.before.before.before
 
-  found : entry at-index.index_of.result c.nth.result ≡ find_rule at-index.before.before.before.before.before.args.bytes.now at-index.before.before.before.before.before.args.number
+  found : entry at_index.index_of.result c.nth.result ≡ find_rule at_index.before.before.before.before.before.args.bytes.now at_index.before.before.before.before.before.args.number
   found =
-      present _ _ at-index.index_of.result (listed at-index.before) (numbered at-index.before) at-index.index_of.ensures
+      present _ _ at_index.index_of.result (listed at_index.before) (numbered at_index.before) at_index.index_of.ensures
       (omega (arith, c.before.before.count.ensures, c.before.if3.false))
       c.nth.result
       c.nth.ensures

@@ -11,7 +11,7 @@ use lib.ListN.{drop, drop_of_length-le}
 use Rattle.double.specs.laws.Calls.{asks_nothing}
 use Rattle.list.specs.rules.Stars.{stars, count_of, nth}
 use Rattle.list.specs.rules.Find.{index_of}
-use Rattle.list.specs.laws.Stars.{from, length-stars}
+use Rattle.list.specs.laws.Stars.{from, length_stars}
 use Rattle.list.specs.declared.Star.{Star}
 use Rattle.list.proofs.index_of.Statement.{statement}
 use Rattle.list.proofs.index_of.Tie as tie
@@ -35,7 +35,7 @@ module _ (s : List ℕ) (number i : ℕ) (h : i < count_of s) (r : Star) (e : r 
 
 none : (s : List ℕ) (number i : ℕ) → count_of s ≤ i → left s number i ≡ 0
 unfolding index_of
-none s number i h = ap (index_of number) (drop_of_length-le (stars s) {i = i} (rw length-stars h))
+none s number i h = ap (index_of number) (drop_of_length-le (stars s) {i = i} (rw length_stars h))
 
 abbrev invariant-loop : tie.invariant-loop
 invariant-loop bytes number n i₀ i = (i ≤ n) × ((n ≡ count_of bytes) × (i + left bytes number i ≡ index_of number (stars bytes)))

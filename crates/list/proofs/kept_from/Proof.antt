@@ -11,7 +11,7 @@ use lib.ListN.{drop, drop_of_length-le}
 use Rattle.double.specs.laws.Calls.{asks_nothing}
 use Rattle.list.specs.rules.Stars.{stars, count_of, nth}
 use Rattle.list.specs.rules.Reader.{empty_before}
-use Rattle.list.specs.laws.Stars.{from, length-stars}
+use Rattle.list.specs.laws.Stars.{from, length_stars}
 use Rattle.list.specs.declared.Star.{Star}
 use Rattle.list.proofs.kept_from.Statement.{statement}
 use Rattle.list.proofs.kept_from.Tie as tie
@@ -35,7 +35,7 @@ module _ (s : List ℕ) (i : ℕ) (h : i < count_of s) (r : Star) (e : r ≡ nth
 
 none : (s : List ℕ) (i : ℕ) → count_of s ≤ i → left s i ≡ 0
 unfolding empty_before
-none s i h = ap empty_before (drop_of_length-le (stars s) {i = i} (rw length-stars h))
+none s i h = ap empty_before (drop_of_length-le (stars s) {i = i} (rw length_stars h))
 
 abbrev invariant-loop : tie.invariant-loop
 invariant-loop bytes from n i₀ i = (n ≡ count_of bytes) × (i + left bytes i ≡ from + left bytes from)

@@ -4,7 +4,7 @@ use Prim.Native.Nat.{◌<◌}
 use native.Mathlib.Omega.{arith}
 use Rattle.double.specs.laws.Calls.{asks_nothing}
 use Rattle.list.specs.rules.Stars.{count_of}
-use Rattle.list.specs.laws.Stars.{nth-is, nth_past, inside}
+use Rattle.list.specs.laws.Stars.{nth_is, nth_past, inside}
 use Rattle.list.proofs.nth.Statement.{statement}
 use Rattle.list.proofs.nth.Tie as tie
 
@@ -19,7 +19,7 @@ record-at-requires : tie.Need-record-at-requires
 record-at-requires c κs = inside _ _ (index c)
 
 returns : tie.Need-returns
-returns c = c.record-at.ensures ∙ sym (nth-is _ _ (index c.before))
+returns c = c.record-at.ensures ∙ sym (nth_is _ _ (index c.before))
 
 returns-2 : tie.Need-returns-2
 returns-2 c = c.nought.ensures ∙ sym (nth_past _ _ (omega (arith, c.before.before.count.ensures, c.before.if1.false)))

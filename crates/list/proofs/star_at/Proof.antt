@@ -12,7 +12,7 @@ use Rattle.quantity.specs.rules.Answer.{answered}
 use Rattle.list.specs.rules.Record.{width}
 use Rattle.list.specs.rules.Stars.{is_list, count_of, stars, nth}
 use Rattle.list.specs.rules.Reader.{is_offset, empty_before, read_rule, item, none}
-use Rattle.list.specs.laws.Stars.{few, length-stars}
+use Rattle.list.specs.laws.Stars.{few, length_stars}
 use Rattle.list.specs.declared.Star.{Star}
 use Rattle.list.proofs.star_at.Statement.{statement}
 use Rattle.list.proofs.star_at.Tie as tie
@@ -21,11 +21,11 @@ use Rattle.list.proofs.star_at.Tie as tie
 module _ (s : List ℕ) (at i : ℕ) (t : is_list s ≡ true) (p : is_offset s at ≡ true) (e : i ≡ at / width + empty_before (drop (at / width) (stars s))) where
   past : count_of s ≤ i → answered none ≡ read_rule s at
   unfolding read_rule
-  past h = rw (t, p, ← e, length-stars s, le-ltb i (count_of s) h)
+  past h = rw (t, p, ← e, length_stars s, le-ltb i (count_of s) h)
 
   before : i < count_of s → (r : Star) → r ≡ nth s i → answered (item r ((i + 1) * width)) ≡ read_rule s at
   unfolding read_rule
-  before h r is = rw (t, p, ← e, length-stars s, lt-ltb i (count_of s) h) (ap (λ (x : Star). answered (item x ((i + 1) * width))) is)
+  before h r is = rw (t, p, ← e, length_stars s, lt-ltb i (count_of s) h) (ap (λ (x : Star). answered (item x ((i + 1) * width))) is)
 
 returns : tie.Need-returns
 unfolding read_rule

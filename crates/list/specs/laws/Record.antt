@@ -46,12 +46,12 @@ module _ (a b c d : ℕ) (ha : a < 256) (hb : b < 256) (hc : c < 256) (hd : d < 
   abbrev four : ℕ
   four = a + 256 * b + 65536 * c + 16777216 * d
 
-  four-small : four < 4294967296
-  four-small = omega arith
+  four_small : four < 4294967296
+  four_small = omega arith
 
-  four-back : (rest : List ℕ) → word_bytes four ++ rest ≡ a ∷ b ∷ c ∷ d ∷ rest
+  four_back : (rest : List ℕ) → word_bytes four ++ rest ≡ a ∷ b ∷ c ∷ d ∷ rest
   unfolding word_bytes
-  four-back rest =
+  four_back rest =
       let p : four % 256 ≡ a = omega arith in
       let v : four / 256 ≡ b + 256 * c + 65536 * d = omega arith in
       let u : four / 65536 ≡ c + 256 * d = omega arith in
@@ -65,7 +65,7 @@ module _ (s : List ℕ) (y : Bytes s) where
   pub small : (at : ℕ) → word_at s at < 4294967296
   unfolding word_at
   small at =
-      four-small (get_or s at 0) (get_or s (at + 1) 0) (get_or s (at + 2) 0) (get_or s (at + 3) 0)
+      four_small (get_or s at 0) (get_or s (at + 1) 0) (get_or s (at + 2) 0) (get_or s (at + 3) 0)
       (y at) (y (at + 1)) (y (at + 2)) (y (at + 3))
 
   next : (at k : ℕ) → at + k < length s → drop (at + k) s ≡ get_or s (at + k) 0 ∷ drop (at + (k + 1)) s
@@ -73,10 +73,10 @@ module _ (s : List ℕ) (y : Bytes s) where
       drop-cons s (at + k) 0 h
       ∙ ap (λ (n : ℕ). get_or s (at + k) 0 ∷ drop n s) (let q : suc (at + k) ≡ at + (k + 1) = omega arith in q)
 
-  word-here : (at : ℕ) → at + 4 ≤ length s → word_bytes (word_at s at) ++ drop (at + 4) s ≡ drop at s
+  word_here : (at : ℕ) → at + 4 ≤ length s → word_bytes (word_at s at) ++ drop (at + 4) s ≡ drop at s
   unfolding word_at
-  word-here at h =
-      four-back (get_or s at 0) (get_or s (at + 1) 0) (get_or s (at + 2) 0) (get_or s (at + 3) 0)
+  word_here at h =
+      four_back (get_or s at 0) (get_or s (at + 1) 0) (get_or s (at + 2) 0) (get_or s (at + 3) 0)
       (y at) (y (at + 1)) (y (at + 2)) (y (at + 3)) (drop (at + 4) s)
       ∙ sym
       (drop-cons s at 0 (omega arith)
@@ -87,18 +87,18 @@ module _ (s : List ℕ) (y : Bytes s) where
       (next at 2 (omega arith)
       ∙ ap (λ (l : List ℕ). get_or s (at + 2) 0 ∷ l) (next at 3 (omega arith)))))
 
-  abbrev pub wordsFrom : ℕ → ℕ → List ℕ
-  wordsFrom zero at = []
-  wordsFrom (suc k) at = word_at s at ∷ wordsFrom k (at + 4)
+  abbrev pub words_from : ℕ → ℕ → List ℕ
+  words_from zero at = []
+  words_from (suc k) at = word_at s at ∷ words_from k (at + 4)
 
-  pub words-here : (k at : ℕ) → at + 4 * k ≤ length s → words_bytes (wordsFrom k at) ++ drop (at + 4 * k) s ≡ drop at s
-  words-here zero at h = ap (λ (n : ℕ). drop n s) (let q : at + 4 * 0 ≡ at = omega arith in q)
-  words-here (suc k) at h =
-      append_assoc (word_bytes (word_at s at)) (words_bytes (wordsFrom k (at + 4))) (drop (at + 4 * suc k) s)
+  pub words_here : (k at : ℕ) → at + 4 * k ≤ length s → words_bytes (words_from k at) ++ drop (at + 4 * k) s ≡ drop at s
+  words_here zero at h = ap (λ (n : ℕ). drop n s) (let q : at + 4 * 0 ≡ at = omega arith in q)
+  words_here (suc k) at h =
+      append_assoc (word_bytes (word_at s at)) (words_bytes (words_from k (at + 4))) (drop (at + 4 * suc k) s)
       ∙ ap (λ (l : List ℕ). word_bytes (word_at s at) ++ l)
-      (ap (λ (n : ℕ). words_bytes (wordsFrom k (at + 4)) ++ drop n s) (let q : at + 4 * suc k ≡ at + 4 + 4 * k = omega arith in q)
-      ∙ words-here k (at + 4) (omega arith))
-      ∙ word-here at (omega arith)
+      (ap (λ (n : ℕ). words_bytes (words_from k (at + 4)) ++ drop n s) (let q : at + 4 * suc k ≡ at + 4 + 4 * k = omega arith in q)
+      ∙ words_here k (at + 4) (omega arith))
+      ∙ word_here at (omega arith)
 
   pub star_fits : (at : ℕ) → Fitting (star_at s at)
   unfolding star_at
@@ -112,11 +112,11 @@ module _ (s : List ℕ) (y : Bytes s) where
       }
 
   -- a record read is written back
-  pub record-here : width ≤ length s → star_bytes (star_at s 0) ++ drop width s ≡ s
+  pub record_here : width ≤ length s → star_bytes (star_at s 0) ++ drop width s ≡ s
   unfolding star_at star_bytes
-  record-here h =
+  record_here h =
       let w : (k : ℕ) → word_of (signed_of (word_at s k)) ≡ word_at s k = λ (k : ℕ). word_signed (word_at s k) (small k) in
-      (λ i. words_bytes (word_at s 0 ∷ word_at s 4 ∷ w 8 i ∷ w 12 i ∷ w 16 i ∷ []) ++ drop width s) ∙ words-here 5 0 h
+      (λ i. words_bytes (word_at s 0 ∷ word_at s 4 ∷ w 8 i ∷ w 12 i ∷ w 16 i ∷ []) ++ drop width s) ∙ words_here 5 0 h
 
 -- a record further on is one of what is left
 pub word_drop : (k at : ℕ) (s : List ℕ) → word_at (drop k s) at ≡ word_at s (k + at)

@@ -3,7 +3,7 @@ use Rattle.std.specs.Prelude.{◌≡◌, refl, Bool, true, false, ◌&&◌, List
 use Rattle.std.proofs.Common.{sym, ap, ◌∙◌, subst, append_assoc, append-nil, suc-mul, zero-mul, add_comm, le_of_suc-le-suc, not-suc-le-zero, arith, length-drop, length-append, drop_at, get_or-drop}
 use Rattle.lent.specs.rules.Rows.{upto}
 use Rattle.lent.specs.rules.Texts.{texts}
-use Rattle.lent.specs.laws.Upto.{upto-same}
+use Rattle.lent.specs.laws.Upto.{upto_same}
 use Rattle.list.specs.rules.Stars.{records_at, records_bytes, nought, all_are, AllHold, Bytes}
 use Rattle.list.specs.notions.Whole.{Kept}
 use Rattle.list.specs.declared.Star.{Star}
@@ -26,11 +26,11 @@ module _ (is : Star → Bool) where
   all_are [] h = refl
   all_are (r ∷ rs) h = rw (h 0 (omega arith)) (all_are rs (λ (i : ℕ) b. h (suc i) (omega arith)))
 
-  pub one-is-not : (rs : List Star) (i : ℕ) → i < length rs → is (get_or rs i nought) ≡ false → all_are is rs ≡ false
-  one-is-not [] i h e = absurd (not-suc-le-zero h)
-  one-is-not (r ∷ rs) zero h e = rw e
-  one-is-not (r ∷ rs) (suc i) h e =
-      ap (λ (b : Bool). is r && b) (one-is-not rs i (le_of_suc-le-suc h) e) ∙ neither (is r)
+  pub one_is_not : (rs : List Star) (i : ℕ) → i < length rs → is (get_or rs i nought) ≡ false → all_are is rs ≡ false
+  one_is_not [] i h e = absurd (not-suc-le-zero h)
+  one_is_not (r ∷ rs) zero h e = rw e
+  one_is_not (r ∷ rs) (suc i) h e =
+      ap (λ (b : Bool). is r && b) (one_is_not rs i (le_of_suc-le-suc h) e) ∙ neither (is r)
     where
       neither : (b : Bool) → (b && false) ≡ false
       neither true = refl
@@ -45,36 +45,36 @@ module _ (w : ℕ) (at : List ℕ → ℕ → Star) (further : (k i : ℕ) (s : 
   first n s =
       λ i.
       at s (zero-mul w i)
-      ∷ upto-same n (λ (k : ℕ). at s (suc k * w)) (λ (k : ℕ). at (drop w s) (k * w))
+      ∷ upto_same n (λ (k : ℕ). at s (suc k * w)) (λ (k : ℕ). at (drop w s) (k * w))
       (λ (k : ℕ). ap (at s) (suc-mul k w ∙ add_comm (k * w) w) ∙ sym (further w (k * w) s))
       i
 
   module _ (bytes : Star → List ℕ) (long : (r : Star) → length (bytes r) ≡ w) where
-    pub length-records : (rs : List Star) → length (records_bytes bytes rs) ≡ length rs * w
-    length-records [] = sym (zero-mul w)
-    length-records (r ∷ rs) =
+    pub length_records : (rs : List Star) → length (records_bytes bytes rs) ≡ length rs * w
+    length_records [] = sym (zero-mul w)
+    length_records (r ∷ rs) =
         length-append (bytes r) (records_bytes bytes rs)
-        ∙ (λ i. long r i + length-records rs i)
+        ∙ (λ i. long r i + length_records rs i)
         ∙ add_comm w (length rs * w)
         ∙ sym (suc-mul (length rs) w)
 
     module _ (Holds : Star → Type 0) where
-      pub records-back : ((r : Star) (rest : List ℕ) → Holds r → at (bytes r ++ rest) 0 ≡ r)
+      pub records_back : ((r : Star) (rest : List ℕ) → Holds r → at (bytes r ++ rest) 0 ≡ r)
           → (rs : List Star) → AllHold Holds rs → records_at w at (length rs) (records_bytes bytes rs) ≡ rs
-      records-back back [] f = refl
-      records-back back (r ∷ rs) f =
+      records_back back [] f = refl
+      records_back back (r ∷ rs) f =
           let rest = records_bytes bytes rs in
           first (length rs) (bytes r ++ rest)
           ∙ (λ i. back r rest f.0 i ∷ records_at w at (length rs) (drop_at (bytes r) rest w (long r) i))
-          ∙ ap (λ (l : List Star). r ∷ l) (records-back back rs f.1)
+          ∙ ap (λ (l : List Star). r ∷ l) (records_back back rs f.1)
 
-      pub records-here : ((s : List ℕ) → Bytes s → w ≤ length s → (bytes (at s 0) ++ drop w s ≡ s) × Holds (at s 0))
+      pub records_here : ((s : List ℕ) → Bytes s → w ≤ length s → (bytes (at s 0) ++ drop w s ≡ s) × Holds (at s 0))
           → (n : ℕ) (s : List ℕ) → length s ≡ n * w → Bytes s → Kept bytes Holds (records_at w at n s) s
-      records-here here zero [] h y = record { bytes = refl; fitting = tt }
-      records-here here zero (b ∷ s) h y = absurd (omega (arith, zero-mul w))
-      records-here here (suc n) s h y =
+      records_here here zero [] h y = record { bytes = refl; fitting = tt }
+      records_here here zero (b ∷ s) h y = absurd (omega (arith, zero-mul w))
+      records_here here (suc n) s h y =
           let p = here s y (omega (arith, suc-mul n w)) in
-          let k = records-here here n (drop w s) (length-drop w s ∙ omega (arith, suc-mul n w)) (bytes_drop w s y) in
+          let k = records_here here n (drop w s) (length-drop w s ∙ omega (arith, suc-mul n w)) (bytes_drop w s y) in
           let e = first n s in
           record {
             bytes = ap (records_bytes bytes) e ∙ ap (λ (l : List ℕ). bytes (at s 0) ++ l) k.bytes ∙ p.0;

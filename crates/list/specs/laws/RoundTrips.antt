@@ -4,12 +4,12 @@ use Rattle.std.proofs.Common.{ap, ◌∙◌, arith, le-leb, eq-eqb}
 use Rattle.list.specs.rules.Record.{width, star_at, star_bytes, Fitting}
 use Rattle.list.specs.rules.Stars.{most_stars, is_list, count_of, stars, records_at, list_bytes, AllFitting, Bytes}
 use Rattle.list.specs.notions.Whole.{Whole}
-use Rattle.list.specs.laws.Record.{length_star, star_back, star_fits, record-here, star_drop}
-use Rattle.list.specs.laws.Records.{length-records, records-back, records-here}
+use Rattle.list.specs.laws.Record.{length_star, star_back, star_fits, record_here, star_drop}
+use Rattle.list.specs.laws.Records.{length_records, records_back, records_here}
 use Rattle.list.specs.declared.Star.{Star}
 
 pub length_list : (rs : List Star) → length (list_bytes rs) ≡ width * length rs
-length_list rs = length-records width star_at star_drop star_bytes length_star rs ∙ omega arith
+length_list rs = length_records width star_at star_drop star_bytes length_star rs ∙ omega arith
 
 pub is_list_lem : (rs : List Star) → length rs ≤ most_stars → is_list (list_bytes rs) ≡ true
 unfolding is_list
@@ -23,14 +23,14 @@ pub stars_back : (rs : List Star) → AllFitting rs → stars (list_bytes rs) �
 unfolding stars count_of
 stars_back rs f =
     ap (λ (n : ℕ). records_at width star_at n (list_bytes rs)) (let e : length (list_bytes rs) / width ≡ length rs = omega (arith, length_list rs) in e)
-    ∙ records-back width star_at star_drop star_bytes length_star Fitting star_back rs f
+    ∙ records_back width star_at star_drop star_bytes length_star Fitting star_back rs f
 
 -- bytes read, whole records of them, are written back
 pub bytes_back : (s : List ℕ) → length s % width ≡ 0 → Bytes s → Whole s
 unfolding stars count_of
 bytes_back s h y =
-    records-here width star_at star_drop star_bytes length_star Fitting
-    (λ (t : List ℕ) z long. (record-here t z long, star_fits t z 0))
+    records_here width star_at star_drop star_bytes length_star Fitting
+    (λ (t : List ℕ) z long. (record_here t z long, star_fits t z 0))
     (length s / width)
     s
     (omega arith)

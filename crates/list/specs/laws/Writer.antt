@@ -26,17 +26,17 @@ start at h =
     (ltb-true at (width * most_stars) p.0, eqb-true (at % width) 0 p.1)
 
 module _ (at : ℕ) (r : Star) where
-  pub out-of-range-first : in_range r ≡ false → record_text at r ≡ refused 9
+  pub out_of_range_first : in_range r ≡ false → record_text at r ≡ refused 9
   unfolding record_text
-  out-of-range-first e = rw e
+  out_of_range_first e = rw e
 
-  pub no-start-next : in_range r ≡ true → is_start at ≡ false → record_text at r ≡ refused 8
+  pub no_start_next : in_range r ≡ true → is_start at ≡ false → record_text at r ≡ refused 8
   unfolding record_text
-  no-start-next e f = rw (e, f)
+  no_start_next e f = rw (e, f)
 
-  pub record-text : in_range r ≡ true → is_start at ≡ true → record_text at r ≡ answered (star_bytes r)
+  pub record_text_lem : in_range r ≡ true → is_start at ≡ true → record_text at r ≡ answered (star_bytes r)
   unfolding record_text
-  record-text e f = rw (e, f)
+  record_text_lem e f = rw (e, f)
 
   -- a text is the star's record, at a record's start
   record_of : (t : List ℕ) → record_text at r ≡ answered t → (is_start at ≡ true) × (star_bytes r ≡ t)

@@ -11,9 +11,9 @@ use Rattle.double.specs.laws.Calls.{asks_nothing}
 use Rattle.list.specs.rules.Record.{in_range}
 use Rattle.list.specs.rules.Find.{index_of}
 use Rattle.list.specs.rules.Stars.{is_list, count_of, stars}
-use Rattle.list.specs.laws.Stars.{length-stars, few}
+use Rattle.list.specs.laws.Stars.{length_stars, few}
 use Rattle.list.specs.declared.Star.{Star}
-use Rattle.list_edit.specs.laws.Edit.{no_list, refuses, changes, add-zero, add-out-of-range, add-present, add-full, add-placed}
+use Rattle.list_edit.specs.laws.Edit.{no_list, refuses, changes, add-zero, add_out_of_range, add_present, add_full, add_placed}
 use Rattle.list_edit.proofs.add.Statement.{statement}
 use Rattle.list_edit.proofs.add.Tie as tie
 
@@ -36,7 +36,7 @@ returns-2 c = refuses _ _ _ (listed c.before) (add-zero _ _ c.if2.true)
 returns-3 : tie.Need-returns-3
 returns-3 c =
     let else2 = c.before.before in
-    refuses _ _ _ (listed else2.before) (add-out-of-range _ _ (sym c.before.in_range_lem.ensures ∙ not-true _ c.if3.true))
+    refuses _ _ _ (listed else2.before) (add_out_of_range _ _ (sym c.before.in_range_lem.ensures ∙ not-true _ c.if3.true))
 
 -- from here on the star is in range
 abbrev else1 : tie.Else3 → tie.Else1
@@ -52,8 +52,8 @@ returns-4 c =
     let index = c.before.index_of.ensures in
     let many = counted.count.ensures in
     refuses _ _ _ (listed (else1 else3))
-    (add-present _ _ else3.before.before.if2.false (ranged else3)
-    (omega (arith, index, many, c.if4.true, length-stars (old (else1 else3)))))
+    (add_present _ _ else3.before.before.if2.false (ranged else3)
+    (omega (arith, index, many, c.if4.true, length_stars (old (else1 else3)))))
 
 -- from here on no record has the number
 abbrev else3 : tie.Else4 → tie.Else3
@@ -63,7 +63,7 @@ absent : (c : tie.Else4) → length (stars (old (else1 (else3 c)))) ≤ index_of
 absent c =
     let index = c.before.index_of.ensures in
     let many = c.before.before.before.count.ensures in
-    omega (arith, index, many, c.if4.false, length-stars (old (else1 (else3 c))))
+    omega (arith, index, many, c.if4.false, length_stars (old (else1 (else3 c))))
 
 returns-5 : tie.Need-returns-5
 returns-5 c =
@@ -72,8 +72,8 @@ returns-5 c =
     let index = c.before.index-of2.ensures in
     let many = else4.before.before.before.count.ensures in
     refuses _ _ _ (listed (else1 e))
-    (add-full _ _ e.before.before.if2.left (ranged e) (absent else4)
-    (omega (arith, index, many, c.if5.true, length-stars (old (else1 e)))))
+    (add_full _ _ e.before.before.if2.left (ranged e) (absent else4)
+    (omega (arith, index, many, c.if5.true, length_stars (old (else1 e)))))
 
 -- from here on a place is empty
 abbrev else4 : tie.Else5 → tie.Else4
@@ -92,8 +92,8 @@ returns-6 c =
     let found = else5.before.index-of2 in
     let inside = index else5 in
     changes _ _ found.result (star (else1 e)) _ _ (λ k. ((else1 e).before.before.before.slice-known.given k).fits) (listed (else1 e)) inside
-    (add-placed _ _ e.before.before.if2.left (ranged e) (absent (else4 else5)) found.result found.ensures
-    (omega (arith, inside, length-stars (old (else1 e)))))
+    (add_placed _ _ e.before.before.if2.left (ranged e) (absent (else4 else5)) found.result found.ensures
+    (omega (arith, inside, length_stars (old (else1 e)))))
     c.before.before.write-star.ensures
 
 pub add_spec : {M : Type 1} → statement M

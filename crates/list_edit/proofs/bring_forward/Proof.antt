@@ -5,10 +5,10 @@ use Prim.Native.Nat.{◌-◌, ◌≤◌}
 use native.Mathlib.Omega.{arith}
 use Rattle.double.specs.laws.Calls.{asks_nothing}
 use Rattle.lent.specs.rules.Writing.{Wrote}
-use Rattle.lent.specs.laws.Writing.{same, nothing, length-kept}
+use Rattle.lent.specs.laws.Writing.{same, nothing, length_kept}
 use Rattle.list.specs.rules.Stars.{count_of}
 use Rattle.list_edit.specs.notions.Edit.{kept_upto}
-use Rattle.list_edit.specs.laws.Passes.{one_kept, all-kept}
+use Rattle.list_edit.specs.laws.Passes.{one_kept, all_kept}
 use Rattle.list_edit.proofs.bring_forward.Statement.{statement}
 use Rattle.list_edit.proofs.bring_forward.Tie as tie
 
@@ -38,12 +38,12 @@ loop-again c =
     (omega arith, (inv.1.0, one_more))
 
 same_length : tie.Need-same-length invariant-loop decreases-loop
-same_length c = length-kept c.before.loop.invariant.1.1
+same_length c = length_kept c.before.loop.invariant.1.1
 
 returns : tie.Need-returns invariant-loop decreases-loop
 returns c =
     let loop = c.before.loop in
-    same (all-kept _ loop.i (omega (arith, loop.invariant))) loop.invariant.1.1
+    same (all_kept _ loop.i (omega (arith, loop.invariant))) loop.invariant.1.1
 
 pub bring-forward-spec : {M : Type 1} → statement M
 bring-forward-spec =

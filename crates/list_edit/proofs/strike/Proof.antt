@@ -10,8 +10,8 @@ use Rattle.double.specs.laws.Calls.{asks_nothing}
 use Rattle.lent.specs.laws.Writing.{same}
 use Rattle.list.specs.rules.Record.{star_bytes}
 use Rattle.list.specs.rules.Stars.{is_list, count_of, nought}
-use Rattle.list.specs.laws.Stars.{length-stars, few}
-use Rattle.list_edit.specs.laws.Edit.{no_list, refuses, changes, strike-zero, strike-absent, strike-present}
+use Rattle.list.specs.laws.Stars.{length_stars, few}
+use Rattle.list_edit.specs.laws.Edit.{no_list, refuses, changes, strike_zero, strike_absent, strike_present}
 use Rattle.list_edit.proofs.strike.Statement.{statement}
 use Rattle.list_edit.proofs.strike.Tie as tie
 
@@ -26,14 +26,14 @@ listed : (c : tie.Else1) → is_list (old c) ≡ true
 listed c = sym c.before.is_list_lem.ensures ∙ not-false _ c.if1.false
 
 returns-2 : tie.Need-returns-2
-returns-2 c = refuses _ _ _ (listed c.before) (strike-zero _ _ c.if2.true)
+returns-2 c = refuses _ _ _ (listed c.before) (strike_zero _ _ c.if2.true)
 
 returns-3 : tie.Need-returns-3
 returns-3 c =
     let found = c.before.before.before in
     let else1 = found.before.before.before in
     let many = c.before.count.ensures in
-    refuses _ _ _ (listed else1) (strike-absent _ _ (omega (arith, found.index_of.ensures, many, c.if3.true, length-stars (old else1))))
+    refuses _ _ _ (listed else1) (strike_absent _ _ (omega (arith, found.index_of.ensures, many, c.if3.true, length_stars (old else1))))
 
 -- from here on a record has the number
 abbrev else1 : tie.Else3 → tie.Else1
@@ -53,7 +53,7 @@ returns-4 c =
     let i = found.index_of.result in
     let inside = index else3 in
     changes _ _ i nought _ _ (λ k. (e.before.before.before.slice-known.given k).fits) (listed e) inside
-    (strike-present _ _ i found.before.before.if2.false found.index_of.ensures (omega (arith, inside, length-stars (old e))))
+    (strike_present _ _ i found.before.before.if2.false found.index_of.ensures (omega (arith, inside, length_stars (old e))))
     (same (ap star_bytes c.before.before.before.nought.ensures) c.before.before.write-star.ensures)
 
 pub strike-spec : {M : Type 1} → statement M

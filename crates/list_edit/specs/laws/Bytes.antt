@@ -10,7 +10,7 @@ use Rattle.lent.specs.rules.Writing.{written}
 use Rattle.list.specs.rules.Record.{width, star_at, star_bytes, word_bytes}
 use Rattle.list.specs.rules.Stars.{count_of, nth, nought, list_bytes}
 use Rattle.list.specs.laws.Record.{length_star, star_drop}
-use Rattle.list.specs.laws.Stars.{nth-is}
+use Rattle.list.specs.laws.Stars.{nth_is}
 use Rattle.list.specs.declared.Star.{Star}
 
 module _ {A : Type 0} where
@@ -76,10 +76,10 @@ pub nth_behind : (s t cur : List ℕ) (i : ℕ) → cur ≡ written s 0 t → le
     → nth cur i ≡ nth s i
 nth_behind s t cur i e long h k =
     let z : i * width + 0 ≡ i * width = omega arith in
-    nth-is cur i (omega (arith, count_same cur s long))
+    nth_is cur i (omega (arith, count_same cur s long))
     ∙ ap (star_at cur) (sym z)
     ∙ sym (star_drop (i * width) 0 cur)
     ∙ ap (λ (l : List ℕ). star_at l 0) (ap (drop (i * width)) e ∙ behind s t (i * width) h)
     ∙ star_drop (i * width) 0 s
     ∙ ap (star_at s) z
-    ∙ sym (nth-is s i k)
+    ∙ sym (nth_is s i k)

@@ -13,7 +13,7 @@ use Rattle.lent.specs.laws.Flags.{both_hold}
 use Rattle.list.specs.rules.Record.{width, in_range, star_bytes}
 use Rattle.list.specs.rules.Stars.{is_list, count_of, stars, is_kept, nought, list_bytes, Bytes}
 use Rattle.list.specs.rules.Find.{index_of}
-use Rattle.list.specs.laws.Stars.{length-stars, whole}
+use Rattle.list.specs.laws.Stars.{length_stars, whole}
 use Rattle.list.specs.laws.RoundTrips.{bytes_back}
 use Rattle.list.specs.declared.Star.{Star}
 use Rattle.list_edit.specs.rules.Edit.{is_present, strike_in, add_in, on_list, shown_edited, Edit}
@@ -46,7 +46,7 @@ module _ (edit : List Star → Answer (List Star)) (s : List ℕ) where
       edits (set (stars s) i r) new a e
       (w.text
       ∙ sym
-      (bytes_set (stars s) i r (omega (arith, length-stars s)) ∙ ap (λ (l : List ℕ). written l (i * width) (star_bytes r)) b.bytes))
+      (bytes_set (stars s) i r (omega (arith, length_stars s)) ∙ ap (λ (l : List ℕ). written l (i * width) (star_bytes r)) b.bytes))
 
   pub on_list : is_list s ≡ true → on_list edit s ≡ with list_bytes (edit (stars s))
   unfolding on_list
@@ -64,9 +64,9 @@ module _ (edit : List Star → Answer (List Star)) (s : List ℕ) where
       go false a h = absurd (refused_not_answered h)
 
   -- any refusal but 8 is the stars' own
-  pub own-refusal : (k : ℕ) → (8 ≡ k → ⊥) → on_list edit s ≡ refused k → edit (stars s) ≡ refused k
+  pub own_refusal : (k : ℕ) → (8 ≡ k → ⊥) → on_list edit s ≡ refused k → edit (stars s) ≡ refused k
   unfolding on_list
-  own-refusal k other h = go (is_list s) h
+  own_refusal k other h = go (is_list s) h
     where
       go : (a : Bool) → cond a (with list_bytes (edit (stars s))) (refused 8) ≡ refused k → edit (stars s) ≡ refused k
       go true h = with_refused (edit (stars s)) list_bytes k h
@@ -75,44 +75,44 @@ module _ (edit : List Star → Answer (List Star)) (s : List ℕ) where
 -- ---- strike and add, case by case
 
 module _ (rs : List Star) where
-  pub strike-zero : (k : ℕ) → k ≡ 0 → strike_in k rs ≡ refused 10
+  pub strike_zero : (k : ℕ) → k ≡ 0 → strike_in k rs ≡ refused 10
   unfolding strike_in
-  strike-zero k h = rw (eq-eqb k 0 h)
+  strike_zero k h = rw (eq-eqb k 0 h)
 
-  pub strike-absent : (k : ℕ) → length rs ≤ index_of k rs → strike_in k rs ≡ refused 10
+  pub strike_absent : (k : ℕ) → length rs ≤ index_of k rs → strike_in k rs ≡ refused 10
   unfolding strike_in
-  strike-absent k h = go (not (eqb k 0))
+  strike_absent k h = go (not (eqb k 0))
     where
       go : (t : Bool) → cond (t && is_present k rs) (answered (set rs (index_of k rs) nought)) (refused 10) ≡ refused 10
       go true = rw (le-ltb (index_of k rs) (length rs) h)
       go false = refl
 
-  pub strike-present : (k i : ℕ) → (k ≡ 0 → ⊥) → i ≡ index_of k rs → i < length rs → strike_in k rs ≡ answered (set rs i nought)
+  pub strike_present : (k i : ℕ) → (k ≡ 0 → ⊥) → i ≡ index_of k rs → i < length rs → strike_in k rs ≡ answered (set rs i nought)
   unfolding strike_in
-  strike-present k i z e h = rw (← e, ne_eqb k 0 z, lt-ltb i (length rs) h)
+  strike_present k i z e h = rw (← e, ne_eqb k 0 z, lt-ltb i (length rs) h)
 
   module _ (r : Star) where
     pub add-zero : r.number ≡ 0 → add_in r rs ≡ refused 9
     unfolding add_in
     add-zero h = rw (eq-eqb r.number 0 h)
 
-    pub add-out-of-range : in_range r ≡ false → add_in r rs ≡ refused 9
+    pub add_out_of_range : in_range r ≡ false → add_in r rs ≡ refused 9
     unfolding add_in
-    add-out-of-range h = rw h (go (is_kept r) _)
+    add_out_of_range h = rw h (go (is_kept r) _)
       where
         go : (t : Bool) (a : Answer (List Star)) → cond (t && false) a (refused 9) ≡ refused 9
         go true a = refl
         go false a = refl
 
     module _ (z : r.number ≡ 0 → ⊥) (range : in_range r ≡ true) where
-      pub add-present : index_of r.number rs < length rs → add_in r rs ≡ refused 18
+      pub add_present : index_of r.number rs < length rs → add_in r rs ≡ refused 18
       unfolding add_in
-      add-present h = rw (ne_eqb r.number 0 z, range, lt-ltb (index_of r.number rs) (length rs) h)
+      add_present h = rw (ne_eqb r.number 0 z, range, lt-ltb (index_of r.number rs) (length rs) h)
 
       module _ (absent : length rs ≤ index_of r.number rs) where
-        pub add-full : length rs ≤ index_of 0 rs → add_in r rs ≡ refused 19
+        pub add_full : length rs ≤ index_of 0 rs → add_in r rs ≡ refused 19
         unfolding add_in
-        add-full h =
+        add_full h =
             rw (
               ne_eqb r.number 0 z,
               range,
@@ -120,9 +120,9 @@ module _ (rs : List Star) where
               le-ltb (index_of 0 rs) (length rs) h,
             )
 
-        pub add-placed : (i : ℕ) → i ≡ index_of 0 rs → i < length rs → add_in r rs ≡ answered (set rs i r)
+        pub add_placed : (i : ℕ) → i ≡ index_of 0 rs → i < length rs → add_in r rs ≡ answered (set rs i r)
         unfolding add_in
-        add-placed i e h =
+        add_placed i e h =
             rw (ne_eqb r.number 0 z, range, le-ltb (index_of r.number rs) (length rs) absent, ← e, lt-ltb i (length rs) h)
 
 -- ---- what an answer tells, and 19

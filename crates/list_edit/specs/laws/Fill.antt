@@ -9,8 +9,8 @@ use Rattle.list.specs.rules.Find.{index_of}
 use Rattle.list.specs.declared.Star.{Star}
 use Rattle.list_edit.specs.rules.Edit.{add_in}
 use Rattle.list_edit.specs.notions.Ledger.{adds, on_stars, entered, after_calls, star_ledger_of, one, how_many, has_number, Addable, adds_of}
-use Rattle.list_edit.specs.laws.Edit.{not_zero, add-placed}
-use Rattle.list_edit.specs.laws.HowMany.{how-many-join, how-many-empty, none-past}
+use Rattle.list_edit.specs.laws.Edit.{not_zero, add_placed}
+use Rattle.list_edit.specs.laws.HowMany.{how_many_join, how_many_empty, none_past}
 
 -- the first empty place behind those that are taken
 first_empty : (before rest : List Star) → how_many (has_number 0) before ≡ 0 → index_of 0 (before ++ (nought ∷ rest)) ≡ length before
@@ -31,9 +31,9 @@ one_placed before m r h keep range new =
     let above = not_zero r.number keep in
     let rest = replicate m nought in
     let k = r.number in
-    let none = how-many-empty (has_number k) (ne_eqb 0 k (λ z. omega arith)) (suc m) in
-    add-placed (before ++ (nought ∷ rest)) r (λ q. omega arith) range
-    (none-past k (before ++ (nought ∷ rest)) (how-many-join (has_number k) before (replicate (suc m) nought) ∙ omega (arith, new, none)))
+    let none = how_many_empty (has_number k) (ne_eqb 0 k (λ z. omega arith)) (suc m) in
+    add_placed (before ++ (nought ∷ rest)) r (λ q. omega arith) range
+    (none_past k (before ++ (nought ∷ rest)) (how_many_join (has_number k) before (replicate (suc m) nought) ∙ omega (arith, new, none)))
     (length before) (sym (first_empty before rest h)) (omega (arith, length-append before (nought ∷ rest)))
     ∙ ap answered (set-append_seam before nought rest r ∙ sym (append_assoc before (r ∷ []) rest))
 
@@ -46,7 +46,7 @@ all_placed before [] book m h a =
 all_placed before (r ∷ rs) book m h a =
     let above = not_zero r.number a.0 in
     let q = ap one (ne_eqb r.number 0 (λ z. omega arith)) in
-    let none : how_many (has_number 0) (before ++ (r ∷ [])) ≡ 0 = how-many-join (has_number 0) before (r ∷ []) ∙ omega (arith, h, q) in
+    let none : how_many (has_number 0) (before ++ (r ∷ [])) ≡ 0 = how_many_join (has_number 0) before (r ∷ []) ∙ omega (arith, h, q) in
     ap (λ (n : ℕ). (after_calls on_stars (adds r ∷ adds_of rs) (record { list = before ++ replicate n nought; book = book })).list)
     (let e : suc (length rs) + m ≡ suc (length rs + m) = omega arith in e)
     ∙ ap (λ (w : Answer (List Star)).

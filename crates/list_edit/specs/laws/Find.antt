@@ -12,7 +12,7 @@ use Rattle.list.specs.declared.Star.{Star}
 use Rattle.list_edit.specs.rules.Edit.{gathered, gather_rule, Edit}
 use Rattle.list_edit.specs.notions.Edit.{star_of}
 use Rattle.list_edit.specs.laws.Fitting.{list_by_length}
-use Rattle.list_edit.specs.laws.Calls.{stars-gathered, gather-as-long}
+use Rattle.list_edit.specs.laws.Calls.{stars_gathered, gather_as_long}
 use Rattle.list_edit.specs.declared.Edited.TheVariants.{Done}
 
 -- the first with the number as find answers it
@@ -52,13 +52,13 @@ first_found k (r ∷ rs) = go (eqb r.number k) (first_found k rs)
     go false ih = later (ltb (index_of k rs) (length rs)) refl ih
 
 module _ (k : ℕ) (above : 0 < k) where
-  first-empties : (m : ℕ) → first_of k (replicate m nought) ≡ refused 10
-  first-empties zero = refl
-  first-empties (suc m) = rw (ne_eqb 0 k (λ z. omega arith)) (first-empties m)
+  first_empties : (m : ℕ) → first_of k (replicate m nought) ≡ refused 10
+  first_empties zero = refl
+  first_empties (suc m) = rw (ne_eqb 0 k (λ z. omega arith)) (first_empties m)
 
-  first-kept : (rs : List Star) (m : ℕ) → first_of k (kept rs ++ replicate m nought) ≡ first_of k rs
-  first-kept [] m = first-empties m
-  first-kept (r ∷ rs) m = go (eqb r.number 0) refl (first-kept rs m)
+  first_kept : (rs : List Star) (m : ℕ) → first_of k (kept rs ++ replicate m nought) ≡ first_of k rs
+  first_kept [] m = first_empties m
+  first_kept (r ∷ rs) m = go (eqb r.number 0) refl (first_kept rs m)
     where
       go : (t : Bool) → eqb r.number 0 ≡ t → first_of k (kept rs ++ replicate m nought) ≡ first_of k rs
           → first_of k (cond (not t) (r ∷ kept rs) (kept rs) ++ replicate m nought)
@@ -66,10 +66,10 @@ module _ (k : ℕ) (above : 0 < k) where
       go true e ih = let z = eqb-true r.number 0 e in rw (ne_eqb r.number k (λ q. omega (arith, z, q))) ih
       go false e ih = ap (λ (a : Answer Star). cond (eqb r.number k) (with star_of (entry 0 r)) a) ih
 
-  found-gathered : (rs : List Star)
+  found_gathered : (rs : List Star)
       → with star_of (entry_at (gathered rs) (index_of k (gathered rs))) ≡ with star_of (entry_at rs (index_of k rs))
   unfolding gathered
-  found-gathered rs = first_found k (gathered rs) ∙ first-kept rs (length rs - length (kept rs)) ∙ sym (first_found k rs)
+  found_gathered rs = first_found k (gathered rs) ∙ first_kept rs (length rs - length (kept rs)) ∙ sym (first_found k rs)
 
 module _ (k : ℕ) where
   above : (k ≡ 0 → ⊥) → 0 < k
@@ -79,21 +79,21 @@ module _ (k : ℕ) where
       go true e = ltb-true 0 k e
       go false e = let low = ltb-false 0 k e in absurd (h (omega arith))
 
-  found-or-ten : (rs : List Star) → with star_of (find_in (gathered rs) k) ≡ with star_of (find_in rs k)
-  found-or-ten rs = go (eqb k 0) refl
+  found_or_ten : (rs : List Star) → with star_of (find_in (gathered rs) k) ≡ with star_of (find_in rs k)
+  found_or_ten rs = go (eqb k 0) refl
     where
       go : (z : Bool) → eqb k 0 ≡ z
           → with star_of (cond z (refused 10) (entry_at (gathered rs) (index_of k (gathered rs))))
           ≡ with star_of (cond z (refused 10) (entry_at rs (index_of k rs)))
       go true e = refl
-      go false e = found-gathered k (above (eqb-false k 0 e)) rs
+      go false e = found_gathered k (above (eqb-false k 0 e)) rs
 
-  pub find-after-gather : (s : List ℕ) → Bytes s → (new : List ℕ) → Edit (gather_rule s) s new Done
+  pub find_after_gather : (s : List ℕ) → Bytes s → (new : List ℕ) → Edit (gather_rule s) s new Done
       → with star_of (find_rule new k) ≡ with star_of (find_rule s k)
-  find-after-gather s y new p =
-      (λ i. with star_of (cond (list_by_length new s (gather-as-long s y new p) i) (find_in (stars-gathered s y new p i) k) (refused 8)))
+  find_after_gather s y new p =
+      (λ i. with star_of (cond (list_by_length new s (gather_as_long s y new p) i) (find_in (stars_gathered s y new p i) k) (refused 8)))
       ∙ go (is_list s)
     where
       go : (t : Bool) → with star_of (cond t (find_in (gathered (stars s)) k) (refused 8)) ≡ with star_of (cond t (find_in (stars s) k) (refused 8))
-      go true = found-or-ten (stars s)
+      go true = found_or_ten (stars s)
       go false = refl

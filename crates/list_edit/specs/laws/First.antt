@@ -15,10 +15,10 @@ use Rattle.list_edit.specs.notions.Edit.{Absent}
 
 module _ (k : ℕ) where
   -- its index is no more than how many there are
-  pub index-within : (rs : List Star) → index_of k rs ≤ length rs
+  pub index_within : (rs : List Star) → index_of k rs ≤ length rs
   unfolding index_of
-  index-within [] = omega arith
-  index-within (r ∷ rs) = go (eqb r.number k) (index-within rs)
+  index_within [] = omega arith
+  index_within (r ∷ rs) = go (eqb r.number k) (index_within rs)
     where
       go : (t : Bool) → index_of k rs ≤ length rs → cond t 0 (suc (index_of k rs)) ≤ suc (length rs)
       go true h = omega arith
@@ -49,11 +49,11 @@ module _ (k : ℕ) where
       go false t (suc j) h e ih = ih j (omega arith) e
 
   -- the index of a number that no record has is past the last record, both ways
-  pub past-absent : (rs : List Star) → length rs ≤ index_of k rs → Absent k rs
-  past-absent rs h j inside e = none_before rs j (omega arith) e
+  pub past_absent : (rs : List Star) → length rs ≤ index_of k rs → Absent k rs
+  past_absent rs h j inside e = none_before rs j (omega arith) e
 
-  pub absent-past : (rs : List Star) → Absent k rs → length rs ≤ index_of k rs
-  absent-past rs h = go (ltb (index_of k rs) (length rs)) refl
+  pub absent_past : (rs : List Star) → Absent k rs → length rs ≤ index_of k rs
+  absent_past rs h = go (ltb (index_of k rs) (length rs)) refl
     where
       go : (t : Bool) → ltb (index_of k rs) (length rs) ≡ t → length rs ≤ index_of k rs
       go true e = let i = ltb-true (index_of k rs) (length rs) e in absurd (h (index_of k rs) i (found rs i))

@@ -43,31 +43,31 @@ kept_twice (r ∷ rs) = go (is_kept r) refl (kept_twice rs)
 
 module _ (rs : List Star) where
   -- the kept before are the kept after
-  pub gathered-keeps : kept (gathered rs) ≡ kept rs
+  pub gathered_keeps : kept (gathered rs) ≡ kept rs
   unfolding gathered
-  gathered-keeps =
+  gathered_keeps =
       let m = length rs - length (kept rs) in
       kept_join (kept rs) (replicate m nought)
       ∙ (λ i. kept_twice rs i ++ kept_empty m i)
       ∙ append-nil (kept rs)
 
-  pub gathered-length : length (gathered rs) ≡ length rs
+  pub gathered_length : length (gathered rs) ≡ length rs
   unfolding gathered
-  gathered-length =
+  gathered_length =
       let m = length rs - length (kept rs) in
       length-append (kept rs) (replicate m nought) ∙ omega (arith, length-replicate m nought, fewer_kept rs)
 
   -- only zero bytes behind them
-  pub gathered-bytes : list_bytes (gathered rs) ≡ list_bytes (kept rs) ++ replicate (width * (length rs - length (kept rs))) 0
+  pub gathered_bytes : list_bytes (gathered rs) ≡ list_bytes (kept rs) ++ replicate (width * (length rs - length (kept rs))) 0
   unfolding gathered
-  gathered-bytes =
+  gathered_bytes =
       let m = length rs - length (kept rs) in
       bytes_join (kept rs) (replicate m nought) ∙ ap (λ (l : List ℕ). list_bytes (kept rs) ++ l) (empty_bytes m)
 
   -- a list with the same kept records and as many places is gathered to the same
-  gathered-same : (ts : List Star) → kept ts ≡ kept rs → length ts ≡ length rs → gathered ts ≡ gathered rs
+  gathered_same : (ts : List Star) → kept ts ≡ kept rs → length ts ≡ length rs → gathered ts ≡ gathered rs
   unfolding gathered
-  gathered-same ts e h = λ i. e i ++ replicate (h i - length (e i)) nought
+  gathered_same ts e h = λ i. e i ++ replicate (h i - length (e i)) nought
 
 pub gathered_twice : (rs : List Star) → gathered (gathered rs) ≡ gathered rs
-gathered_twice rs = gathered-same rs (gathered rs) (gathered-keeps rs) (gathered-length rs)
+gathered_twice rs = gathered_same rs (gathered rs) (gathered_keeps rs) (gathered_length rs)

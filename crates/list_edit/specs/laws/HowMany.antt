@@ -15,25 +15,25 @@ use Rattle.list_edit.specs.notions.Ledger.{without, one, how_many, has_number, b
 
 module _ (p : Star → Bool) where
   -- one record changed
-  pub how-many-set : (rs : List Star) (i : ℕ) (r : Star) → i < length rs
+  pub how_many_set : (rs : List Star) (i : ℕ) (r : Star) → i < length rs
       → how_many p (set rs i r) + one (p (get_or rs i nought)) ≡ how_many p rs + one (p r)
-  how-many-set [] i r h = absurd (omega arith)
-  how-many-set (q ∷ rs) zero r h = omega arith
-  how-many-set (q ∷ rs) (suc i) r h = omega (arith, how-many-set rs i r (le_of_suc-le-suc h))
+  how_many_set [] i r h = absurd (omega arith)
+  how_many_set (q ∷ rs) zero r h = omega arith
+  how_many_set (q ∷ rs) (suc i) r h = omega (arith, how_many_set rs i r (le_of_suc-le-suc h))
 
-  pub how-many-join : (rs ts : List Star) → how_many p (rs ++ ts) ≡ how_many p rs + how_many p ts
-  how-many-join [] ts = omega arith
-  how-many-join (r ∷ rs) ts = omega (arith, how-many-join rs ts)
+  pub how_many_join : (rs ts : List Star) → how_many p (rs ++ ts) ≡ how_many p rs + how_many p ts
+  how_many_join [] ts = omega arith
+  how_many_join (r ∷ rs) ts = omega (arith, how_many_join rs ts)
 
   -- none of so many empty places
-  pub how-many-empty : p nought ≡ false → (n : ℕ) → how_many p (replicate n nought) ≡ 0
-  how-many-empty e zero = refl
-  how-many-empty e (suc n) = let q = ap one e in omega (arith, q, how-many-empty e n)
+  pub how_many_empty : p nought ≡ false → (n : ℕ) → how_many p (replicate n nought) ≡ 0
+  how_many_empty e zero = refl
+  how_many_empty e (suc n) = let q = ap one e in omega (arith, q, how_many_empty e n)
 
 module _ (p q : Star → Bool) where
-  pub how-many-same : ((r : Star) → p r ≡ q r) → (rs : List Star) → how_many p rs ≡ how_many q rs
-  how-many-same h [] = refl
-  how-many-same h (r ∷ rs) = λ i. one (h r i) + how-many-same h rs i
+  pub how_many_same : ((r : Star) → p r ≡ q r) → (rs : List Star) → how_many p rs ≡ how_many q rs
+  how_many_same h [] = refl
+  how_many_same h (r ∷ rs) = λ i. one (h r i) + how_many_same h rs i
 
   part : (a b : Bool) → one (a && b) ≤ one b
   part true b = omega arith
@@ -78,10 +78,10 @@ module _ (p c : Star → Bool) where
 
 -- a star taken out by its number
 module _ (p : Star → Bool) (k : ℕ) where
-  pub how-many-without : (rs : List Star) → how_many (has_number k) rs ≤ 1
+  pub how_many_without : (rs : List Star) → how_many (has_number k) rs ≤ 1
       → how_many p (without k rs) + how_many (both p (has_number k)) rs ≡ how_many p rs
-  how-many-without [] h = refl
-  how-many-without (r ∷ rs) h = go (eqb r.number k) refl (how-many-without rs)
+  how_many_without [] h = refl
+  how_many_without (r ∷ rs) h = go (eqb r.number k) refl (how_many_without rs)
     where
       go : (t : Bool) → eqb r.number k ≡ t
           → (how_many (has_number k) rs ≤ 1 → how_many p (without k rs) + how_many (both p (has_number k)) rs ≡ how_many p rs)
@@ -107,10 +107,10 @@ module _ (k : ℕ) where
       go true e h ih = absurd (omega arith)
       go false e h ih = let q = ap one e in omega (arith, q, ih (omega arith))
 
-  pub none-past : (rs : List Star) → how_many (has_number k) rs ≡ 0 → length rs ≤ index_of k rs
+  pub none_past : (rs : List Star) → how_many (has_number k) rs ≡ 0 → length rs ≤ index_of k rs
   unfolding index_of
-  none-past [] h = omega arith
-  none-past (r ∷ rs) h = go (eqb r.number k) h (none-past rs)
+  none_past [] h = omega arith
+  none_past (r ∷ rs) h = go (eqb r.number k) h (none_past rs)
     where
       go : (t : Bool) → one t + how_many (has_number k) rs ≡ 0 → (how_many (has_number k) rs ≡ 0 → length rs ≤ index_of k rs)
           → suc (length rs) ≤ cond t 0 (suc (index_of k rs))

@@ -15,9 +15,9 @@ use Rattle.list_edit.specs.notions.Ledger.{Call, adds, strikes, gathers, on_byte
 use Rattle.list_edit.specs.notions.Ledger.{ledger_of, star_ledger_of, FittingCall, AllFittingCalls, how_many, has_number, Follows, Addable, adds_of}
 use Rattle.list_edit.specs.laws.Bytes.{empty_bytes}
 use Rattle.list_edit.specs.laws.Edit.{on_list, struck, placed}
-use Rattle.list_edit.specs.laws.Gather.{gathered-length}
+use Rattle.list_edit.specs.laws.Gather.{gathered_length}
 use Rattle.list_edit.specs.laws.Fitting.{nought_fits, set_fits, empty_fits, gathered_fits, list_by_length}
-use Rattle.list_edit.specs.laws.Balance.{kept-is-book, numbers-once}
+use Rattle.list_edit.specs.laws.Balance.{kept_is_book, numbers_once}
 use Rattle.list_edit.specs.laws.Fill.{adds_fill}
 
 -- ---- an answered call leaves as many places, and fields that have words
@@ -31,7 +31,7 @@ module _ (rs : List Star) (f : AllFitting rs) where
       subst (Made rs) (sym (placed rs r ts e).is) (set_fits rs (index_of 0 rs) r f g, length-set rs (index_of 0 rs) r)
   made (strikes k) g ts e =
       subst (Made rs) (sym (struck rs k ts e).is) (set_fits rs (index_of k rs) nought f nought_fits, length-set rs (index_of k rs) nought)
-  made gathers g ts e = subst (Made rs) (same_value e) (gathered_fits rs f, gathered-length rs)
+  made gathers g ts e = subst (Made rs) (same_value e) (gathered_fits rs f, gathered_length rs)
 
 -- ---- the bytes follow the stars
 
@@ -74,8 +74,8 @@ follows (c ∷ cs) g h f w = follows cs _ _ f.1 (call_follows g h c f.0 w)
 -- ---- from n places on that are all zero
 
 module _ (n : ℕ) (few : n ≤ most_stars) (cs : List Call) (f : AllFittingCalls cs) where
-  at-end : Follows (ledger_of n cs) (star_ledger_of n cs)
-  at-end =
+  at_end_lem : Follows (ledger_of n cs) (star_ledger_of n cs)
+  at_end_lem =
       follows cs _ _ f
       (record {
         bytes = sym (empty_bytes n);
@@ -86,20 +86,20 @@ module _ (n : ℕ) (few : n ≤ most_stars) (cs : List Call) (f : AllFittingCall
             ∙ is_list_lem (replicate n nought) (omega (arith, length-replicate n nought));
       })
 
-  stars-at-end : stars (ledger_of n cs).list ≡ (star_ledger_of n cs).list
-  stars-at-end = ap stars at-end.bytes ∙ stars_back (star_ledger_of n cs).list at-end.fits
+  stars_at_end : stars (ledger_of n cs).list ≡ (star_ledger_of n cs).list
+  stars_at_end = ap stars at_end_lem.bytes ∙ stars_back (star_ledger_of n cs).list at_end_lem.fits
 
   -- the kept stars are the answered adds less the answered strikes: as many pass any test
   pub ledger : (p : Star → Bool) → how_many p (kept (stars (ledger_of n cs).list)) ≡ how_many p (ledger_of n cs).book
-  ledger p = ap (λ (rs : List Star). how_many p (kept rs)) stars-at-end ∙ kept-is-book n cs p ∙ ap (how_many p) (sym at-end.book)
+  ledger p = ap (λ (rs : List Star). how_many p (kept rs)) stars_at_end ∙ kept_is_book n cs p ∙ ap (how_many p) (sym at_end_lem.book)
 
-  pub no-number-twice : (k : ℕ) → 0 < k → how_many (has_number k) (stars (ledger_of n cs).list) ≤ 1
-  no-number-twice k h = subst (λ (rs : List Star). how_many (has_number k) rs ≤ 1) (sym stars-at-end) (numbers-once n cs k h)
+  pub no_number_twice : (k : ℕ) → 0 < k → how_many (has_number k) (stars (ledger_of n cs).list) ≤ 1
+  no_number_twice k h = subst (λ (rs : List Star). how_many (has_number k) rs ≤ 1) (sym stars_at_end) (numbers_once n cs k h)
 
-  pub still-a-list : is_list (ledger_of n cs).list ≡ true
-  still-a-list = at-end.is
+  pub still_a_list : is_list (ledger_of n cs).list ≡ true
+  still_a_list = at_end_lem.is
 
 -- stars that can be added one after the other fill as many places, in their order, and leave the others empty
 pub places_take_adds : (rs : List Star) (m : ℕ) → length rs + m ≤ most_stars → AllFittingCalls (adds_of rs) → Addable [] rs
     → stars (ledger_of (length rs + m) (adds_of rs)).list ≡ rs ++ replicate m nought
-places_take_adds rs m few f a = stars-at-end (length rs + m) few (adds_of rs) f ∙ adds_fill rs m a
+places_take_adds rs m few f a = stars_at_end (length rs + m) few (adds_of rs) f ∙ adds_fill rs m a

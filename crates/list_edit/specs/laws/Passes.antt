@@ -3,17 +3,17 @@ use Rattle.std.specs.Prelude.{◌≡◌, true, List, [], ◌∷◌, ◌++◌, �
 use Rattle.std.proofs.Common.{sym, ap, ◌∙◌, append-nil, arith, length-take-le, eq-eqb, ne_eqb}
 use Rattle.std.proofs.lemmas.List.{length-replicate, replicate-append-replicate}
 use Rattle.lent.specs.rules.Writing.{written, Wrote}
-use Rattle.lent.specs.laws.Writing.{same, nothing, after, length-kept}
+use Rattle.lent.specs.laws.Writing.{same, nothing, after, length_kept}
 use Rattle.list.specs.rules.Record.{width, star_bytes}
 use Rattle.list.specs.rules.Stars.{is_list, count_of, stars, nth, kept, list_bytes}
-use Rattle.list.specs.laws.Stars.{length-stars, one_more, all-stars, whole}
+use Rattle.list.specs.laws.Stars.{length_stars, one_more, all_stars, whole}
 use Rattle.list.specs.laws.RoundTrips.{length_list}
 use Rattle.list.specs.laws.Writer.{bytes_join}
 use Rattle.list.specs.declared.Star.{Star}
 use Rattle.list_edit.specs.rules.Edit.{gathered}
 use Rattle.list_edit.specs.notions.Edit.{kept_upto}
 use Rattle.list_edit.specs.laws.Bytes.{over, nth_behind}
-use Rattle.list_edit.specs.laws.Gather.{fewer_kept, kept_join, gathered-length, gathered-bytes}
+use Rattle.list_edit.specs.laws.Gather.{fewer_kept, kept_join, gathered_length, gathered_bytes}
 
 -- ---- zeros from an offset on: none, one more, and all of them
 
@@ -26,42 +26,42 @@ module _ (out : List ℕ) (at : ℕ) where
       same (ap (λ (n : ℕ). replicate n 0) (let z : 0 ≡ offset - at = omega arith in z)) (nothing out at offset e)
 
   module _ (cur : List ℕ) (offset : ℕ) (w : Wrote out at (replicate (offset - at) 0) cur offset) where
-    pub one-zero : (new : List ℕ) (next : ℕ) → offset < length cur → Wrote cur offset (0 ∷ []) new next
+    pub one_zero : (new : List ℕ) (next : ℕ) → offset < length cur → Wrote cur offset (0 ∷ []) new next
         → Wrote out at (replicate (next - at) 0) new next
-    one-zero new next h v =
+    one_zero new next h v =
         let size = length-replicate {A = ℕ} (offset - at) 0 in
-        let more : offset - at + 1 ≡ next - at = omega (arith, w.offset, v.offset, length-kept w) in
+        let more : offset - at + 1 ≡ next - at = omega (arith, w.offset, v.offset, length_kept w) in
         same {t = replicate (offset - at) 0 ++ (0 ∷ [])} (more_zeros (offset - at) (next - at) more) (after w v)
 
-    pub all-zeros : length cur ≤ offset → Wrote out at (replicate (length out - at) 0) cur offset
-    all-zeros h =
+    pub all_zeros : length cur ≤ offset → Wrote out at (replicate (length out - at) 0) cur offset
+    all_zeros h =
         let size = length-replicate {A = ℕ} (offset - at) 0 in
-        let all : offset ≡ length out = omega (arith, w.offset, length-kept w) in
+        let all : offset ≡ length out = omega (arith, w.offset, length_kept w) in
         same {t = replicate (offset - at) 0} (ap (λ (n : ℕ). replicate (n - at) 0) all) w
 
 -- ---- the kept of the first i records: one that stays and one that goes, one more, and all of them
 
 module _ (r : Star) where
-  pub one-stays : (r.number ≡ 0 → ⊥) → list_bytes (kept (r ∷ [])) ≡ star_bytes r
-  one-stays h = rw (ne_eqb r.number 0 h) (append-nil (star_bytes r))
+  pub one_stays : (r.number ≡ 0 → ⊥) → list_bytes (kept (r ∷ [])) ≡ star_bytes r
+  one_stays h = rw (ne_eqb r.number 0 h) (append-nil (star_bytes r))
 
-  pub one-goes : r.number ≡ 0 → list_bytes (kept (r ∷ [])) ≡ []
-  one-goes h = rw (eq-eqb r.number 0 h)
+  pub one_goes : r.number ≡ 0 → list_bytes (kept (r ∷ [])) ≡ []
+  one_goes h = rw (eq-eqb r.number 0 h)
 
 module _ (s : List ℕ) where
-  kept-size : (i : ℕ) → i ≤ count_of s → length (kept_upto s i) ≤ i * width
-  kept-size i h =
+  kept_size : (i : ℕ) → i ≤ count_of s → length (kept_upto s i) ≤ i * width
+  kept_size i h =
       omega (
         arith,
         length_list (kept (take i (stars s))),
         fewer_kept (take i (stars s)),
-        length-take-le i (stars s) (omega (arith, length-stars s)),
+        length-take-le i (stars s) (omega (arith, length_stars s)),
       )
 
   module _ (cur : List ℕ) (at i : ℕ) (w : Wrote s 0 (kept_upto s i) cur at) (h : i < count_of s) where
     -- what was written ends before record i
-    not-reached : nth cur i ≡ nth s i
-    not-reached = nth_behind s (kept_upto s i) cur i w.text (length-kept w) (kept-size i (omega arith)) h
+    not_reached : nth cur i ≡ nth s i
+    not_reached = nth_behind s (kept_upto s i) cur i w.text (length_kept w) (kept_size i (omega arith)) h
 
     pub one_kept : (r : Star) (new : List ℕ) (next : ℕ) → r ≡ nth cur i → Wrote cur at (list_bytes (kept (r ∷ []))) new next
         → Wrote s 0 (kept_upto s (i + 1)) new next
@@ -71,11 +71,11 @@ module _ (s : List ℕ) where
         (ap (λ (l : List Star). list_bytes (kept l)) (one_more s i h)
         ∙ ap list_bytes (kept_join (take i (stars s)) (nth s i ∷ []))
         ∙ bytes_join (kept (take i (stars s))) (kept (nth s i ∷ []))
-        ∙ ap (λ (x : Star). kept_upto s i ++ list_bytes (kept (x ∷ []))) (sym (e ∙ not-reached))))
+        ∙ ap (λ (x : Star). kept_upto s i ++ list_bytes (kept (x ∷ []))) (sym (e ∙ not_reached))))
         (after w v)
 
-  pub all-kept : (i : ℕ) → i ≡ count_of s → kept_upto s i ≡ list_bytes (kept (stars s))
-  all-kept i e = ap (λ (l : List Star). list_bytes (kept l)) (all-stars s i e)
+  pub all_kept : (i : ℕ) → i ≡ count_of s → kept_upto s i ≡ list_bytes (kept (stars s))
+  all_kept i e = ap (λ (l : List Star). list_bytes (kept l)) (all_stars s i e)
 
   records : is_list s ≡ true → length s ≡ width * count_of s
   unfolding count_of
@@ -83,16 +83,16 @@ module _ (s : List ℕ) where
 
   -- ---- both passes
 
-  pub both-passes : is_list s ≡ true → (cur new : List ℕ) (at end : ℕ) → Wrote s 0 (list_bytes (kept (stars s))) cur at
+  pub both_passes : is_list s ≡ true → (cur new : List ℕ) (at end : ℕ) → Wrote s 0 (list_bytes (kept (stars s))) cur at
       → Wrote cur at (replicate (length cur - at) 0) new end → new ≡ list_bytes (gathered (stars s))
-  both-passes t cur new at end w v =
-      let long = length-kept w in
+  both_passes t cur new at end w v =
+      let long = length_kept w in
       let few = fewer_kept (stars s) in
-      let count = length-stars s in
+      let count = length_stars s in
       let size = length_list (kept (stars s)) in
       let all = records t in
       let zeros : length cur - at ≡ width * (length (stars s) - length (kept (stars s))) = omega (arith, w.offset) in
-      let text = ap (λ (n : ℕ). list_bytes (kept (stars s)) ++ replicate n 0) zeros ∙ sym (gathered-bytes (stars s)) in
+      let text = ap (λ (n : ℕ). list_bytes (kept (stars s)) ++ replicate n 0) zeros ∙ sym (gathered_bytes (stars s)) in
       (after w v).text
       ∙ ap (λ (l : List ℕ). written s 0 l) text
-      ∙ over s (list_bytes (gathered (stars s))) (length_list (gathered (stars s)) ∙ omega (arith, gathered-length (stars s)))
+      ∙ over s (list_bytes (gathered (stars s))) (length_list (gathered (stars s)) ∙ omega (arith, gathered_length (stars s)))

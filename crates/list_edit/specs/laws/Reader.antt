@@ -7,13 +7,13 @@ use Rattle.list.specs.rules.Record.{width}
 use Rattle.list.specs.rules.Stars.{is_list, count_of, stars, kept, nought, list_bytes, Bytes}
 use Rattle.list.specs.rules.Find.{index_of}
 use Rattle.list.specs.notions.Walk.{walk}
-use Rattle.list.specs.laws.Reader.{walk-shows-kept}
+use Rattle.list.specs.laws.Reader.{walk_shows_kept}
 use Rattle.list.specs.laws.RoundTrips.{length_list}
 use Rattle.list.specs.declared.Star.{Star}
 use Rattle.list_edit.specs.rules.Edit.{gather_in, gathered, gather_rule, Edit}
 use Rattle.list_edit.specs.laws.Edit.{worked, done_answered}
 use Rattle.list_edit.specs.laws.Fitting.{list_by_length}
-use Rattle.list_edit.specs.laws.Calls.{stars-gathered, gather-keeps, gather-leaves-zeros, gather-as-long}
+use Rattle.list_edit.specs.laws.Calls.{stars_gathered, gather_keeps, gather_leaves_zeros, gather_as_long}
 use Rattle.list_edit.specs.declared.Edited.TheVariants.{Done}
 
 -- the first empty place stands behind the kept stars
@@ -29,24 +29,24 @@ first_empty (r ∷ rs) m = go (eqb r.number 0) refl (first_empty rs m)
     go false e ih = rw e (ap suc ih)
 
 module _ (s : List ℕ) (y : Bytes s) (new : List ℕ) (p : Edit (gather_rule s) s new Done) where
-  was-list : is_list s ≡ true
-  was-list = (worked gather_in s new (done_answered (gather_rule s) p)).list
+  was_list : is_list s ≡ true
+  was_list = (worked gather_in s new (done_answered (gather_rule s) p)).list
 
   is_list_lem : is_list new ≡ true
-  is_list_lem = list_by_length new s (gather-as-long s y new p) ∙ was-list
+  is_list_lem = list_by_length new s (gather_as_long s y new p) ∙ was_list
 
-  pub reader-after-gather : walk (suc (count_of new)) new 0 ≡ walk (suc (count_of s)) s 0
-  reader-after-gather = walk-shows-kept new is_list_lem ∙ gather-keeps s y new p ∙ sym (walk-shows-kept s was-list)
+  pub reader_after_gather : walk (suc (count_of new)) new 0 ≡ walk (suc (count_of s)) s 0
+  reader_after_gather = walk_shows_kept new is_list_lem ∙ gather_keeps s y new p ∙ sym (walk_shows_kept s was_list)
 
-  kept-end : index_of 0 (stars new) * width ≡ length (list_bytes (kept (stars s)))
+  kept_end : index_of 0 (stars new) * width ≡ length (list_bytes (kept (stars s)))
   unfolding gathered
-  kept-end =
-      let index = ap (index_of 0) (stars-gathered s y new p) ∙ first_empty (stars s) (length (stars s) - length (kept (stars s))) in
+  kept_end =
+      let index = ap (index_of 0) (stars_gathered s y new p) ∙ first_empty (stars s) (length (stars s) - length (kept (stars s))) in
       omega (arith, index, length_list (kept (stars s)))
 
   -- `gather --cut` keeps the bytes of the kept stars, and no other
-  pub cut-leaves-kept : take (index_of 0 (stars new) * width) new ≡ list_bytes (kept (stars s))
-  cut-leaves-kept =
-      ap (take (index_of 0 (stars new) * width)) (gather-leaves-zeros s y new p)
+  pub cut_leaves_kept : take (index_of 0 (stars new) * width) new ≡ list_bytes (kept (stars s))
+  cut_leaves_kept =
+      ap (take (index_of 0 (stars new) * width)) (gather_leaves_zeros s y new p)
       ∙ take_at (list_bytes (kept (stars s))) (replicate (width * (length (stars s) - length (kept (stars s)))) 0)
-      (index_of 0 (stars new) * width) (sym kept-end)
+      (index_of 0 (stars new) * width) (sym kept_end)

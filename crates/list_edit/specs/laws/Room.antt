@@ -7,10 +7,10 @@ use Rattle.lent.specs.laws.Writing as writing
 use Rattle.list.specs.rules.Record.{width}
 use Rattle.list.specs.rules.Stars.{count_of, stars}
 use Rattle.list.specs.rules.Find.{index_of}
-use Rattle.list.specs.laws.Stars.{length-stars}
+use Rattle.list.specs.laws.Stars.{length_stars}
 use Rattle.list.specs.declared.Star.{Star}
 use Rattle.list_edit.specs.rules.Edit.{add_rule, with_room, Edit}
-use Rattle.list_edit.specs.laws.First.{index-within}
+use Rattle.list_edit.specs.laws.First.{index_within}
 use Rattle.list_edit.specs.declared.Edited.{Edited}
 
 -- zeros from byte n on leave the list of the n bytes before it, with room
@@ -33,7 +33,7 @@ added_in_room {s} {cur} {new} {n} {end} {e} r h w p =
 -- the first empty place of a list begins within it, so that it can be cut there
 pub empty_inside : (s : List ℕ) → index_of 0 (stars s) * width ≤ length s
 unfolding count_of
-empty_inside s = omega (arith, index-within 0 (stars s), length-stars s)
+empty_inside s = omega (arith, index_within 0 (stars s), length_stars s)
 
 pub cut_inside : (cut : Bool) (s : List ℕ) → cond cut (index_of 0 (stars s) * width) (length s) ≤ length s
 cut_inside true s = empty_inside s

@@ -3,7 +3,7 @@ use native.Mathlib.Omega.{arith}
 use native.Mathlib.Nat.{mul-le-mul_left}
 use Prim.Native.Nat.{◌-◌, ◌≤◌}
 use Rattle.double.specs.laws.Calls.{asks_nothing}
-use Rattle.list_groups.proofs.Steps.{Midway, begin, middle, highest, ends, small, top, padded, stops, too-high, on}
+use Rattle.list_groups.proofs.Steps.{Midway, begin, middle, highest, ends, small, top, padded, stops, too_high_lem, on}
 use Rattle.list_groups.proofs.number_at.Statement.{statement}
 use Rattle.list_groups.proofs.number_at.Tie as tie
 
@@ -118,7 +118,7 @@ returns-7 : tie.Need-returns-7 invariant-loop decreases-loop
 returns-7 c =
     let l = c.before.before.before.before.before.loop in
     let byte = c.before.wide2 in
-    too-high _ _ _ _ _ _ _ l.invariant byte.result (omega arith) byte.ensures.0 (omega arith) (omega arith)
+    too_high_lem _ _ _ _ _ _ _ l.invariant byte.result (omega arith) byte.ensures.0 (omega arith) (omega arith)
 
 pub number-at-spec : {M : Type 1} → statement M
 number-at-spec =

@@ -2,7 +2,7 @@
 use borrow.Author.Rules.{rules}
 use native.Mathlib.Omega.{arith}
 use Rattle.double.specs.laws.Calls.{asks_nothing}
-use Rattle.lent.specs.laws.Writing.{length-kept}
+use Rattle.lent.specs.laws.Writing.{length_kept}
 use Rattle.list_groups.proofs.Writing.{Putting, begin, step, finish}
 use Rattle.list_groups.proofs.put_number.Statement.{statement}
 use Rattle.list_groups.proofs.put_number.Tie as tie
@@ -36,7 +36,7 @@ cast-put-byte-2 c = search rules
 same_length : tie.Need-same-length invariant-loop decreases-loop
 same_length c =
     let pass = c.before.before.before.before.before in
-    length-kept (finish _ _ _ pass.loop.out pass.loop.offset pass.loop.rest pass.loop.invariant _ _ (omega arith) c.before.before.put-byte2.ensures)
+    length_kept (finish _ _ _ pass.loop.out pass.loop.offset pass.loop.rest pass.loop.invariant _ _ (omega arith) c.before.before.put-byte2.ensures)
 
 returns : tie.Need-returns invariant-loop decreases-loop
 returns c =

@@ -1,6 +1,6 @@
 -- `list_groups::unfold` meets its contract.
 use borrow.Author.Rules.{rules}
-use Rattle.list_groups.proofs.Halves.{even, odd-fits, odd}
+use Rattle.list_groups.proofs.Halves.{even, odd_fits, odd}
 use Rattle.list_groups.proofs.unfold.Statement.{statement}
 use Rattle.list_groups.proofs.unfold.Tie as tie
 
@@ -11,7 +11,7 @@ cast-result-2 : tie.Need-overflow-cast-result-2
 cast-result-2 c = search rules
 
 sub-result : tie.Need-overflow-sub-result
-sub-result c = odd-fits _ c.before.ranges.n.fits
+sub-result c = odd_fits _ c.before.ranges.n.fits
 
 returns : tie.Need-returns
 returns c = even _ c.before.ranges.n.fits c.if1.true

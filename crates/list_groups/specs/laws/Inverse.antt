@@ -48,27 +48,27 @@ record Made (more least : ℕ) (bs : List ℕ) (g : Got ℕ) : Type 0 where
   pub small : g.value < limit more
 
 module _ (least b : ℕ) (bs : List ℕ) (g : Got ℕ) where
-  last-is : last_group least b bs ≡ answered g → (least ≤ b) × (g ≡ record { value = b; rest = bs })
-  last-is = go (ltb b least) refl
+  last_is : last_group least b bs ≡ answered g → (least ≤ b) × (g ≡ record { value = b; rest = bs })
+  last_is = go (ltb b least) refl
     where
       go : (t : Bool) → ltb b least ≡ t → cond t (refused 12) (answered (record { value = b; rest = bs })) ≡ answered g
           → (least ≤ b) × (g ≡ record { value = b; rest = bs })
       go true e h = absurd (refused_not_answered h)
       go false e h = (ltb-false b least e, cc)
 
-  back-zero : number_within zero least (b ∷ bs) ≡ answered g → Made zero least (b ∷ bs) g
-  back-zero = go (ltb b 16) refl
+  back_zero : number_within zero least (b ∷ bs) ≡ answered g → Made zero least (b ∷ bs) g
+  back_zero = go (ltb b 16) refl
     where
       go : (t : Bool) → ltb b 16 ≡ t → cond t (last_group least b bs) (refused 12) ≡ answered g → Made zero least (b ∷ bs) g
       go true e h =
-          let l = last-is h in
+          let l = last_is h in
           subst (Made zero least (b ∷ bs)) (sym l.1) (record { bytes = refl; least_or_more = l.0; small = ltb-true b 16 e })
       go false e h = absurd (refused_not_answered h)
 
   module _ (more : ℕ) (byte : b < 256) where
     back_last : b < 128 → last_group least b bs ≡ answered g → Made (suc more) least (b ∷ bs) g
     back_last small h =
-        let l = last-is h in
+        let l = last_is h in
         subst (Made (suc more) least (b ∷ bs)) (sym l.1)
         (record { bytes = rw (lt-ltb b 128 small); least_or_more = l.0; small = omega (arith, some more) })
 
@@ -86,9 +86,9 @@ module _ (least b : ℕ) (bs : List ℕ) (g : Got ℕ) where
           small = omega arith;
         })
 
-    back-suc : least ≤ 1 → ((h : Got ℕ) → number_within more 1 bs ≡ answered h → Made more 1 bs h)
+    back_suc : least ≤ 1 → ((h : Got ℕ) → number_within more 1 bs ≡ answered h → Made more 1 bs h)
         → number_within (suc more) least (b ∷ bs) ≡ answered g → Made (suc more) least (b ∷ bs) g
-    back-suc l ih = go (ltb b 128) refl
+    back_suc l ih = go (ltb b 128) refl
       where
         go : (t : Bool) → ltb b 128 ≡ t
             → cond t (last_group least b bs) (with (above (b - 128)) (number_within more 1 bs)) ≡ answered g
@@ -100,9 +100,9 @@ module _ (least b : ℕ) (bs : List ℕ) (g : Got ℕ) where
 
 back : (more least : ℕ) (bs : List ℕ) (g : Got ℕ) → Bytes bs → least ≤ 1 → number_within more least bs ≡ answered g → Made more least bs g
 back more least [] g y l h = absurd (refused_not_answered h)
-back zero least (b ∷ bs) g y l h = back-zero least b bs g h
+back zero least (b ∷ bs) g y l h = back_zero least b bs g h
 back (suc more) least (b ∷ bs) g y l h =
-    back-suc least b bs g more (y 0) l (λ g. back more 1 bs g (λ (i : ℕ). y (suc i)) (omega arith)) h
+    back_suc least b bs g more (y 0) l (λ g. back more 1 bs g (λ (i : ℕ). y (suc i)) (omega arith)) h
 
 -- the bytes of an answered number are its groups, and what stands after it
 pub read_was_spelt : (bs : List ℕ) (g : Got ℕ) → Bytes bs → read_number bs ≡ answered g → OneSpelt groups Small bs g

@@ -18,26 +18,26 @@ unfolding groups
 at_most_five n = most 4 n
 
 module _ (n : ℕ) where
-  pub one-group : n < 128 → 1 ≡ length (groups n)
+  pub one_group : n < 128 → 1 ≡ length (groups n)
   unfolding groups
-  one-group a = rw (lt-ltb n 128 a)
+  one_group a = rw (lt-ltb n 128 a)
 
-  pub two-groups : 128 ≤ n → n < 16384 → 2 ≡ length (groups n)
+  pub two_groups : 128 ≤ n → n < 16384 → 2 ≡ length (groups n)
   unfolding groups
-  two-groups a b = rw (le-ltb n 128 a, lt-ltb (n / 128) 128 (omega arith))
+  two_groups a b = rw (le-ltb n 128 a, lt-ltb (n / 128) 128 (omega arith))
 
-  pub three-groups : 16384 ≤ n → n < 2097152 → 3 ≡ length (groups n)
+  pub three_groups : 16384 ≤ n → n < 2097152 → 3 ≡ length (groups n)
   unfolding groups
-  three-groups a b = rw (le-ltb n 128 (omega arith), le-ltb (n / 128) 128 (omega arith), lt-ltb (n / 128 / 128) 128 (omega arith))
+  three_groups a b = rw (le-ltb n 128 (omega arith), le-ltb (n / 128) 128 (omega arith), lt-ltb (n / 128 / 128) 128 (omega arith))
 
-  pub four-groups : 2097152 ≤ n → n < 268435456 → 4 ≡ length (groups n)
+  pub four_groups_lem : 2097152 ≤ n → n < 268435456 → 4 ≡ length (groups n)
   unfolding groups
-  four-groups a b =
+  four_groups_lem a b =
       rw
       (le-ltb n 128 (omega arith), le-ltb (n / 128) 128 (omega arith), le-ltb (n / 128 / 128) 128 (omega arith), lt-ltb (n / 128 / 128 / 128) 128 (omega arith))
 
-  pub five-groups : 268435456 ≤ n → 5 ≡ length (groups n)
+  pub five_groups : 268435456 ≤ n → 5 ≡ length (groups n)
   unfolding groups
-  five-groups a =
+  five_groups a =
       rw
       (le-ltb n 128 (omega arith), le-ltb (n / 128) 128 (omega arith), le-ltb (n / 128 / 128) 128 (omega arith), le-ltb (n / 128 / 128 / 128) 128 (omega arith))

@@ -47,52 +47,52 @@ module _ {A : Type 0} (read : List ℕ → Answer (Got A)) where
   stops (suc m) bs k h e = rw e
 
   -- the first refusal met is given: after m that are answered, of n
-  pub first-met : (m n : ℕ) (bs : List ℕ) (h : Got (List A)) (k : ℕ) → m < n → read_all read m bs ≡ answered h
+  pub first_met : (m n : ℕ) (bs : List ℕ) (h : Got (List A)) (k : ℕ) → m < n → read_all read m bs ≡ answered h
       → read h.rest ≡ refused k → read_all read n bs ≡ refused k
   unfolding read_all
-  first-met zero n bs h k l e r =
+  first_met zero n bs h k l e r =
       stops n bs k l
       (ap read (ap (λ (x : Got (List A)). x.rest) (let q : record { value = []; rest = bs } ≡ h = cc in q)) ∙ r)
-  first-met (suc m) zero bs h k l e r = absurd (omega arith)
-  first-met (suc m) (suc n) bs h k l e r =
+  first_met (suc m) zero bs h k l e r = absurd (omega arith)
+  first_met (suc m) (suc n) bs h k l e r =
       let s = stepped (read bs) (λ (f : Got A). with (before f.value) (read_all read m f.rest)) h e in
       let c = changed (read_all read m s.value.rest) (before s.value.value) h s.next in
       rw
-      (s.first, first-met m n s.value.rest c.value k (omega arith) c.first (ap (λ (x : Got (List A)). read x.rest) (sym c.is) ∙ r))
+      (s.first, first_met m n s.value.rest c.value k (omega arith) c.first (ap (λ (x : Got (List A)). read x.rest) (sym c.is) ∙ r))
 
-  pub all-leave-tail : LeavesTail read → (n : ℕ) → LeavesTail (read_all read n)
+  pub all_leave_tail : LeavesTail read → (n : ℕ) → LeavesTail (read_all read n)
   unfolding read_all
-  all-leave-tail tails zero bs g h =
+  all_leave_tail tails zero bs g h =
       subst (λ (x : Got (List A)). Tail x.rest bs) (let q : record { value = []; rest = bs } ≡ g = cc in q) (all bs)
-  all-leave-tail tails (suc n) bs g h =
+  all_leave_tail tails (suc n) bs g h =
       let s = stepped (read bs) (λ (f : Got A). with (before f.value) (read_all read n f.rest)) g h in
       let c = changed (read_all read n s.value.rest) (before s.value.value) g s.next in
-      let t = of_tail (all-leave-tail tails n s.value.rest c.value c.first) (tails bs s.value s.first) in
+      let t = of_tail (all_leave_tail tails n s.value.rest c.value c.first) (tails bs s.value s.first) in
       record { front = t.front; is = t.is ∙ ap (λ (x : Got (List A)). t.front ++ x.rest) (sym c.is) }
 
 -- ---- all of them
 module _ {A : Type 0} (spell : A → List ℕ) (read : List ℕ → Answer (Got A)) (Good : A → Type 0) where
   module _ (there : (x : A) (rest : List ℕ) → Good x → read (spell x ++ rest) ≡ answered (record { value = x; rest = rest })) where
-    pub all-spelt-are-read : (xs : List A) (rest : List ℕ) → AllGood Good xs
+    pub all_spelt_are_read : (xs : List A) (rest : List ℕ) → AllGood Good xs
         → read_all read (length xs) (spell_all spell xs ++ rest) ≡ answered (record { value = xs; rest = rest })
     unfolding read_all
-    all-spelt-are-read [] rest g = refl
-    all-spelt-are-read (x ∷ xs) rest g =
-        rw (append_assoc (spell x) (spell_all spell xs) rest, there x (spell_all spell xs ++ rest) g.0, all-spelt-are-read xs rest g.1)
+    all_spelt_are_read [] rest g = refl
+    all_spelt_are_read (x ∷ xs) rest g =
+        rw (append_assoc (spell x) (spell_all spell xs) rest, there x (spell_all spell xs ++ rest) g.0, all_spelt_are_read xs rest g.1)
 
   module _ (back : (bs : List ℕ) (g : Got A) → Bytes bs → read bs ≡ answered g → OneSpelt spell Good bs g) where
-    pub all-read-were-spelt : (n : ℕ) (bs : List ℕ) (g : Got (List A)) → Bytes bs → read_all read n bs ≡ answered g
+    pub all_read_were_spelt : (n : ℕ) (bs : List ℕ) (g : Got (List A)) → Bytes bs → read_all read n bs ≡ answered g
         → AllSpelt spell Good n bs g
     unfolding read_all
-    all-read-were-spelt zero bs g y h =
+    all_read_were_spelt zero bs g y h =
         subst (AllSpelt spell Good 0 bs) (let q : record { value = []; rest = bs } ≡ g = cc in q)
         (record { bytes = refl; good = tt; many = refl })
-    all-read-were-spelt (suc n) bs g y h =
+    all_read_were_spelt (suc n) bs g y h =
         let s = stepped (read bs) (λ (f : Got A). with (before f.value) (read_all read n f.rest)) g h in
         let f = s.value in
         let c = changed (read_all read n f.rest) (before f.value) g s.next in
         let k = back bs f y s.first in
-        let t = all-read-were-spelt n f.rest c.value (bytes_after_lem (spell f.value) f.rest (subst Bytes k.bytes y)) c.first in
+        let t = all_read_were_spelt n f.rest c.value (bytes_after_lem (spell f.value) f.rest (subst Bytes k.bytes y)) c.first in
         subst (AllSpelt spell Good (suc n) bs) (sym c.is)
         (record {
           bytes =
@@ -106,10 +106,10 @@ module _ {A : Type 0} (spell : A → List ℕ) (read : List ℕ → Answer (Got 
 
 pub numbers_spelt_are_read : (ns rest : List ℕ) → AllGood Small ns
     → read_all read_number (length ns) (spell_all groups ns ++ rest) ≡ answered (record { value = ns; rest = rest })
-numbers_spelt_are_read = all-spelt-are-read groups read_number Small spelt_is_read
+numbers_spelt_are_read = all_spelt_are_read groups read_number Small spelt_is_read
 
 pub numbers_read_were_spelt : (k : ℕ) (bs : List ℕ) (g : Got (List ℕ)) → Bytes bs → read_all read_number k bs ≡ answered g
     → AllSpelt groups Small k bs g
 numbers_read_were_spelt =
-    all-read-were-spelt groups read_number Small
+    all_read_were_spelt groups read_number Small
     read_was_spelt

@@ -86,27 +86,27 @@ module _ {A : Type 0} (most : ℕ) (read : List ℕ → Answer (Got A)) (one : T
           omega (arith, one.takes bs f e, ih f.rest (with_refused (read_all read n f.rest) (before f.value) 13 h))
       go (refused j) e ih h = omega (arith, one.ends bs (e ∙ ap refused (let q : j ≡ 13 = cc in q)))
 
-  pub all-take-at-most : (n : ℕ) → TakesAtMost (n * most) (read_all read n)
-  all-take-at-most n = record { takes = all_take n; ends = all_end n }
+  pub all_take_at_most : (n : ℕ) → TakesAtMost (n * most) (read_all read n)
+  all_take_at_most n = record { takes = all_take n; ends = all_end n }
 
 -- ---- a reader and then a test of the value that it read
 
 module _ {A B : Type 0} (most : ℕ) (read : List ℕ → Answer (Got A)) (one : TakesAtMost most read) (f : Got A → Answer (Got B))
     (keeps : (g : Got A) (h : Got B) → f g ≡ answered h → length g.rest ≡ length h.rest)
     (other : (g : Got A) → f g ≡ refused 13 → ⊥) where
-  then-ends : (bs : List ℕ) → then (read bs) f ≡ refused 13 → length bs < most
+  then_ends : (bs : List ℕ) → then (read bs) f ≡ refused 13 → length bs < most
   unfolding then
-  then-ends bs h = go (read bs) refl h
+  then_ends bs h = go (read bs) refl h
     where
       go : (x : Answer (Got A)) → read bs ≡ x → then x f ≡ refused 13 → length bs < most
       go (answered g) e h = absurd (other g h)
       go (refused j) e h = one.ends bs (e ∙ ap refused (let q : j ≡ 13 = cc in q))
 
-  pub then-takes-at-most : TakesAtMost most (λ (bs : List ℕ). then (read bs) f)
-  then-takes-at-most =
+  pub then_takes_at_most : TakesAtMost most (λ (bs : List ℕ). then (read bs) f)
+  then_takes_at_most =
       record {
         takes = λ (bs : List ℕ) (h : Got B) e.
             let s = stepped (read bs) f h e in
             omega (arith, one.takes bs s.value s.first, keeps s.value h s.next);
-        ends = then-ends;
+        ends = then_ends;
       }

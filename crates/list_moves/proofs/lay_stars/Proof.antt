@@ -4,11 +4,11 @@ use mathlib.Core.Path.{sym, ap, ◌∙◌}
 use Prim.Native.Nat.{◌-◌}
 use native.Mathlib.Omega.{arith}
 use Rattle.double.specs.laws.Calls.{asks_nothing}
-use Rattle.lent.specs.laws.Writing.{length-kept}
+use Rattle.lent.specs.laws.Writing.{length_kept}
 use Rattle.list_groups.specs.laws.Tails.{found, not_found}
 use Rattle.list_radio.specs.rules.Star.{read_star}
 use Rattle.list_radio.specs.rules.Reader.{shown_received}
-use Rattle.list_radio.specs.laws.Star.{star-leaves-tail}
+use Rattle.list_radio.specs.laws.Star.{star_leaves_tail}
 use Rattle.list_moves.proofs.Laying.{Laying, begin, stops, ends, on}
 use Rattle.list_moves.proofs.lay_stars.Statement.{statement}
 use Rattle.list_moves.proofs.lay_stars.Tie as tie
@@ -26,7 +26,7 @@ enum_told : tie.Need-enum-told invariant-loop decreases-loop
 enum_told c = search rules
 
 same_length : tie.Need-same-length invariant-loop decreases-loop
-same_length c = length-kept c.before.before.before.before.loop.invariant.wrote
+same_length c = length_kept c.before.before.before.before.loop.invariant.wrote
 
 returns : tie.Need-returns invariant-loop decreases-loop
 returns c =
@@ -46,11 +46,11 @@ loop-again : tie.Need-loop-preserved invariant-loop decreases-loop
 loop-again c =
     let star = c.before.before.before.before.before in
     on _ _ _ _ _ _ _ _ _ star.before.before.before.before.loop.invariant _ _ _ _ (omega arith)
-    (found (read_star _) _ _ (star-leaves-tail _) _ _ (sym (ap shown_received star.star.given.1) ∙ star.before.before.star-from.ensures)).read_so
+    (found (read_star _) _ _ (star_leaves_tail _) _ _ (sym (ap shown_received star.star.given.1) ∙ star.before.before.star-from.ensures)).read_so
     c.before.before.write-star.ensures
 
 same-length-2 : tie.Need-same-length-2 invariant-loop decreases-loop
-same-length-2 c = length-kept c.before.loop.invariant.wrote
+same-length-2 c = length_kept c.before.loop.invariant.wrote
 
 returns-2 : tie.Need-returns-2 invariant-loop decreases-loop
 returns-2 c = ends _ _ _ _ _ _ _ _ _ c.before.loop.invariant (omega arith)

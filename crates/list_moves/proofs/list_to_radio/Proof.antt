@@ -11,7 +11,7 @@ use Rattle.double.specs.laws.Calls.{asks_nothing}
 use Rattle.lent.specs.rules.Writing.{Wrote}
 use Rattle.lent.specs.laws.Writing.{after, same}
 use Rattle.list.specs.rules.Stars.{is_list, count_of, stars}
-use Rattle.list.specs.laws.Stars.{few, length-stars}
+use Rattle.list.specs.laws.Stars.{few, length_stars}
 use Rattle.list_groups.specs.rules.Several.{spell_all}
 use Rattle.list_groups.specs.rules.Groups.{groups}
 use Rattle.list_groups.specs.laws.Length.{at_most_five}
@@ -20,17 +20,17 @@ use Rattle.list_radio.specs.rules.Radio.{head_bytes, radio_bytes}
 use Rattle.list_radio.specs.laws.Room.{twenty_five_a_star}
 use Rattle.lent.specs.rules.Put.{shown_written}
 use Rattle.lent.specs.laws.Put.{put_refused, no_room, puts}
-use Rattle.list_moves.specs.laws.Moves.{no_list, no_size, Sized, sized, length-radio}
+use Rattle.list_moves.specs.laws.Moves.{no_list, no_size, Sized, sized, length_radio}
 use Rattle.list_moves.proofs.list_to_radio.Statement.{statement}
 use Rattle.list_moves.proofs.list_to_radio.Tie as tie
 
 -- head and stars, one after the other
 all-written : (s old mid new : List ℕ) (n a b : ℕ) → n ≡ count_of s → Wrote old 0 (head_bytes n) mid a → Wrote mid a (spell_all star_groups (stars s)) new b → Wrote old 0 (radio_bytes (stars s)) new b
 unfolding radio_bytes
-all-written s old mid new n a b e p q = same (ap (λ (k : ℕ). head_bytes k ++ spell_all star_groups (stars s)) (e ∙ sym (length-stars s))) (after p q)
+all-written s old mid new n a b e p q = same (ap (λ (k : ℕ). head_bytes k ++ spell_all star_groups (stars s)) (e ∙ sym (length_stars s))) (after p q)
 
 long : (s : List ℕ) → is_list s ≡ true → (n k size : ℕ) → n ≡ count_of s → k ≡ length (groups n) → size ≡ length (spell_all star_groups (stars s)) → 1 + k + size ≡ length (radio_bytes (stars s))
-long s l n k size e f g = omega (arith, length-radio s l, f ∙ ap (λ (m : ℕ). length (groups m)) e, g)
+long s l n k size e f g = omega (arith, length_radio s l, f ∙ ap (λ (m : ℕ). length (groups m)) e, g)
 
 returns : tie.Need-returns
 returns c = put_refused _ _ _ _ (no_list _ (sym c.before.is_list_lem.ensures ∙ not-true _ c.if1.true))
@@ -64,7 +64,7 @@ cast-n c = let l = list c.before.before in omega (arith, c.count.ensures, few (s
 small : (c : tie.After-size) → c.size.given.0.0 ≤ 75000
 small c =
     let s = (start (list c)).args.bytes.now in
-    omega (arith, (good c).is, twenty_five_a_star (stars s), length-stars s, few s (is_one_lem (list c)))
+    omega (arith, (good c).is, twenty_five_a_star (stars s), length_stars s, few s (is_one_lem (list c)))
 
 add-if2 : tie.Need-overflow-add-if2
 add-if2 c = omega (arith, c.count2.ensures, at_most_five c.before.count.result)

@@ -3,10 +3,10 @@ use borrow.Author.Rules.{rules}
 use mathlib.Core.Path.{sym, ap, ◌∙◌}
 use native.Mathlib.Omega.{arith}
 use Rattle.double.specs.laws.Calls.{asks_nothing}
-use Rattle.lent.specs.laws.Writing.{length-kept}
+use Rattle.lent.specs.laws.Writing.{length_kept}
 use Rattle.list_radio.specs.rules.Reader.{shown_opened, shown_accepted}
 use Rattle.lent.specs.laws.Put.{put_refused, no_room, puts}
-use Rattle.list_moves.specs.laws.Moves.{no-head, no-stars, AllRead, all-stars}
+use Rattle.list_moves.specs.laws.Moves.{no_head, no_stars, AllRead, all_stars}
 use Rattle.list_moves.proofs.radio_to_list.Statement.{statement}
 use Rattle.list_moves.proofs.radio_to_list.Tie as tie
 
@@ -37,7 +37,7 @@ start c = c.before.before.before.before.before
 
 good : (c : tie.After-m) → AllRead (start (head c)).args.bytes.now c.before.before.before.is-moving.result (head c).n.given.0.0 (head c).n.given.0.1.0 c.m.given.0.0
 good c =
-    all-stars _ _ _ (sym (ap shown_opened (head c).n.given.1) ∙ (head c).before.before.open.ensures) _
+    all_stars _ _ _ (sym (ap shown_opened (head c).n.given.1) ∙ (head c).before.before.open.ensures) _
     c.before.before.before.is-moving.ensures _
     (sym (ap shown_accepted c.m.given.1) ∙ c.before.before.check-stars.ensures)
 
@@ -45,7 +45,7 @@ returns : tie.Need-returns
 returns c = let g = good c.before.before in no_room _ _ _ _ g.moved (omega (arith, g.long, c.if1.true))
 
 returns-2 : tie.Need-returns-2
-returns-2 c = put_refused _ _ _ _ (no-head _ _ (sym (ap shown_opened c.before.k.given.1) ∙ c.before.before.before.open.ensures))
+returns-2 c = put_refused _ _ _ _ (no_head _ _ (sym (ap shown_opened c.before.k.given.1) ∙ c.before.before.before.open.ensures))
 
 returns-3 : tie.Need-returns-3
 returns-3 c =
@@ -53,10 +53,10 @@ returns-3 c =
     let by = bad.before.before.before in
     let n = by.before.before in
     put_refused _ _ _ _
-    (no-stars _ _ _ (sym (ap shown_opened n.n.given.1) ∙ n.before.before.open.ensures) _ by.is-moving.ensures _ (sym (ap shown_accepted bad.k2.given.1) ∙ bad.before.before.check-stars.ensures))
+    (no_stars _ _ _ (sym (ap shown_opened n.n.given.1) ∙ n.before.before.open.ensures) _ by.is-moving.ensures _ (sym (ap shown_accepted bad.k2.given.1) ∙ bad.before.before.check-stars.ensures))
 
 same_length : tie.Need-same-length
-same_length c = length-kept c.before.before.lay-stars.ensures
+same_length c = length_kept c.before.before.lay-stars.ensures
 
 returns-4 : tie.Need-returns-4
 returns-4 c =

@@ -7,13 +7,13 @@ use native.Mathlib.Omega.{arith}
 use lib.ListN.{take}
 use Rattle.double.specs.laws.Calls.{asks_nothing}
 use Rattle.lent.specs.rules.Writing.{Wrote}
-use Rattle.lent.specs.laws.Writing.{after, same, nothing, length-kept}
+use Rattle.lent.specs.laws.Writing.{after, same, nothing, length_kept}
 use Rattle.list.specs.declared.Star.{Star}
 use Rattle.list.specs.rules.Stars.{count_of, stars}
-use Rattle.list.specs.laws.Stars.{all-stars}
+use Rattle.list.specs.laws.Stars.{all_stars}
 use Rattle.list_groups.specs.rules.Several.{spell_all}
 use Rattle.list_radio.specs.rules.Star.{star_groups}
-use Rattle.list_moves.specs.laws.Moves.{groups-more}
+use Rattle.list_moves.specs.laws.Moves.{groups_more}
 use Rattle.list_moves.proofs.write_stars.Statement.{statement}
 use Rattle.list_moves.proofs.write_stars.Tie as tie
 
@@ -44,16 +44,16 @@ loop-again c =
       omega arith,
       (
         pass.loop.invariant.1.0,
-        same (ap (λ (r : Star). spell_all star_groups (take i (stars s)) ++ star_groups r) c.before.before.before.nth.ensures ∙ groups-more s i (index c.before.before.before.before.before))
+        same (ap (λ (r : Star). spell_all star_groups (take i (stars s)) ++ star_groups r) c.before.before.before.nth.ensures ∙ groups_more s i (index c.before.before.before.before.before))
             (after pass.loop.invariant.1.1 c.before.before.write-star.ensures),
       ),
     )
 
 same_length : tie.Need-same-length invariant-loop decreases-loop
-same_length c = length-kept c.before.loop.invariant.1.1
+same_length c = length_kept c.before.loop.invariant.1.1
 
 returns : tie.Need-returns invariant-loop decreases-loop
-returns c = same (ap (spell_all star_groups) (all-stars c.before.before.before.before.before.before.args.bytes.now c.before.loop.i (omega arith))) c.before.loop.invariant.1.1
+returns c = same (ap (spell_all star_groups) (all_stars c.before.before.before.before.before.before.args.bytes.now c.before.loop.i (omega arith))) c.before.loop.invariant.1.1
 
 pub write-stars-spec : {M : Type 1} → statement M
 write-stars-spec =

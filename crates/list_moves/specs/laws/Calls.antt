@@ -44,19 +44,19 @@ called there back s old old' m h k new r p =
 
 module _ (s old old' : List ℕ) (y : Bytes s) (back : length s ≤ length old') where
   -- any acceptable list with all records in range (`most_bytes` are room enough: `moved_has_room`)
-  pub list-called-to-radio-and-back : is_list s ≡ true → all_in_range (stars s) ≡ true → length (radio_bytes (stars s)) ≤ length old
+  pub list_called_to_radio_and_back : is_list s ≡ true → all_in_range (stars s) ≡ true → length (radio_bytes (stars s)) ≤ length old
       → CalledThereAndBack to_radio to_list s old old'
   unfolding to_radio
-  list-called-to-radio-and-back l r there =
+  list_called_to_radio_and_back l r there =
       let m = list_to_radio_and_back s y l r in
       let goes : to_radio s ≡ answered (radio_bytes (stars s)) = rw (l, r) in
       called to_radio to_list s old old' m (omega (arith, ap length (same_value (sym m.goes ∙ goes)))) back
 
   -- any accepted radio list that begins with byte 3, of n stars
-  pub radio-called-to-list-and-back : (n : ℕ) → is_moving s ≡ true → accept_rule s ≡ answered n → width * n ≤ length old
+  pub radio_called_to_list_and_back : (n : ℕ) → is_moving s ≡ true → accept_rule s ≡ answered n → width * n ≤ length old
       → CalledThereAndBack to_list to_radio s old old'
   unfolding to_list accept_rule
-  radio-called-to-list-and-back n e a there =
+  radio_called_to_list_and_back n e a there =
       let m = radio_to_list_and_back s n y e a in
       let c = changed (radio_stars s) length n a in
       let goes : to_list s ≡ answered (list_bytes c.value) = ap (with list_bytes) c.first in

@@ -8,8 +8,8 @@ use Rattle.list.specs.rules.Stars.{all_in_range, AllHold, Bytes}
 use Rattle.list_widths.specs.rules.Narrow.{is_narrow, narrow_stars}
 use Rattle.list_widths.specs.rules.Widths.{to_wide}
 use Rattle.list_widths.specs.notions.Narrow.{Narrow}
-use Rattle.list_widths.specs.laws.Narrow.{narrow_whole, length-narrow-stars, narrow-few, narrow_bytes_back}
-use Rattle.list_widths.specs.laws.Widths.{moves-up}
+use Rattle.list_widths.specs.laws.Narrow.{narrow_whole, length_narrow_stars, narrow_few, narrow_bytes_back}
+use Rattle.list_widths.specs.laws.Widths.{moves_up}
 use Rattle.list_groups.specs.notions.Spelt.{AllGood}
 use Rattle.list_radio.specs.notions.Good.{Good, form_bytes}
 use Rattle.list_moves.specs.rules.Moves.{to_list}
@@ -27,4 +27,4 @@ pub byte_two_is_moved_up : (s : List ℕ) → Bytes s → is_narrow s ≡ true �
 byte_two_is_moved_up s y l r =
     let rs = narrow_stars s in
     let k = narrow_bytes_back s (narrow_whole s l).1 y in
-    byte_two_moves rs (still_good rs k.fitting r) (omega (arith, length-narrow-stars s, narrow-few s l)) ∙ sym (moves-up s l r)
+    byte_two_moves rs (still_good rs k.fitting r) (omega (arith, length_narrow_stars s, narrow_few s l)) ∙ sym (moves_up s l r)

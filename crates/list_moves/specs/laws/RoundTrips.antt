@@ -12,7 +12,7 @@ use Rattle.lent.specs.laws.Flags.{both_hold}
 use Rattle.list.specs.declared.Star.{Star}
 use Rattle.list.specs.rules.Record.{in_range}
 use Rattle.list.specs.rules.Stars.{most_stars, is_list, stars, list_bytes, AllFitting, Bytes, all_in_range}
-use Rattle.list.specs.laws.Stars.{whole, length-stars, few}
+use Rattle.list.specs.laws.Stars.{whole, length_stars, few}
 use Rattle.list.specs.laws.RoundTrips.{is_list_lem, stars_back, bytes_back}
 use Rattle.quantity.specs.laws.Steps.{same_value, refused_not_answered, changed}
 use Rattle.list_groups.specs.notions.Spelt.{AllGood}
@@ -57,14 +57,14 @@ accepted_moves s n h = let c = changed (radio_stars s) length n h in (list_bytes
 -- ---- the moves: what is answered is undone
 
 module _ (s t : List ℕ) (y : Bytes s) where
-  to-radio-undone : to_radio s ≡ answered t → to_list t ≡ answered s
+  to_radio_undone : to_radio s ≡ answered t → to_list t ≡ answered s
   unfolding to_radio to_list
-  to-radio-undone = go (is_list s) refl
+  to_radio_undone = go (is_list s) refl
     where
       back : is_list s ≡ true → all_in_range (stars s) ≡ true → answered (radio_bytes (stars s)) ≡ answered t → to_list t ≡ answered s
       back l r e =
           let w = bytes_back s (whole s l).1 y in
-          let d = written_is_read (stars s) (all_good (stars s) w.fitting r) (omega (arith, few s l, length-stars s)) in
+          let d = written_is_read (stars s) (all_good (stars s) w.fitting r) (omega (arith, few s l, length_stars s)) in
           ap to_list (same_value (sym e)) ∙ rw d (ap answered w.bytes)
 
       ranged : is_list s ≡ true → (b : Bool) → all_in_range (stars s) ≡ b
@@ -79,9 +79,9 @@ module _ (s t : List ℕ) (y : Bytes s) where
       go false l h = absurd (refused_not_answered h)
 
   -- either radio list, and what is written again
-  pub written-again : to_list s ≡ answered t → WrittenAgain s t
+  pub written_again : to_list s ≡ answered t → WrittenAgain s t
   unfolding to_radio to_list
-  written-again h =
+  written_again h =
       let c = changed (radio_stars s) list_bytes t h in
       let rs = c.value in
       let moving = is_moving s in
@@ -93,9 +93,9 @@ module _ (s t : List ℕ) (y : Bytes s) where
         same = written_is_read rs (held moving rs l.good) l.most;
       }
 
-  to-list-undone : is_moving s ≡ true → to_list s ≡ answered t → to_radio t ≡ answered s
-  to-list-undone e h =
-      let w = written-again h in
+  to_list_undone : is_moving s ≡ true → to_list s ≡ answered t → to_radio t ≡ answered s
+  to_list_undone e h =
+      let w = written_again h in
       let l = radio_read_was_spelt s w.rs y w.was in
       w.written ∙ ap answered (as_written w.rs ∙ ap (λ (m : Bool). form_bytes m w.rs) (sym e) ∙ sym l.bytes)
 
@@ -106,7 +106,7 @@ byte_two_moves rs g h = rw (radio_spelt_is_read false rs g h)
 
 -- any acceptable list with all records in range moves to the radio form, and back to the same bytes
 pub list_to_radio_and_back : (s : List ℕ) → Bytes s → is_list s ≡ true → all_in_range (stars s) ≡ true → ThereAndBack to_radio to_list s
-list_to_radio_and_back s y l r = record { moved = radio_bytes (stars s); goes = goes-there; returns = to-radio-undone s (radio_bytes (stars s)) y goes-there }
+list_to_radio_and_back s y l r = record { moved = radio_bytes (stars s); goes = goes-there; returns = to_radio_undone s (radio_bytes (stars s)) y goes-there }
   where
     goes-there : to_radio s ≡ answered (radio_bytes (stars s))
     goes-there = in_range_moves s l r
@@ -114,7 +114,7 @@ list_to_radio_and_back s y l r = record { moved = radio_bytes (stars s); goes = 
 -- any accepted radio list that begins with byte 3 moves to the stored list, and back to the same bytes
 pub radio_to_list_and_back : (s : List ℕ) (n : ℕ) → Bytes s → is_moving s ≡ true → accept_rule s ≡ answered n → ThereAndBack to_list to_radio s
 radio_to_list_and_back s n y e h =
-    let m = accepted_moves s n h in record { moved = m.0; goes = m.1; returns = to-list-undone s m.0 y e m.1 }
+    let m = accepted_moves s n h in record { moved = m.0; goes = m.1; returns = to_list_undone s m.0 y e m.1 }
 
 -- ---- the same of the movers' answers: what the one wrote, the other writes back
 
@@ -133,14 +133,14 @@ put_text text old new n p =
     }
 
 module _ (s old new : List ℕ) (n : ℕ) (old' new' : List ℕ) (m : ℕ) (y : Bytes s) where
-  pub moved-to-radio-and-back : Put (to_radio s) old 0 new (To n) → Put (to_list (take n new)) old' 0 new' (To m) → take m new' ≡ s
-  moved-to-radio-and-back p q =
+  pub moved_to_radio_and_back : Put (to_radio s) old 0 new (To n) → Put (to_list (take n new)) old' 0 new' (To m) → take m new' ≡ s
+  moved_to_radio_and_back p q =
       let a = put_text (to_radio s) old new n p in
       let b = put_text (to_list (take n new)) old' new' m q in
-      b.front ∙ same_value (sym b.is ∙ ap to_list a.front ∙ to-radio-undone s a.t y a.is)
+      b.front ∙ same_value (sym b.is ∙ ap to_list a.front ∙ to_radio_undone s a.t y a.is)
 
-  pub moved-to-list-and-back : is_moving s ≡ true → Put (to_list s) old 0 new (To n) → Put (to_radio (take n new)) old' 0 new' (To m) → take m new' ≡ s
-  moved-to-list-and-back e p q =
+  pub moved_to_list_and_back : is_moving s ≡ true → Put (to_list s) old 0 new (To n) → Put (to_radio (take n new)) old' 0 new' (To m) → take m new' ≡ s
+  moved_to_list_and_back e p q =
       let a = put_text (to_list s) old new n p in
       let b = put_text (to_radio (take n new)) old' new' m q in
-      b.front ∙ same_value (sym b.is ∙ ap to_radio a.front ∙ to-list-undone s a.t y e a.is)
+      b.front ∙ same_value (sym b.is ∙ ap to_radio a.front ∙ to_list_undone s a.t y e a.is)

@@ -7,8 +7,8 @@ use Rattle.double.specs.laws.Calls.{asks_nothing}
 use Rattle.list_groups.specs.laws.Tails.{found, not_found}
 use Rattle.list_radio.specs.rules.Star.{read_star}
 use Rattle.list_radio.specs.rules.Reader.{shown_received}
-use Rattle.list_radio.specs.laws.Star.{star-leaves-tail}
-use Rattle.list_radio.proofs.Checking.{Checking, begin, on, star-bad, all_good, bytes-over}
+use Rattle.list_radio.specs.laws.Star.{star_leaves_tail}
+use Rattle.list_radio.proofs.Checking.{Checking, begin, on, star_bad, all_good, bytes_over}
 use Rattle.list_radio.proofs.check_stars.Statement.{statement}
 use Rattle.list_radio.proofs.check_stars.Tie as tie
 
@@ -26,7 +26,7 @@ enum-known-k c = search rules
 
 returns : tie.Need-returns invariant-loop decreases-loop
 returns c =
-    star-bad _ _ _ _ _ _ c.before.before.before.before.before.loop.invariant c.before.k.given.0.0 (omega arith)
+    star_bad _ _ _ _ _ _ c.before.before.before.before.before.loop.invariant c.before.k.given.0.0 (omega arith)
     (not_found (read_star _) _ _ _ (sym (ap shown_received c.before.k.given.1) ∙ c.before.before.before.star-from.ensures))
 
 enum-known-next : tie.Need-enum-known-next invariant-loop decreases-loop
@@ -41,10 +41,10 @@ loop-less c = omega arith
 loop-again : tie.Need-loop-preserved invariant-loop decreases-loop
 loop-again c =
     on _ _ _ _ _ _ c.before.before.before.before.before.loop.invariant c.before.next.given.0.0 c.before.next.given.0.1.0 (omega arith)
-    (found (read_star _) _ _ (star-leaves-tail _) _ _ (sym (ap shown_received c.before.next.given.1) ∙ c.before.before.before.star-from.ensures)).read_so
+    (found (read_star _) _ _ (star_leaves_tail _) _ _ (sym (ap shown_received c.before.next.given.1) ∙ c.before.before.before.star-from.ensures)).read_so
 
 returns-2 : tie.Need-returns-2 invariant-loop decreases-loop
-returns-2 c = bytes-over _ _ _ _ _ _ c.before.before.loop.invariant (omega arith) c.if1.true
+returns-2 c = bytes_over _ _ _ _ _ _ c.before.before.loop.invariant (omega arith) c.if1.true
 
 returns-3 : tie.Need-returns-3 invariant-loop decreases-loop
 returns-3 c = all_good _ _ _ _ _ _ c.before.before.loop.invariant (omega arith) c.if1.false

@@ -6,7 +6,7 @@ use Rattle.list_groups.specs.rules.Reading.{read_number}
 use Rattle.list_groups.specs.rules.Read.{shown_read}
 use Rattle.list_groups.specs.notions.Tail.{Found}
 use Rattle.list_groups.specs.laws.Tails.{found, not_found, number_leaves_tail}
-use Rattle.list_radio.proofs.Reading.{now-refused, on-refused, on_read, last_read}
+use Rattle.list_radio.proofs.Reading.{now_refused, on_refused, on_read, last_read}
 use Rattle.list_radio.proofs.place_at.Statement.{statement}
 use Rattle.list_radio.proofs.place_at.Tie as tie
 
@@ -42,19 +42,19 @@ second : (c : tie.After-asc) → Found read_number (start (after_first c)).args.
 second c = found read_number _ _ number_leaves_tail _ _ (sym (ap shown_read c.asc.given.1) ∙ c.before.before.number-at2.ensures)
 
 returns : tie.Need-returns
-returns c = now-refused _ _ _ _ (not_found read_number _ _ _ (sym (ap shown_read c.before.k.given.1) ∙ c.before.before.before.number_at.ensures))
+returns c = now_refused _ _ _ _ (not_found read_number _ _ _ (sym (ap shown_read c.before.k.given.1) ∙ c.before.before.before.number_at.ensures))
 
 returns-2 : tie.Need-returns-2
 returns-2 c =
-    on-refused _ _ _ _ _ (first c.before.before.before.before.before) _
-    (now-refused _ _ _ _ (not_found read_number _ _ _ (sym (ap shown_read c.before.k2.given.1) ∙ c.before.before.before.number-at2.ensures)))
+    on_refused _ _ _ _ _ (first c.before.before.before.before.before) _
+    (now_refused _ _ _ _ (not_found read_number _ _ _ (sym (ap shown_read c.before.k2.given.1) ∙ c.before.before.before.number-at2.ensures)))
 
 returns-3 : tie.Need-returns-3
 returns-3 c =
     let asc = c.before.before.before.before.before in
-    on-refused _ _ _ _ _ (first (after_first asc)) _
-    (on-refused _ _ _ _ _ (second asc) _
-    (now-refused _ _ _ _ (not_found read_number _ _ _ (sym (ap shown_read c.before.k3.given.1) ∙ c.before.before.before.number-at3.ensures))))
+    on_refused _ _ _ _ _ (first (after_first asc)) _
+    (on_refused _ _ _ _ _ (second asc) _
+    (now_refused _ _ _ _ (not_found read_number _ _ _ (sym (ap shown_read c.before.k3.given.1) ∙ c.before.before.before.number-at3.ensures))))
 
 returns-4 : tie.Need-returns-4
 returns-4 c =

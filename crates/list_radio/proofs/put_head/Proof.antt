@@ -9,7 +9,7 @@ use Rattle.double.specs.laws.Calls.{asks_nothing}
 use Rattle.list_groups.specs.rules.Groups.{groups}
 use Rattle.list_groups.specs.laws.Length.{at_most_five}
 use Rattle.list_radio.specs.rules.Radio.{head_bytes}
-use Rattle.lent.specs.laws.Put.{put_refused, tested-no-room, tested-puts}
+use Rattle.lent.specs.laws.Put.{put_refused, tested_no_room, tested_puts}
 use Rattle.list_radio.specs.laws.Put.{head_text_lem, no_head_text, length_head}
 use Rattle.list_radio.proofs.put_head.Statement.{statement}
 use Rattle.list_radio.proofs.put_head.Tie as tie
@@ -27,7 +27,7 @@ returns-2 : tie.Need-returns-2
 returns-2 c =
     let count = c.before.before in
     let n = count.before.before.before.args.count in
-    tested-no-room _ _ _ _ (head_text_lem n count.before.if1.false) _ (sized n _ count.count.ensures) _ c.before.has_room.ensures (not-true _ c.if2.true)
+    tested_no_room _ _ _ _ (head_text_lem n count.before.if1.false) _ (sized n _ count.count.ensures) _ c.before.has_room.ensures (not-true _ c.if2.true)
 
 same_length : tie.Need-same-length
 same_length c = search rules
@@ -37,7 +37,7 @@ returns-3 c =
     let test = c.before.before.before.before in
     let count = test.before.before in
     let n = count.before.before.before.args.count in
-    tested-puts _ _ _ _ (head_text_lem n count.before.if1.false) _ (sized n _ count.count.ensures) _ test.before.has_room.ensures (not-false _ test.if2.false) _ _
+    tested_puts _ _ _ _ (head_text_lem n count.before.if1.false) _ (sized n _ count.count.ensures) _ test.before.has_room.ensures (not-false _ test.if2.false) _ _
     c.before.before.write-head.ensures
 
 pub put-head-spec : {M : Type 1} → statement M

@@ -8,9 +8,9 @@ use Rattle.list_groups.specs.rules.Reading.{read_number}
 use Rattle.list_groups.specs.rules.Several.{read_all}
 use Rattle.list_groups.specs.notions.Tail.{Found}
 use Rattle.list_groups.specs.laws.Tails.{found, not_found, number_leaves_tail}
-use Rattle.list_groups.specs.laws.Several.{all-leave-tail}
+use Rattle.list_groups.specs.laws.Several.{all_leave_tail}
 use Rattle.list_radio.specs.rules.Reader.{shown_place, shown_rates}
-use Rattle.list_radio.proofs.Reading.{place-refused, still_read, rates-refused, rates-read}
+use Rattle.list_radio.proofs.Reading.{place_refused, still_read, rates_refused, rates_read}
 use Rattle.list_radio.proofs.star_from.Statement.{statement}
 use Rattle.list_radio.proofs.star_from.Tie as tie
 
@@ -33,7 +33,7 @@ start c = c.before.before.before.before
 place : (c : tie.After-number)
     → Found (read_all read_number 3) (start c).args.bytes.now (start c).args.at (c.number.given.0.0 ∷ c.number.given.0.1.0 ∷ c.number.given.0.1.1.0 ∷ []) c.number.given.0.1.1.1.0
 place c =
-    found (read_all read_number 3) _ _ (all-leave-tail read_number number_leaves_tail 3) _ _
+    found (read_all read_number 3) _ _ (all_leave_tail read_number number_leaves_tail 3) _ _
     (sym (ap shown_place c.number.given.1) ∙ c.before.before.place_at.ensures)
 
 abbrev moves : tie.After-asc-rate → tie.Else1
@@ -45,7 +45,7 @@ after-place c = c.before.before
 rates : (c : tie.After-asc-rate)
     → Found (read_all read_number 2) (start (after-place (moves c))).args.bytes.now (after-place (moves c)).number.given.0.1.1.1.0 (c.asc-rate.given.0.0 ∷ c.asc-rate.given.0.1.0 ∷ []) c.asc-rate.given.0.1.1.0
 rates c =
-    found (read_all read_number 2) _ _ (all-leave-tail read_number number_leaves_tail 2) _ _
+    found (read_all read_number 2) _ _ (all_leave_tail read_number number_leaves_tail 2) _ _
     (sym (ap shown_rates c.asc-rate.given.1) ∙ c.before.before.rates-at.ensures)
 
 -- ---- the answers
@@ -54,20 +54,20 @@ returns c = still_read _ _ _ _ _ _ (place c.before.before.before) _ _ (not-true 
 
 returns-2 : tie.Need-returns-2
 returns-2 c =
-    place-refused _ _ _ _
+    place_refused _ _ _ _
     (not_found (read_all read_number 3) _ _ _ (sym (ap shown_place c.before.k.given.1) ∙ c.before.before.before.place_at.ensures))
 
 returns-3 : tie.Need-returns-3
 returns-3 c =
     let else = c.before.before.before.before in
-    rates-refused _ _ _ _ _ _ (place (after-place else)) _ (not-false _ else.if1.false) _
+    rates_refused _ _ _ _ _ _ (place (after-place else)) _ (not-false _ else.if1.false) _
     (not_found (read_all read_number 2) _ _ _ (sym (ap shown_rates c.before.k2.given.1) ∙ c.before.before.before.rates-at.ensures))
 
 returns-4 : tie.Need-returns-4
 returns-4 c =
     let rate = c.before.before in
     let else = moves rate in
-    rates-read _ _ _ _ _ _ (place (after-place else)) _ (not-false _ else.if1.left) _ _ _ _ (rates rate) c.star-of2.ensures
+    rates_read _ _ _ _ _ _ (place (after-place else)) _ (not-false _ else.if1.left) _ _ _ _ (rates rate) c.star-of2.ensures
 
 pub star-from-spec : {M : Type 1} → statement M
 star-from-spec =

@@ -3,7 +3,7 @@ use mathlib.Core.Path.{sym, ◌∙◌}
 use mir.Syntax.{w32}
 use mir.Facts.{to_z-of_z}
 use Rattle.double.specs.laws.Calls.{asks_nothing}
-use Rattle.list_radio.proofs.Reading.{star-here, star-out}
+use Rattle.list_radio.proofs.Reading.{star_here, star_out}
 use Rattle.list_radio.proofs.star_of.Statement.{statement}
 use Rattle.list_radio.proofs.star_of.Tie as tie
 
@@ -12,7 +12,7 @@ returns c =
     let v = c.before.before.unfold3 in
     let u = c.before.before.before.unfold2 in
     let d = c.before.before.before.before.unfold in
-    star-here _ _ _ _ _ _ _ _ _
+    star_here _ _ _ _ _ _ _ _ _
     (to_z-of_z {w = w32} (record { sfits = d.type-inv }) ∙ d.ensures)
     (to_z-of_z {w = w32} (record { sfits = u.type-inv }) ∙ u.ensures)
     (to_z-of_z {w = w32} (record { sfits = v.type-inv }) ∙ v.ensures)
@@ -23,7 +23,7 @@ returns-2 c =
     let v = c.before.before.unfold3 in
     let u = c.before.before.before.unfold2 in
     let d = c.before.before.before.before.unfold in
-    star-out _ _ _ _ _ _ _ _ _
+    star_out _ _ _ _ _ _ _ _ _
     (to_z-of_z {w = w32} (record { sfits = d.type-inv }) ∙ d.ensures)
     (to_z-of_z {w = w32} (record { sfits = u.type-inv }) ∙ u.ensures)
     (to_z-of_z {w = w32} (record { sfits = v.type-inv }) ∙ v.ensures)

@@ -19,17 +19,17 @@ which_mark b = go (eqb b (mark true)) refl (eqb b (mark false)) refl
     go false e false f = other (λ (bs : List ℕ). rw (e, f))
 
 module _ (moving : Bool) (bs : List ℕ) where
-  pub mark-taken : mark_refusal (mark moving ∷ bs) ≡ 0
+  pub mark_taken : mark_refusal (mark moving ∷ bs) ≡ 0
   unfolding mark_refusal
-  mark-taken = go moving
+  mark_taken = go moving
     where
       go : (t : Bool) → mark_refusal (mark t ∷ bs) ≡ 0
       go true = refl
       go false = refl
 
-  pub moving-is : is_moving (mark moving ∷ bs) ≡ moving
+  pub moving_is : is_moving (mark moving ∷ bs) ≡ moving
   unfolding is_moving
-  moving-is = go moving
+  moving_is = go moving
     where
       go : (t : Bool) → is_moving (mark t ∷ bs) ≡ t
       go true = refl
@@ -41,7 +41,7 @@ stars_after moving g = stars_of moving g.value g.rest
 
 pub marked_stars : (moving : Bool) (bs : List ℕ) → radio_stars (mark moving ∷ bs) ≡ then (read_count bs) (stars_after moving)
 unfolding radio_stars
-marked_stars moving bs = rw (mark-taken moving bs, moving-is moving bs)
+marked_stars moving bs = rw (mark_taken moving bs, moving_is moving bs)
 
 pub other_stars : (b : ℕ) (bs : List ℕ) → mark_refusal (b ∷ bs) ≡ 11 → radio_stars (b ∷ bs) ≡ refused 11
 unfolding radio_stars

@@ -8,12 +8,12 @@ use Rattle.list.specs.rules.Record.{in_range}
 use Rattle.list.specs.rules.Stars.{most_stars}
 use Rattle.list_groups.specs.rules.Reading.{Got, read_number, read_at}
 use Rattle.list_groups.specs.rules.Several.{read_all}
-use Rattle.list_groups.specs.laws.Several.{first-met}
+use Rattle.list_groups.specs.laws.Several.{first_met}
 use Rattle.list_radio.specs.notions.Order.{FirstByteRefused, CountRefused}
 use Rattle.list_radio.specs.rules.Star.{number_count, star_of, read_star}
 use Rattle.list_radio.specs.rules.Radio.{mark, mark_refusal, read_count, stars_of, radio_stars}
 use Rattle.list_radio.specs.rules.Reader.{open_rule, star_at_rule, accept_rule}
-use Rattle.list_radio.specs.laws.Mark.{mark-taken, marked_stars}
+use Rattle.list_radio.specs.laws.Mark.{mark_taken, marked_stars}
 
 -- ---- the head
 
@@ -32,15 +32,15 @@ first_byte_first b bs h k = record { opened = rw is; received = λ (at : ℕ). r
 
 -- then what refuses the count, and 8 only of a count that was read, under either first byte
 module _ (moving : Bool) (bs : List ℕ) where
-  pub count-is-next : (k : ℕ) → read_number bs ≡ refused k → CountRefused (mark moving ∷ bs) k
+  pub count_is_next : (k : ℕ) → read_number bs ≡ refused k → CountRefused (mark moving ∷ bs) k
   unfolding open_rule accept_rule read_at read_count
-  count-is-next k e = record { opened = rw (mark-taken moving bs, e); accepted = rw (marked_stars moving bs, e) }
+  count_is_next k e = record { opened = rw (mark_taken moving bs, e); accepted = rw (marked_stars moving bs, e) }
 
-  pub eight-after-the-count : (g : Got ℕ) → read_number bs ≡ answered g → most_stars < g.value → CountRefused (mark moving ∷ bs) 8
+  pub eight_after_the_count : (g : Got ℕ) → read_number bs ≡ answered g → most_stars < g.value → CountRefused (mark moving ∷ bs) 8
   unfolding open_rule accept_rule read_at read_count
-  eight-after-the-count g e h =
+  eight_after_the_count g e h =
       let many = lt-leb g.value most_stars h in
-      record { opened = rw (mark-taken moving bs, e, many); accepted = rw (marked_stars moving bs, e, many) }
+      record { opened = rw (mark_taken moving bs, e, many); accepted = rw (marked_stars moving bs, e, many) }
 
 -- ---- a star
 
@@ -63,13 +63,13 @@ module _ (moving : Bool) (bs : List ℕ) (g : Got ℕ) (head : read_count bs ≡
   whole = rw (marked_stars moving bs, head)
 
   -- the first star that is refused refuses the list: after m that are answered
-  pub first-star-refused : (m : ℕ) (h : Got (List Star)) (k : ℕ) → m < g.value → read_all (read_star moving) m g.rest ≡ answered h
+  pub first_star_refused : (m : ℕ) (h : Got (List Star)) (k : ℕ) → m < g.value → read_all (read_star moving) m g.rest ≡ answered h
       → read_star moving h.rest ≡ refused k → accept_rule (mark moving ∷ bs) ≡ refused k
   unfolding stars_of
-  first-star-refused m h k l e r = whole ∙ rw (first-met (read_star moving) m g.value g.rest h k l e r)
+  first_star_refused m h k l e r = whole ∙ rw (first_met (read_star moving) m g.value g.rest h k l e r)
 
   -- 13 for bytes over, after the last star
-  pub bytes-over-are-thirteen : (h : Got (List Star)) → read_all (read_star moving) g.value g.rest ≡ answered h
+  pub bytes_over_are_thirteen : (h : Got (List Star)) → read_all (read_star moving) g.value g.rest ≡ answered h
       → 0 < length h.rest → accept_rule (mark moving ∷ bs) ≡ refused 13
   unfolding stars_of
-  bytes-over-are-thirteen h e over = whole ∙ rw (e, ne_eqb (length h.rest) 0 (λ z. omega arith))
+  bytes_over_are_thirteen h e over = whole ∙ rw (e, ne_eqb (length h.rest) 0 (λ z. omega arith))

@@ -12,15 +12,15 @@ use Rattle.list_groups.specs.notions.Tail.{Tail, LeavesTail}
 use Rattle.list_groups.specs.laws.Tails.{number_leaves_tail}
 use Rattle.list_groups.specs.laws.Inverse.{spelt_is_read, read_was_spelt}
 use Rattle.list_groups.specs.notions.Spelt.{AllGood}
-use Rattle.list_groups.specs.laws.Several.{bytes_after_lem, all-spelt-are-read, all-read-were-spelt}
+use Rattle.list_groups.specs.laws.Several.{bytes_after_lem, all_spelt_are_read, all_read_were_spelt}
 use Rattle.list.specs.notions.Still.{Still}
 use Rattle.list_radio.specs.notions.Good.{Good, form_groups, form_bytes, Radio}
 use Rattle.list_radio.specs.notions.Mark.{Mark, is, other}
 use Rattle.list_radio.specs.rules.Star.{star_groups, read_star}
 use Rattle.list_radio.specs.rules.Radio.{mark, head_bytes, radio_bytes, mark_refusal, is_moving, few, read_count}
 use Rattle.list_radio.specs.rules.Radio.{nothing_over, stars_of, radio_stars}
-use Rattle.list_radio.specs.laws.Star.{star-spelt-is-read, star-read-was-spelt}
-use Rattle.list_radio.specs.laws.Mark.{which_mark, moving-is, stars_after, marked_stars, other_stars}
+use Rattle.list_radio.specs.laws.Star.{star_spelt_is_read, star_read_was_spelt}
+use Rattle.list_radio.specs.laws.Mark.{which_mark, moving_is, stars_after, marked_stars, other_stars}
 
 -- ---- the count
 
@@ -66,7 +66,7 @@ stars_back moving n bs rs y h =
     let s = stepped (read_all (read_star moving) n bs) nothing_over rs h in
     let g = s.value in
     let o = over_back g rs s.next in
-    let a = all-read-were-spelt (form_groups moving) (read_star moving) (Good moving) (star-read-was-spelt moving) n bs g y s.first in
+    let a = all_read_were_spelt (form_groups moving) (read_star moving) (Good moving) (star_read_was_spelt moving) n bs g y s.first in
     let spelt = spell_all (form_groups moving) g.value in
     subst (λ (x : List Star). Listed moving bs x n) (sym o.1)
     (record {
@@ -92,7 +92,7 @@ pub radio_spelt_is_read : (moving : Bool) (rs : List Star) → AllGood (Good mov
 unfolding read_count stars_of form_bytes
 radio_spelt_is_read moving rs g h =
     let spelt = spell_all (form_groups moving) rs in
-    let all = all-spelt-are-read (form_groups moving) (read_star moving) (Good moving) (star-spelt-is-read moving) rs [] g in
+    let all = all_spelt_are_read (form_groups moving) (read_star moving) (Good moving) (star_spelt_is_read moving) rs [] g in
     let stars : read_all (read_star moving) (length rs) spelt ≡ answered (record { value = rs; rest = [] })
     = ap (read_all (read_star moving) (length rs)) (sym (append-nil spelt)) ∙ all in
     marked_stars moving (groups (length rs) ++ spelt)
@@ -127,7 +127,7 @@ radio_read_was_spelt (b ∷ bs) rs y h = go (which_mark b)
     go : Mark b → Radio (is_moving (b ∷ bs)) (b ∷ bs) rs
     go (is moving e) =
         let here = after_mark moving bs rs (λ (i : ℕ). y (suc i)) (sym (marked_stars moving bs) ∙ ap (λ (x : ℕ). radio_stars (x ∷ bs)) (sym e) ∙ h) in
-        let known = subst (λ (t : Bool). Radio t (mark moving ∷ bs) rs) (sym (moving-is moving bs)) here in
+        let known = subst (λ (t : Bool). Radio t (mark moving ∷ bs) rs) (sym (moving_is moving bs)) here in
         subst (λ (x : ℕ). Radio (is_moving (x ∷ bs)) (x ∷ bs) rs) (sym e) known
     go (other e) = absurd (refused_not_answered (sym (other_stars b bs (e bs)) ∙ h))
 
@@ -141,7 +141,7 @@ one_spelling s t rs y z e p q =
 pub byte_two_stands_still : (bs : List ℕ) (rs : List Star) → Bytes (mark false ∷ bs) → radio_stars (mark false ∷ bs) ≡ answered rs
     → AllGood Still rs
 byte_two_stands_still bs rs y h =
-    stand rs (subst (λ (t : Bool). AllGood (Good t) rs) (moving-is false bs) (radio_read_was_spelt (mark false ∷ bs) rs y h).good)
+    stand rs (subst (λ (t : Bool). AllGood (Good t) rs) (moving_is false bs) (radio_read_was_spelt (mark false ∷ bs) rs y h).good)
   where
     stand : (l : List Star) → AllGood (Good false) l → AllGood Still l
     stand [] g = tt

@@ -16,9 +16,9 @@ module _ (s : List ℕ) where
   stars g = stars_of (is_moving s) g.value g.rest
 
   -- what refuses the head refuses the list
-  pub head-refused : (k : ℕ) → refused k ≡ open_rule s → radio_stars s ≡ refused k
+  pub head_refused : (k : ℕ) → refused k ≡ open_rule s → radio_stars s ≡ refused k
   unfolding open_rule radio_stars
-  head-refused k = go (eqb (mark_refusal s) 0)
+  head_refused k = go (eqb (mark_refusal s) 0)
     where
       go : (t : Bool) → refused k ≡ cond t (read_at read_count s 1) (refused (mark_refusal s))
           → cond t (then (read_count (drop 1 s)) stars) (refused (mark_refusal s)) ≡ refused k
@@ -26,20 +26,20 @@ module _ (s : List ℕ) where
       go false e = cc
 
   -- and where the head is answered, the stars are read from the offset that it answers
-  pub head-answered : (n first : ℕ) → answered (record { value = n; offset = first }) ≡ open_rule s → radio_stars s ≡ stars_of (is_moving s) n (drop first s)
+  pub head_answered : (n first : ℕ) → answered (record { value = n; offset = first }) ≡ open_rule s → radio_stars s ≡ stars_of (is_moving s) n (drop first s)
   unfolding open_rule radio_stars
-  head-answered n first = go (eqb (mark_refusal s) 0)
+  head_answered n first = go (eqb (mark_refusal s) 0)
     where
       go : (t : Bool) → answered (record { value = n; offset = first }) ≡ cond t (read_at read_count s 1) (refused (mark_refusal s))
           → cond t (then (read_count (drop 1 s)) stars) (refused (mark_refusal s)) ≡ stars_of (is_moving s) n (drop first s)
       go true e = rw (found read_count s 1 count_leaves_tail n first e).read_so
       go false e = absurd (refused_not_answered (sym e))
 
-  pub accept-refused : (k : ℕ) → refused k ≡ open_rule s → refused k ≡ accept_rule s
+  pub accept_refused : (k : ℕ) → refused k ≡ open_rule s → refused k ≡ accept_rule s
   unfolding accept_rule
-  accept-refused k e = rw (head-refused k e)
+  accept_refused k e = rw (head_refused k e)
 
-  pub accept-answered : (n first : ℕ) → answered (record { value = n; offset = first }) ≡ open_rule s
+  pub accept_answered : (n first : ℕ) → answered (record { value = n; offset = first }) ≡ open_rule s
       → with length (stars_of (is_moving s) n (drop first s)) ≡ accept_rule s
   unfolding accept_rule
-  accept-answered n first e = rw (head-answered n first e)
+  accept_answered n first e = rw (head_answered n first e)

@@ -17,19 +17,19 @@ use Rattle.list_groups.specs.rules.Several.{spell_all, before, read_all}
 use Rattle.list_groups.specs.notions.Spelt.{AllGood}
 use Rattle.list_groups.specs.notions.Streams.{longer, TakesAtMost}
 use Rattle.quantity.specs.laws.Steps.{refused_not_answered, stepped, with_refused}
-use Rattle.list_groups.specs.laws.Length.{one-group, two-groups}
+use Rattle.list_groups.specs.laws.Length.{one_group, two_groups}
 use Rattle.list_groups.specs.laws.Inverse.{read_was_spelt}
 use Rattle.list_groups.specs.laws.Several.{bytes_after_lem}
-use Rattle.list_groups.specs.laws.Streams.{all-stream}
-use Rattle.list_groups.specs.laws.Taken.{number_takes_five, all-take-at-most, then-takes-at-most}
+use Rattle.list_groups.specs.laws.Streams.{all_stream}
+use Rattle.list_groups.specs.laws.Taken.{number_takes_five, all_take_at_most, then_takes_at_most}
 use Rattle.list_radio.specs.rules.Star.{number_count, star_groups, star_of, ranged, read_star}
 use Rattle.list_radio.specs.rules.Radio.{radio_bytes, is_moving, few, read_count, nothing_over, stars_of, radio_stars}
 use Rattle.list_radio.specs.notions.Room.{most_bytes, deciding_bytes}
 use Rattle.list_radio.specs.notions.Good.{InRange, Good, form_groups, form_bytes}
-use Rattle.list_radio.specs.laws.Star.{at_most_twenty_five, at_most_twenty_one, ranged_back, star-read-was-spelt}
+use Rattle.list_radio.specs.laws.Star.{at_most_twenty_five, at_most_twenty_one, ranged_back, star_read_was_spelt}
 use Rattle.list_radio.specs.laws.Mark.{stars_after, under_mark}
 use Rattle.list_radio.specs.laws.Radio.{few_back, as_written, radio_read_was_spelt}
-use Rattle.list_radio.specs.laws.Streams.{star_streams, count_streams, radio-refuses}
+use Rattle.list_radio.specs.laws.Streams.{star_streams, count_streams, radio_refuses}
 
 -- ---- room
 
@@ -54,8 +54,8 @@ count_short : (n : ℕ) → n ≤ most_stars → length (groups n) ≤ 2
 count_short n h = go (ltb n 128) refl
   where
     go : (t : Bool) → ltb n 128 ≡ t → length (groups n) ≤ 2
-    go true e = omega (arith, one-group n (ltb-true n 128 e))
-    go false e = omega (arith, two-groups n (ltb-false n 128 e) (omega arith))
+    go true e = omega (arith, one_group n (ltb-true n 128 e))
+    go false e = omega (arith, two_groups n (ltb-false n 128 e) (omega arith))
 
 spelt_short : (moving : Bool) (rs : List Star) → AllGood InRange rs → length rs ≤ most_stars → length (form_bytes moving rs) ≤ most_bytes
 unfolding form_bytes
@@ -78,8 +78,8 @@ accepted_has_room s rs y h =
 star_takes : (moving : Bool) → TakesAtMost (number_count moving * 5) (read_star moving)
 unfolding read_star
 star_takes moving =
-    then-takes-at-most (number_count moving * 5) (read_all read_number (number_count moving))
-    (all-take-at-most 5 read_number number_takes_five (number_count moving))
+    then_takes_at_most (number_count moving * 5) (read_all read_number (number_count moving))
+    (all_take_at_most 5 read_number number_takes_five (number_count moving))
     ranged keeps thirteen
   where
     keeps : (g : Got (List ℕ)) (h : Got Star) → ranged g ≡ answered h → length g.rest ≡ length h.rest
@@ -96,10 +96,10 @@ star_takes moving =
 
 -- where stars end first, all before the last were in range, and the last may have had twenty-five bytes
 module _ (moving : Bool) where
-  stars-end : (n : ℕ) (bs : List ℕ) → Bytes bs → read_all (read_star moving) n bs ≡ refused 13 → length bs < n * 21 + 4
+  stars_end : (n : ℕ) (bs : List ℕ) → Bytes bs → read_all (read_star moving) n bs ≡ refused 13 → length bs < n * 21 + 4
   unfolding read_all then
-  stars-end zero bs y h = absurd (refused_not_answered (sym h))
-  stars-end (suc n) bs y h = go (read_star moving bs) refl (stars-end n) h
+  stars_end zero bs y h = absurd (refused_not_answered (sym h))
+  stars_end (suc n) bs y h = go (read_star moving bs) refl (stars_end n) h
     where
       most : (t : Bool) → number_count t * 5 ≤ 25
       most true = omega arith
@@ -110,7 +110,7 @@ module _ (moving : Bool) where
           → then x (λ (f : Got Star). with (before f.value) (read_all (read_star moving) n f.rest)) ≡ refused 13
           → length bs < suc n * 21 + 4
       go (answered f) e ih h =
-          let o = star-read-was-spelt moving bs f y e in
+          let o = star_read_was_spelt moving bs f y e in
           let front = form_groups moving f.value in
           let rest-bytes = bytes_after_lem front f.rest (subst Bytes o.bytes y) in
           let left = ih f.rest rest-bytes (with_refused (read_all (read_star moving) n f.rest) (before f.value) 13 h) in
@@ -119,7 +119,7 @@ module _ (moving : Bool) where
 
 count_takes_five : TakesAtMost 5 read_count
 unfolding read_count
-count_takes_five = then-takes-at-most 5 read_number number_takes_five few keeps thirteen
+count_takes_five = then_takes_at_most 5 read_number number_takes_five few keeps thirteen
   where
     keeps : (g h : Got ℕ) → few g ≡ answered h → length g.rest ≡ length h.rest
     keeps g h e = ap (λ (x : Got ℕ). length x.rest) (sym (few_back g h e).is)
@@ -148,15 +148,15 @@ record Counted (g : Got ℕ) : Type 0 where
 
 module _ (more : List ℕ) where
   -- thirteen of so many bytes is for bytes over
-  stars-over : (moving : Bool) (n : ℕ) (bs : List ℕ) → Bytes bs → n * 21 + 4 ≤ length bs → stars_of moving n bs ≡ refused 13
+  stars_over : (moving : Bool) (n : ℕ) (bs : List ℕ) → Bytes bs → n * 21 + 4 ≤ length bs → stars_of moving n bs ≡ refused 13
       → stars_of moving n (bs ++ more) ≡ refused 13
   unfolding stars_of
-  stars-over moving n bs y long = go (read_all (read_star moving) n bs) refl
+  stars_over moving n bs y long = go (read_all (read_star moving) n bs) refl
     where
       go : (x : Answer (Got (List Star))) → read_all (read_star moving) n bs ≡ x → then x nothing_over ≡ refused 13
           → then (read_all (read_star moving) n (bs ++ more)) nothing_over ≡ refused 13
-      go (answered g) e h = rw ((all-stream (read_star moving) (star_streams moving) n).answers bs more g e) (still_over g more h)
-      go (refused j) e h = absurd (let z = stars-end moving n bs y (e ∙ ap refused (let q : j ≡ 13 = cc in q)) in omega arith)
+      go (answered g) e h = rw ((all_stream (read_star moving) (star_streams moving) n).answers bs more g e) (still_over g more h)
+      go (refused j) e h = absurd (let z = stars_end moving n bs y (e ∙ ap refused (let q : j ≡ 13 = cc in q)) in omega arith)
 
   after_mark : (moving : Bool) (bs : List ℕ) → Bytes bs → most_bytes + 3 ≤ length bs
       → then (read_count bs) (stars_after moving) ≡ refused 13 → then (read_count (bs ++ more)) (stars_after moving) ≡ refused 13
@@ -180,22 +180,22 @@ module _ (more : List ℕ) where
           → then (read_count (bs ++ more)) (stars_after moving) ≡ refused 13
       go (answered g) e h =
           let k = counted g e in
-          rw (count_streams.answers bs more g e) (stars-over moving g.value g.rest k.bytes k.long h)
+          rw (count_streams.answers bs more g e) (stars_over moving g.value g.rest k.bytes k.long h)
       go (refused j) e h = absurd (let z = count_takes_five.ends bs (e ∙ ap refused (let q : j ≡ 13 = cc in q)) in omega arith)
 
-  thirteen-stays : (s : List ℕ) → Bytes s → deciding_bytes ≤ length s → radio_stars s ≡ refused 13 → radio_stars (s ++ more) ≡ refused 13
-  thirteen-stays [] y long h = absurd (omega arith)
-  thirteen-stays (b ∷ bs) y long h =
+  thirteen_stays : (s : List ℕ) → Bytes s → deciding_bytes ≤ length s → radio_stars s ≡ refused 13 → radio_stars (s ++ more) ≡ refused 13
+  thirteen_stays [] y long h = absurd (omega arith)
+  thirteen_stays (b ∷ bs) y long h =
       under_mark more b bs 13 (λ (moving : Bool). after_mark moving bs (λ (i : ℕ). y (suc i)) (omega arith)) h
 
   -- what is read of so many bytes is read of all
-  pub stars-decided : (s : List ℕ) → Bytes s → deciding_bytes ≤ length s → radio_stars (s ++ more) ≡ radio_stars s
-  stars-decided s y long = go (radio_stars s) refl
+  pub stars_decided : (s : List ℕ) → Bytes s → deciding_bytes ≤ length s → radio_stars (s ++ more) ≡ radio_stars s
+  stars_decided s y long = go (radio_stars s) refl
     where
       go : (x : Answer (List Star)) → radio_stars s ≡ x → radio_stars (s ++ more) ≡ radio_stars s
       go (answered rs) e = absurd (let z = accepted_has_room s rs y e in omega arith)
       go (refused k) e = by (eqb k 13) refl
         where
           by : (t : Bool) → eqb k 13 ≡ t → radio_stars (s ++ more) ≡ radio_stars s
-          by true is = thirteen-stays s y long (e ∙ ap refused (eqb-true k 13 is)) ∙ ap refused (sym (eqb-true k 13 is)) ∙ sym e
-          by false is = radio-refuses k (eqb-false k 13 is) more s e ∙ sym e
+          by true is = thirteen_stays s y long (e ∙ ap refused (eqb-true k 13 is)) ∙ ap refused (sym (eqb-true k 13 is)) ∙ sym e
+          by false is = radio_refuses k (eqb-false k 13 is) more s e ∙ sym e

@@ -19,9 +19,9 @@ use Rattle.quantity.specs.laws.Steps.{refused_not_answered, stepped}
 use Rattle.list_groups.specs.notions.Tail.{LeavesTail}
 use Rattle.list_groups.specs.laws.Tails.{number_leaves_tail}
 use Rattle.list_groups.specs.notions.Spelt.{OneSpelt, Small, AllGood}
-use Rattle.list_groups.specs.laws.Several.{all-leave-tail, numbers_spelt_are_read, numbers_read_were_spelt}
+use Rattle.list_groups.specs.laws.Several.{all_leave_tail, numbers_spelt_are_read, numbers_read_were_spelt}
 use Rattle.list_groups.specs.laws.Fold.{unfolded_folded, folded_unfolded, folded_small, unfolded_small}
-use Rattle.list_groups.specs.laws.Length.{at_most_five, one-group, two-groups, three-groups}
+use Rattle.list_groups.specs.laws.Length.{at_most_five, one_group, two_groups, three_groups}
 use Rattle.list_radio.specs.notions.Good.{Held, Good, form_numbers, form_groups}
 use Rattle.list_radio.specs.rules.Star.{number_count, numbers_of, star_of, star_groups, ranged, read_star}
 
@@ -93,10 +93,10 @@ star_held false ns h =
 -- ---- a star and its bytes
 
 module _ (moving : Bool) where
-  pub star-spelt-is-read : (r : Star) (rest : List ℕ) → Good moving r
+  pub star_spelt_is_read : (r : Star) (rest : List ℕ) → Good moving r
       → read_star moving (form_groups moving r ++ rest) ≡ answered (record { value = r; rest = rest })
   unfolding read_star
-  star-spelt-is-read r rest g =
+  star_spelt_is_read r rest g =
       rw (sym (count moving), numbers_spelt_are_read (form_numbers moving r) rest (numbers_small moving r g.fitting))
       (ap (λ (x : Star). cond (in_range x) (answered (record { value = x; rest = rest })) (refused 9)) (star_back moving r g.held)
       ∙ ap (λ (t : Bool). cond t (answered (record { value = r; rest = rest })) (refused 9)) g.range)
@@ -119,10 +119,10 @@ ranged_back f g = go (in_range (star_of f.value)) refl
     go false e h = absurd (refused_not_answered h)
 
 module _ (moving : Bool) where
-  pub star-read-was-spelt : (bs : List ℕ) (g : Got Star) → Bytes bs → read_star moving bs ≡ answered g
+  pub star_read_was_spelt : (bs : List ℕ) (g : Got Star) → Bytes bs → read_star moving bs ≡ answered g
       → OneSpelt (form_groups moving) (Good moving) bs g
   unfolding read_star
-  star-read-was-spelt bs g y h =
+  star_read_was_spelt bs g y h =
       let s = stepped (read_all read_number (number_count moving) bs) ranged g h in
       let f = s.value in
       let n = numbers_read_were_spelt (number_count moving) bs f y s.first in
@@ -133,11 +133,11 @@ module _ (moving : Bool) where
         good = record { fitting = star_fits f.value n.good; range = r.range; held = star_held moving f.value n.many };
       })
 
-  pub star-leaves-tail : LeavesTail (read_star moving)
+  pub star_leaves_tail : LeavesTail (read_star moving)
   unfolding read_star
-  star-leaves-tail bs g h =
+  star_leaves_tail bs g h =
       let s = stepped (read_all read_number (number_count moving) bs) ranged g h in
-      let t = all-leave-tail read_number number_leaves_tail (number_count moving) bs s.value s.first in
+      let t = all_leave_tail read_number number_leaves_tail (number_count moving) bs s.value s.first in
       record { front = t.front; is = t.is ∙ ap (λ (x : Got Star). t.front ++ x.rest) (sym (ranged_back s.value g s.next).is) }
 
 -- ---- its length
@@ -164,9 +164,9 @@ rate_short z h = few-groups (folded z) (small z h)
     few-groups n h = go (ltb n 128) refl (ltb n 16384) refl
       where
         go : (t : Bool) → ltb n 128 ≡ t → (u : Bool) → ltb n 16384 ≡ u → length (groups n) ≤ 3
-        go true e u f = omega (arith, one-group n (ltb-true n 128 e))
-        go false e true f = omega (arith, two-groups n (ltb-false n 128 e) (ltb-true n 16384 f))
-        go false e false f = omega (arith, three-groups n (ltb-false n 16384 f) h)
+        go true e u f = omega (arith, one_group n (ltb-true n 128 e))
+        go false e true f = omega (arith, two_groups n (ltb-false n 128 e) (ltb-true n 16384 f))
+        go false e false f = omega (arith, three_groups n (ltb-false n 16384 f) h)
 
 pub length_star : (r : Star)
     → length (star_groups r)

@@ -13,7 +13,7 @@ use Rattle.list_groups.specs.rules.Reading.{Got, read_number}
 use Rattle.list_groups.specs.rules.Several.{read_all}
 use Rattle.quantity.specs.laws.Steps.{refused_not_answered, with_refused}
 use Rattle.list_groups.specs.notions.Streams.{longer, Streams}
-use Rattle.list_groups.specs.laws.Streams.{number_streams, all-stream, then-streams}
+use Rattle.list_groups.specs.laws.Streams.{number_streams, all_stream, then_streams}
 use Rattle.list_radio.specs.rules.Star.{number_count, star_of, ranged, read_star}
 use Rattle.list_radio.specs.rules.Radio.{mark_refusal, few, read_count, nothing_over, stars_of, radio_stars}
 use Rattle.list_radio.specs.rules.Reader.{accept_rule}
@@ -42,7 +42,7 @@ ranged_stops g k more = go (in_range (star_of g.value))
 pub star_streams : (moving : Bool) → Streams (read_star moving)
 unfolding read_star
 star_streams moving =
-    then-streams (read_all read_number (number_count moving)) (all-stream read_number number_streams (number_count moving)) ranged
+    then_streams (read_all read_number (number_count moving)) (all_stream read_number number_streams (number_count moving)) ranged
     ranged_passes ranged_stops
 
 few_passes : (g h : Got ℕ) (more : List ℕ) → few g ≡ answered h → few (longer more g) ≡ answered (longer more h)
@@ -63,7 +63,7 @@ few_stops g k more = go (leb g.value most_stars)
 
 pub count_streams : Streams read_count
 unfolding read_count
-count_streams = then-streams read_number number_streams few few_passes few_stops
+count_streams = then_streams read_number number_streams few few_passes few_stops
 
 -- ---- the whole list
 
@@ -75,15 +75,15 @@ over_only_thirteen g k = go (eqb (length g.rest) 0)
     go false e = cc
 
 module _ (k : ℕ) (no_end : k ≡ 13 → ⊥) (more : List ℕ) where
-  stars-refuse : (moving : Bool) (n : ℕ) (bs : List ℕ) → stars_of moving n bs ≡ refused k → stars_of moving n (bs ++ more) ≡ refused k
+  stars_refuse : (moving : Bool) (n : ℕ) (bs : List ℕ) → stars_of moving n bs ≡ refused k → stars_of moving n (bs ++ more) ≡ refused k
   unfolding stars_of
-  stars-refuse moving n bs = go (read_all (read_star moving) n bs) refl
+  stars_refuse moving n bs = go (read_all (read_star moving) n bs) refl
     where
       go : (x : Answer (Got (List Star))) → read_all (read_star moving) n bs ≡ x → then x nothing_over ≡ refused k
           → then (read_all (read_star moving) n (bs ++ more)) nothing_over ≡ refused k
       go (answered g) e h = absurd (no_end (over_only_thirteen g k h))
       go (refused j) e h =
-          rw ((all-stream (read_star moving) (star_streams moving) n).refuses bs more k (e ∙ ap refused (let q : j ≡ k = cc in q)) no_end)
+          rw ((all_stream (read_star moving) (star_streams moving) n).refuses bs more k (e ∙ ap refused (let q : j ≡ k = cc in q)) no_end)
 
   after_mark : (moving : Bool) (bs : List ℕ) → then (read_count bs) (stars_after moving) ≡ refused k
       → then (read_count (bs ++ more)) (stars_after moving) ≡ refused k
@@ -92,18 +92,18 @@ module _ (k : ℕ) (no_end : k ≡ 13 → ⊥) (more : List ℕ) where
     where
       go : (x : Answer (Got ℕ)) → read_count bs ≡ x → then x (stars_after moving) ≡ refused k
           → then (read_count (bs ++ more)) (stars_after moving) ≡ refused k
-      go (answered g) e h = rw (count_streams.answers bs more g e) (stars-refuse moving g.value g.rest h)
+      go (answered g) e h = rw (count_streams.answers bs more g e) (stars_refuse moving g.value g.rest h)
       go (refused j) e h = rw (count_streams.refuses bs more k (e ∙ ap refused (let q : j ≡ k = cc in q)) no_end)
 
-  pub radio-refuses : (s : List ℕ) → radio_stars s ≡ refused k → radio_stars (s ++ more) ≡ refused k
+  pub radio_refuses : (s : List ℕ) → radio_stars s ≡ refused k → radio_stars (s ++ more) ≡ refused k
   unfolding radio_stars mark_refusal
-  radio-refuses [] h = absurd (no_end (let q : k ≡ 13 = cc in q))
-  radio-refuses (b ∷ bs) h = under_mark more b bs k (λ (moving : Bool). after_mark moving bs) h
+  radio_refuses [] h = absurd (no_end (let q : k ≡ 13 = cc in q))
+  radio_refuses (b ∷ bs) h = under_mark more b bs k (λ (moving : Bool). after_mark moving bs) h
 
   -- 8, 9, 11 and 12 at the byte that shows it
-  pub refused-at-its-byte : (s : List ℕ) → accept_rule s ≡ refused k → accept_rule (s ++ more) ≡ refused k
+  pub refused_at_its_byte : (s : List ℕ) → accept_rule s ≡ refused k → accept_rule (s ++ more) ≡ refused k
   unfolding accept_rule
-  refused-at-its-byte s h = ap (with length) (radio-refuses s (with_refused (radio_stars s) length k h))
+  refused_at_its_byte s h = ap (with length) (radio_refuses s (with_refused (radio_stars s) length k h))
 
 pub twelve_at_its_byte : (s more : List ℕ) → accept_rule s ≡ refused 12 → accept_rule (s ++ more) ≡ refused 12
-twelve_at_its_byte s more h = refused-at-its-byte 12 (λ e. omega arith) more s h
+twelve_at_its_byte s more h = refused_at_its_byte 12 (λ e. omega arith) more s h

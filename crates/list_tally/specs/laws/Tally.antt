@@ -8,7 +8,7 @@ use Rattle.std.proofs.Math.ListN.{set}
 use borrow.Author.Tests.{le-leb, lt-leb, leb-true, lt-ltb, le-ltb, eq-eqb, ne_eqb}
 use Rattle.lent.specs.rules.Rows.{upto}
 use Rattle.lent.specs.laws.Flags.{at_most_one}
-use Rattle.lent.specs.laws.Upto.{getD-upto, set-upto}
+use Rattle.lent.specs.laws.Upto.{get_d_upto, set_upto}
 use Rattle.list_tally.specs.rules.Status.{highest_status}
 use Rattle.list_tally.specs.rules.Tally.{fullest, counts_in_all, count_of, stored_to, raise_refusal, raised, raise_rule, times, tally_of, empty, raised_by, AllKnown}
 use Rattle.list_tally.specs.declared.Tally.{Tally}
@@ -16,11 +16,11 @@ use Rattle.list_tally.specs.declared.Raised.{Raised}
 
 -- the count that is stored to is one of the tally
 pub count_below : (status : ℕ) → count_of status < counts_in_all
-count_below status = by-case (leb status highest_status) refl
+count_below status = by_case (leb status highest_status) refl
   where
-    by-case : (b : Bool) → leb status highest_status ≡ b → cond b status 0 < counts_in_all
-    by-case true e = omega (arith, leb-true status highest_status e)
-    by-case false e = omega arith
+    by_case : (b : Bool) → leb status highest_status ≡ b → cond b status 0 < counts_in_all
+    by_case true e = omega (arith, leb-true status highest_status e)
+    by_case false e = omega arith
 
 set_get_d : (l : List ℕ) (k d : ℕ) → set l k (get_or l k d) ≡ l
 set_get_d [] k d = refl
@@ -30,7 +30,7 @@ set_get_d (x ∷ l) (suc k) d = ap (λ (m : List ℕ). x ∷ m) (set_get_d l k d
 -- one store raises the count, or leaves all as it is
 pub stored_raises : (t : Tally) (status : ℕ) → stored_to t status ≡ raise_rule t status
 unfolding raise_rule raise_refusal
-stored_raises t status = by-case (leb status highest_status) refl
+stored_raises t status = by_case (leb status highest_status) refl
   where
     counts : List ℕ
     counts = t.counts
@@ -42,23 +42,23 @@ stored_raises t status = by-case (leb status highest_status) refl
     full e true f = simp (e, f)
     full e false f = simp (e, f) (ap (λ (l : List ℕ). record { tally = record { counts = l }; refusal = 8 }) (same status))
 
-    by-case : (b : Bool) → leb status highest_status ≡ b → stored_to t status ≡ raise_rule t status
-    by-case true e = full e (ltb (get_or counts status 0) fullest) refl
-    by-case false e = simp e (ap (λ (l : List ℕ). record { tally = record { counts = l }; refusal = 9 }) (same 0))
+    by_case : (b : Bool) → leb status highest_status ≡ b → stored_to t status ≡ raise_rule t status
+    by_case true e = full e (ltb (get_or counts status 0) fullest) refl
+    by_case false e = simp e (ap (λ (l : List ℕ). record { tally = record { counts = l }; refusal = 9 }) (same 0))
 
 -- what raising leaves, case by case
 module _ (t : Tally) (status : ℕ) where
-  pub unknown-stays : highest_status < status → t ≡ (raise_rule t status).tally
+  pub unknown_stays : highest_status < status → t ≡ (raise_rule t status).tally
   unfolding raise_rule raise_refusal
-  unknown-stays h = simp (lt-leb status highest_status h)
+  unknown_stays h = simp (lt-leb status highest_status h)
 
-  pub full-stays : status ≤ highest_status → fullest ≤ get_or t.counts status 0 → t ≡ (raise_rule t status).tally
+  pub full_stays : status ≤ highest_status → fullest ≤ get_or t.counts status 0 → t ≡ (raise_rule t status).tally
   unfolding raise_rule raise_refusal
-  full-stays h f = simp (le-leb status highest_status h, le-ltb (get_or t.counts status 0) fullest f)
+  full_stays h f = simp (le-leb status highest_status h, le-ltb (get_or t.counts status 0) fullest f)
 
-  pub known-raises : status ≤ highest_status → get_or t.counts status 0 < fullest → raised t status ≡ (raise_rule t status).tally
+  pub known_raises : status ≤ highest_status → get_or t.counts status 0 < fullest → raised t status ≡ (raise_rule t status).tally
   unfolding raise_rule raise_refusal
-  known-raises h f = simp (le-leb status highest_status h, lt-ltb (get_or t.counts status 0) fullest f)
+  known_raises h f = simp (le-leb status highest_status h, lt-ltb (get_or t.counts status 0) fullest f)
 
 -- no status stands more often than there are statuses
 pub times_most : (k : ℕ) (xs : List ℕ) → times k xs ≤ length xs
@@ -85,25 +85,25 @@ module _ (xs : List ℕ) (x : ℕ) where
   abbrev more : List ℕ
   more = xs ++ (x ∷ [])
 
-  count-of : x ≤ highest_status → get_or (tally_of xs).counts x 0 ≡ times x xs
+  count_of_lem : x ≤ highest_status → get_or (tally_of xs).counts x 0 ≡ times x xs
   unfolding tally_of
-  count-of h = getD-upto counts_in_all (λ (k : ℕ). times k xs) x 0 (omega arith)
+  count_of_lem h = get_d_upto counts_in_all (λ (k : ℕ). times k xs) x 0 (omega arith)
 
   raised_is : x ≤ highest_status → raised (tally_of xs) x ≡ tally_of more
   unfolding tally_of
   raised_is h =
-      ap (λ (n : ℕ). record { counts = set (upto counts_in_all (λ (k : ℕ). times k xs)) x n }) (ap (λ (n : ℕ). n + 1) (count-of h) ∙ sym here)
+      ap (λ (n : ℕ). record { counts = set (upto counts_in_all (λ (k : ℕ). times k xs)) x n }) (ap (λ (n : ℕ). n + 1) (count_of_lem h) ∙ sym here)
       ∙ ap (λ (l : List ℕ). record { counts = l })
-      (set-upto counts_in_all (λ (k : ℕ). times k xs) (λ (k : ℕ). times k more) x (omega arith) elsewhere)
+      (set_upto counts_in_all (λ (k : ℕ). times k xs) (λ (k : ℕ). times k more) x (omega arith) elsewhere)
 
   not_refused : x ≤ highest_status → times x xs < fullest → raise_refusal (tally_of xs) x ≡ 0
   unfolding raise_refusal
-  not_refused h f = rw (le-leb x highest_status h, count-of h, lt-ltb (times x xs) fullest f)
+  not_refused h f = rw (le-leb x highest_status h, count_of_lem h, lt-ltb (times x xs) fullest f)
 
   -- a known status, of which there are not yet too many, is never refused
-  pub raise-more : x ≤ highest_status → times x xs < fullest → raise_rule (tally_of xs) x ≡ record { tally = tally_of more; refusal = 0 }
+  pub raise_more : x ≤ highest_status → times x xs < fullest → raise_rule (tally_of xs) x ≡ record { tally = tally_of more; refusal = 0 }
   unfolding raise_rule
-  raise-more h f =
+  raise_more h f =
       ap (λ (n : ℕ). record { tally = cond (eqb n 0) (raised (tally_of xs) x) (tally_of xs); refusal = n }) (not_refused h f)
       ∙ ap (λ (t : Tally). record { tally = t; refusal = 0 }) (raised_is h)
 
@@ -111,7 +111,7 @@ module _ (xs : List ℕ) (x : ℕ) where
 raised_on : (done xs : List ℕ) → AllKnown xs → length done + length xs ≤ fullest → raised_by (tally_of done) xs ≡ tally_of (done ++ xs)
 raised_on done [] known few = ap tally_of (sym (append-nil done))
 raised_on done (x ∷ xs) known few =
-    ap (λ (r : Raised). raised_by r.tally xs) (raise-more done x known.0 (omega (arith, times_most x done)))
+    ap (λ (r : Raised). raised_by r.tally xs) (raise_more done x known.0 (omega (arith, times_most x done)))
     ∙ raised_on (done ++ (x ∷ [])) xs known.1 (omega (arith, length-append done (x ∷ [])))
     ∙ ap tally_of (append_assoc done (x ∷ []) xs)
 

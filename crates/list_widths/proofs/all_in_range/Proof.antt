@@ -7,7 +7,7 @@ use native.Mathlib.Omega.{arith}
 use Rattle.double.specs.laws.Calls.{asks_nothing}
 use Rattle.list.specs.rules.Record.{in_range}
 use Rattle.list.specs.rules.Stars.{stars}
-use Rattle.list.specs.laws.Stars.{length-stars}
+use Rattle.list.specs.laws.Stars.{length_stars}
 use Rattle.list_widths.specs.notions.Checked.{Checked}
 use Rattle.list_widths.specs.laws.Checked.{begun, on, stops, ends}
 use Rattle.list_widths.proofs.all_in_range.Statement.{statement}
@@ -20,7 +20,7 @@ abbrev decreases-loop : tie.decreases-loop
 decreases-loop bytes n i₀ i = n - i
 
 loop-holds : tie.Need-loop-init invariant-loop decreases-loop
-loop-holds c = begun (c.count.ensures ∙ sym (length-stars _))
+loop-holds c = begun (c.count.ensures ∙ sym (length_stars _))
 
 returns : tie.Need-returns invariant-loop decreases-loop
 returns c =

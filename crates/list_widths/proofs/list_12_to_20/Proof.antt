@@ -9,8 +9,8 @@ use Rattle.lent.specs.laws.Put.{put_refused, no_room, puts}
 use Rattle.lent.specs.laws.Writing.{same}
 use Rattle.list.specs.rules.Stars.{all_in_range}
 use Rattle.list_widths.specs.rules.Narrow.{is_narrow, narrow_stars}
-use Rattle.list_widths.specs.laws.Narrow.{narrow-few}
-use Rattle.list_widths.specs.laws.Widths.{no-narrow-list, narrow-out-of-range, moves-up, records-up, length_up}
+use Rattle.list_widths.specs.laws.Narrow.{narrow_few}
+use Rattle.list_widths.specs.laws.Widths.{no_narrow_list, narrow_out_of_range, moves_up, records_up, length_up}
 use Rattle.list_widths.proofs.list_12_to_20.Statement.{statement}
 use Rattle.list_widths.proofs.list_12_to_20.Tie as tie
 
@@ -22,19 +22,19 @@ range : (c : tie.Else2) → all_in_range (narrow_stars c.before.before.before.be
 range c = sym c.before.narrow-in-range.ensures ∙ not-false _ c.if2.false
 
 returns : tie.Need-returns
-returns c = put_refused _ _ _ _ (no-narrow-list _ (sym c.before.is-narrow.ensures ∙ not-true _ c.if1.true))
+returns c = put_refused _ _ _ _ (no_narrow_list _ (sym c.before.is-narrow.ensures ∙ not-true _ c.if1.true))
 
 returns-2 : tie.Need-returns-2
 returns-2 c =
-    put_refused _ _ _ _ (narrow-out-of-range _ (list c.before.before) (sym c.before.narrow-in-range.ensures ∙ not-true _ c.if2.true))
+    put_refused _ _ _ _ (narrow_out_of_range _ (list c.before.before) (sym c.before.narrow-in-range.ensures ∙ not-true _ c.if2.true))
 
 mul-if3 : tie.Need-overflow-mul-if3
-mul-if3 c = omega (arith, c.narrow-count.ensures, narrow-few _ (list c.before.before.before))
+mul-if3 c = omega (arith, c.narrow-count.ensures, narrow_few _ (list c.before.before.before))
 
 returns-3 : tie.Need-returns-3
 returns-3 c =
     let count = c.before in
-    no_room _ _ _ _ (moves-up _ (list count.before.before.before) (range count.before))
+    no_room _ _ _ _ (moves_up _ (list count.before.before.before) (range count.before))
     (omega (arith, length_up _ _ count.narrow-count.ensures, c.if3.true))
 
 same_length : tie.Need-same-length
@@ -44,9 +44,9 @@ returns-4 : tie.Need-returns-4
 returns-4 c =
     let test = c.before.before.before.before in
     let count = test.before in
-    puts _ _ _ _ (moves-up _ (list count.before.before.before) (range count.before)) _ _
+    puts _ _ _ _ (moves_up _ (list count.before.before.before) (range count.before)) _ _
     (omega (arith, length_up _ _ count.narrow-count.ensures, test.if3.false))
-    (same (records-up _ _ count.narrow-count.ensures) c.before.before.write_up.ensures)
+    (same (records_up _ _ count.narrow-count.ensures) c.before.before.write_up.ensures)
 
 pub list-12-to-20-spec : {M : Type 1} → statement M
 list-12-to-20-spec =

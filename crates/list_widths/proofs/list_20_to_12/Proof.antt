@@ -10,7 +10,7 @@ use Rattle.lent.specs.laws.Writing.{same}
 use Rattle.list.specs.rules.Stars.{is_list, stars, all_are, all_in_range}
 use Rattle.list.specs.laws.Stars.{few}
 use Rattle.list_widths.specs.rules.Narrow.{is_still}
-use Rattle.list_widths.specs.laws.Widths.{no_list, out_of_range, moving, moves-down, records-down, length-down}
+use Rattle.list_widths.specs.laws.Widths.{no_list, out_of_range, moving, moves_down, records_down, length_down}
 use Rattle.list_widths.proofs.list_20_to_12.Statement.{statement}
 use Rattle.list_widths.proofs.list_20_to_12.Tie as tie
 
@@ -43,8 +43,8 @@ returns-4 : tie.Need-returns-4
 returns-4 c =
     let count = c.before in
     let test = count.before.before.before in
-    no_room _ _ _ _ (moves-down _ (list test.before.before) (range test) (stand count.before))
-    (omega (arith, length-down _ _ count.count.ensures, c.if4.true))
+    no_room _ _ _ _ (moves_down _ (list test.before.before) (range test) (stand count.before))
+    (omega (arith, length_down _ _ count.count.ensures, c.if4.true))
 
 same_length : tie.Need-same-length
 same_length c = search rules
@@ -54,9 +54,9 @@ returns-5 c =
     let room = c.before.before.before.before in
     let count = room.before in
     let test = count.before.before.before in
-    puts _ _ _ _ (moves-down _ (list test.before.before) (range test) (stand count.before)) _ _
-    (omega (arith, length-down _ _ count.count.ensures, room.if4.false))
-    (same (records-down _ _ count.count.ensures) c.before.before.write-down.ensures)
+    puts _ _ _ _ (moves_down _ (list test.before.before) (range test) (stand count.before)) _ _
+    (omega (arith, length_down _ _ count.count.ensures, room.if4.false))
+    (same (records_down _ _ count.count.ensures) c.before.before.write-down.ensures)
 
 pub list-20-to-12-spec : {M : Type 1} → statement M
 list-20-to-12-spec =

@@ -7,7 +7,7 @@ use native.Mathlib.Omega.{arith}
 use Rattle.double.specs.laws.Calls.{asks_nothing}
 use Rattle.list.specs.rules.Record.{in_range}
 use Rattle.list_widths.specs.rules.Narrow.{narrow_stars}
-use Rattle.list_widths.specs.laws.Narrow.{length-narrow-stars}
+use Rattle.list_widths.specs.laws.Narrow.{length_narrow_stars}
 use Rattle.list_widths.specs.notions.Checked.{Checked}
 use Rattle.list_widths.specs.laws.Checked.{begun, on, stops, ends}
 use Rattle.list_widths.proofs.narrow_in_range.Statement.{statement}
@@ -20,7 +20,7 @@ abbrev decreases-loop : tie.decreases-loop
 decreases-loop bytes n i₀ i = n - i
 
 loop-holds : tie.Need-loop-init invariant-loop decreases-loop
-loop-holds c = begun (c.narrow-count.ensures ∙ sym (length-narrow-stars _))
+loop-holds c = begun (c.narrow-count.ensures ∙ sym (length_narrow_stars _))
 
 returns : tie.Need-returns invariant-loop decreases-loop
 returns c =

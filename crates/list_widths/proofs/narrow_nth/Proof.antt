@@ -4,7 +4,7 @@ use Prim.Native.Nat.{◌<◌}
 use native.Mathlib.Omega.{arith}
 use Rattle.double.specs.laws.Calls.{asks_nothing}
 use Rattle.list_widths.specs.rules.Narrow.{narrow_count}
-use Rattle.list_widths.specs.laws.Narrow.{narrow-nth-is, narrow-nth-past, narrow-inside}
+use Rattle.list_widths.specs.laws.Narrow.{narrow_nth_is, narrow_nth_past, narrow_inside}
 use Rattle.list_widths.proofs.narrow_nth.Statement.{statement}
 use Rattle.list_widths.proofs.narrow_nth.Tie as tie
 
@@ -13,16 +13,16 @@ index : (c : tie.Then1) → c.before.before.before.args.i < narrow_count c.befor
 index c = omega (arith, c.before.narrow-count.ensures, c.if1.true)
 
 mul-narrow-at : tie.Need-overflow-mul-narrow-at
-mul-narrow-at c = omega (arith, narrow-inside _ _ (index c), c.before.before.before.well-formed.0)
+mul-narrow-at c = omega (arith, narrow_inside _ _ (index c), c.before.before.before.well-formed.0)
 
 narrow-at-requires : tie.Need-narrow-at-requires
-narrow-at-requires c κs = narrow-inside _ _ (index c)
+narrow-at-requires c κs = narrow_inside _ _ (index c)
 
 returns : tie.Need-returns
-returns c = c.narrow_at.ensures ∙ sym (narrow-nth-is _ _ (index c.before))
+returns c = c.narrow_at.ensures ∙ sym (narrow_nth_is _ _ (index c.before))
 
 returns-2 : tie.Need-returns-2
-returns-2 c = c.nought.ensures ∙ sym (narrow-nth-past _ _ (omega (arith, c.before.before.narrow-count.ensures, c.before.if1.false)))
+returns-2 c = c.nought.ensures ∙ sym (narrow_nth_past _ _ (omega (arith, c.before.before.narrow-count.ensures, c.before.if1.false)))
 
 pub narrow-nth-spec : {M : Type 1} → statement M
 narrow-nth-spec = tie.close (tie.spec asks_nothing mul-narrow-at narrow-at-requires returns asks_nothing returns-2)

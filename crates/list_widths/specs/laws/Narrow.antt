@@ -7,13 +7,13 @@ use Rattle.std.proofs.Math.ListN.{drop, get_or-eq_default}
 use Rattle.signed.specs.rules.Signed.{signed_of}
 use Rattle.signed.specs.laws.Signed.{word_signed, has_word}
 use Rattle.lent.specs.laws.Flags.{both_hold}
-use Rattle.lent.specs.laws.Upto.{length-upto, getD-upto}
+use Rattle.lent.specs.laws.Upto.{length_upto, get_d_upto}
 use Rattle.list.specs.rules.Record.{word_at, word_bytes, words_bytes}
 use Rattle.list.specs.rules.Stars.{most_stars, nought, records_at, records_bytes, AllHold, Bytes}
 use Rattle.list.specs.notions.Whole.{Kept}
 use Rattle.list.specs.notions.Still.{Still}
-use Rattle.list.specs.laws.Record.{word_sum, signed_sum, small, words-here, word_drop, word_further}
-use Rattle.list.specs.laws.Records.{length-records, records-back, records-here}
+use Rattle.list.specs.laws.Record.{word_sum, signed_sum, small, words_here, word_drop, word_further}
+use Rattle.list.specs.laws.Records.{length_records, records_back, records_here}
 use Rattle.list.specs.declared.Star.{Star}
 use Rattle.list_widths.specs.rules.Narrow.{narrow_width, narrow_at, narrow_bytes, is_still, is_narrow, narrow_count, narrow_stars}
 use Rattle.list_widths.specs.notions.Narrow.{Narrow}
@@ -48,9 +48,9 @@ narrow_back r rest k =
 
 -- bytes, read and written back
 module _ (s : List ℕ) (y : Bytes s) where
-  narrow-holds : Narrow (narrow_at s 0)
+  narrow_holds : Narrow (narrow_at s 0)
   unfolding narrow_at
-  narrow-holds =
+  narrow_holds =
       record {
         fitting =
             record {
@@ -63,11 +63,11 @@ module _ (s : List ℕ) (y : Bytes s) where
         still = record { asc = refl; dec = refl };
       }
 
-  narrow-here : narrow_width ≤ length s → narrow_bytes (narrow_at s 0) ++ drop narrow_width s ≡ s
+  narrow_here : narrow_width ≤ length s → narrow_bytes (narrow_at s 0) ++ drop narrow_width s ≡ s
   unfolding narrow_at narrow_bytes
-  narrow-here h =
+  narrow_here h =
       ap (λ (n : ℕ). words_bytes (word_at s 0 ∷ word_at s 4 ∷ n ∷ []) ++ drop narrow_width s) (word_signed (word_at s 8) (small s y 8))
-      ∙ words-here s y 3 0 h
+      ∙ words_here s y 3 0 h
 
 narrow_drop : (k at : ℕ) (s : List ℕ) → narrow_at (drop k s) at ≡ narrow_at s (k + at)
 unfolding narrow_at
@@ -91,29 +91,29 @@ narrow_whole s h =
     (leb-true (length s) (narrow_width * most_stars) p.0, eqb-true (length s % narrow_width) 0 p.1)
 
 module _ (s : List ℕ) where
-  pub length-narrow-stars : length (narrow_stars s) ≡ narrow_count s
+  pub length_narrow_stars : length (narrow_stars s) ≡ narrow_count s
   unfolding narrow_stars
-  length-narrow-stars = length-upto (narrow_count s) (λ (i : ℕ). narrow_at s (i * narrow_width))
+  length_narrow_stars = length_upto (narrow_count s) (λ (i : ℕ). narrow_at s (i * narrow_width))
 
-  pub narrow-few : is_narrow s ≡ true → narrow_count s ≤ most_stars
+  pub narrow_few : is_narrow s ≡ true → narrow_count s ≤ most_stars
   unfolding narrow_count
-  narrow-few h = omega (arith, narrow_whole s h)
+  narrow_few h = omega (arith, narrow_whole s h)
 
-  pub narrow-nth-past : (i : ℕ) → narrow_count s ≤ i → get_or (narrow_stars s) i nought ≡ nought
-  narrow-nth-past i h = get_or-eq_default (narrow_stars s) nought (rw length-narrow-stars h)
+  pub narrow_nth_past : (i : ℕ) → narrow_count s ≤ i → get_or (narrow_stars s) i nought ≡ nought
+  narrow_nth_past i h = get_or-eq_default (narrow_stars s) nought (rw length_narrow_stars h)
 
   module _ (i : ℕ) (h : i < narrow_count s) where
-    pub narrow-nth-is : get_or (narrow_stars s) i nought ≡ narrow_at s (i * narrow_width)
+    pub narrow_nth_is : get_or (narrow_stars s) i nought ≡ narrow_at s (i * narrow_width)
     unfolding narrow_stars
-    narrow-nth-is = getD-upto (narrow_count s) (λ (k : ℕ). narrow_at s (k * narrow_width)) i nought h
+    narrow_nth_is = get_d_upto (narrow_count s) (λ (k : ℕ). narrow_at s (k * narrow_width)) i nought h
 
     -- its record lies within the list
-    pub narrow-inside : i * narrow_width + narrow_width ≤ length s
+    pub narrow_inside : i * narrow_width + narrow_width ≤ length s
     unfolding narrow_count
-    narrow-inside = omega arith
+    narrow_inside = omega arith
 
 pub length_narrow_list : (rs : List Star) → length (records_bytes narrow_bytes rs) ≡ narrow_width * length rs
-length_narrow_list rs = length-records narrow_width narrow_at narrow_drop narrow_bytes length_narrow rs ∙ omega arith
+length_narrow_list rs = length_records narrow_width narrow_at narrow_drop narrow_bytes length_narrow rs ∙ omega arith
 
 pub narrow_list : (rs : List Star) → length rs ≤ most_stars → is_narrow (records_bytes narrow_bytes rs) ≡ true
 unfolding is_narrow
@@ -128,14 +128,14 @@ unfolding narrow_stars narrow_count
 narrow_stars_back rs f =
     let s = records_bytes narrow_bytes rs in
     ap (λ (n : ℕ). records_at narrow_width narrow_at n s) (let e : length s / narrow_width ≡ length rs = omega (arith, length_narrow_list rs) in e)
-    ∙ records-back narrow_width narrow_at narrow_drop narrow_bytes length_narrow Narrow narrow_back rs f
+    ∙ records_back narrow_width narrow_at narrow_drop narrow_bytes length_narrow Narrow narrow_back rs f
 
 -- bytes, whole records of them, read and written back
 pub narrow_bytes_back : (s : List ℕ) → length s % narrow_width ≡ 0 → Bytes s → Kept narrow_bytes Narrow (narrow_stars s) s
 unfolding narrow_stars narrow_count
 narrow_bytes_back s h y =
-    records-here narrow_width narrow_at narrow_drop narrow_bytes length_narrow Narrow
-    (λ (t : List ℕ) z long. (narrow-here t z long, narrow-holds t z))
+    records_here narrow_width narrow_at narrow_drop narrow_bytes length_narrow Narrow
+    (λ (t : List ℕ) z long. (narrow_here t z long, narrow_holds t z))
     (length s / narrow_width)
     s
     (omega arith)

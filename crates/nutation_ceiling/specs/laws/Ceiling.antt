@@ -22,8 +22,8 @@ use Rattle.nutation_table.specs.rules.Rows.{rows}
 use Rattle.nutation_ceiling.specs.rules.Ceiling.{largest, with_largest, largest_sum, ceiling_at}
 use Rattle.nutation_ceiling.specs.notions.Walk.{Under, walked, Each, sines, cosines, long, slow_long, oblq, slow_oblq, sized, ones}
 use Rattle.nutation_ceiling.specs.notions.Bound.{Bounds, NoMore, Ample}
-use Rattle.nutation_ceiling.specs.laws.Within.{under-itself, under_of_size, size_under, under_size, size_itself, under-mul, mul-back}
-use Rattle.nutation_ceiling.specs.laws.Walk.{walked-under, long_walked, oblq_walked, long_largest_lem, oblq_largest_lem}
+use Rattle.nutation_ceiling.specs.laws.Within.{under_itself, under_of_size, size_under, under_size, size_itself, under_mul, mul_back}
+use Rattle.nutation_ceiling.specs.laws.Walk.{walked_under, long_walked, oblq_walked, long_largest_lem, oblq_largest_lem}
 
 -- ---- the century's sign does not count
 
@@ -35,15 +35,15 @@ ceiling_mirrored t = ap (λ (u : Float). converted (largest_sum rows u none)) (s
 
 zero_under : Under zero zero
 unfolding of_bits is_finite
-zero_under = under-itself zero tt tt
+zero_under = under_itself zero tt tt
 
 one_under : Under one one
 unfolding of_bits is_finite
-one_under = under-itself one tt tt
+one_under = under_itself one tt tt
 
 degree_under : Under degree degree
 unfolding of_bits is_finite
-degree_under = under-itself degree tt tt
+degree_under = under_itself degree tt tt
 
 each_one : (xs : List Row) → Each (λ (x : Row). Under (ones x) (ones x)) xs
 each_one [] = tt
@@ -55,38 +55,38 @@ module _ (c d : Row → Float) (xs : List Row) (t u : Float) (h : Under u t) whe
 
   grows : Finite (most u) → Under (most u) (most t)
   grows p =
-      under-mul binary64 (walked (sized c) (sized d) ones u xs zero) degree (walked (sized c) (sized d) ones t xs zero) degree
-      (walked-under (sized c) (sized d) ones (sized c) (sized d) ones t u (λ x. size_itself (c x)) (λ x. size_itself (d x)) h xs (each_one xs) zero zero zero_under
-      (mul-back binary64 (walked (sized c) (sized d) ones u xs zero) degree p).0)
+      under_mul binary64 (walked (sized c) (sized d) ones u xs zero) degree (walked (sized c) (sized d) ones t xs zero) degree
+      (walked_under (sized c) (sized d) ones (sized c) (sized d) ones t u (λ x. size_itself (c x)) (λ x. size_itself (d x)) h xs (each_one xs) zero zero zero_under
+      (mul_back binary64 (walked (sized c) (sized d) ones u xs zero) degree p).0)
       degree_under p
 
   holds : (v : Row → Float) → Each (λ (x : Row). Under (ones x) (v x)) xs → Finite (most u) → Under (most u) (walked c d v t xs zero ⊗ degree)
   holds v w p =
-      under-mul binary64 (walked (sized c) (sized d) ones u xs zero) degree (walked c d v t xs zero) degree
-      (walked-under c d v (sized c) (sized d) ones t u (λ x. under_size (c x)) (λ x. under_size (d x)) h xs w zero zero zero_under
-      (mul-back binary64 (walked (sized c) (sized d) ones u xs zero) degree p).0)
+      under_mul binary64 (walked (sized c) (sized d) ones u xs zero) degree (walked c d v t xs zero) degree
+      (walked_under c d v (sized c) (sized d) ones t u (λ x. under_size (c x)) (λ x. under_size (d x)) h xs w zero zero zero_under
+      (mul_back binary64 (walked (sized c) (sized d) ones u xs zero) degree p).0)
       degree_under p
 
 -- ---- both components, over any rows
 
 module _ (xs : List Row) (t u : Float) (h : Under u t) where
-  abbrev over-rows : Float → Nutations
-  over-rows u = converted (largest_sum xs u none)
+  abbrev over_rows : Float → Nutations
+  over_rows u = converted (largest_sum xs u none)
 
-  module _ (p : Finite (over-rows u).long.0) (q : Finite (over-rows u).oblq.0) where
-    sums-grow : Under (over-rows u).long.0 (over-rows t).long.0 × Under (over-rows u).oblq.0 (over-rows t).oblq.0
+  module _ (p : Finite (over_rows u).long.0) (q : Finite (over_rows u).oblq.0) where
+    sums_grow : Under (over_rows u).long.0 (over_rows t).long.0 × Under (over_rows u).oblq.0 (over_rows t).oblq.0
     unfolding converted
-    sums-grow =
+    sums_grow =
         let l = long_largest_lem xs u none in
         let o = oblq_largest_lem xs u none in (
           rw (long_largest_lem xs u none, long_largest_lem xs t none) (grows long slow_long xs t u h (rw l at p)),
           rw (oblq_largest_lem xs u none, oblq_largest_lem xs t none) (grows oblq slow_oblq xs t u h (rw o at q)),
         )
 
-    sums-hold : (a : Moon) → a.t ≡ t → Each (λ (x : Row). Under (ones x) (sines a x)) xs → Each (λ (x : Row). Under (ones x) (cosines a x)) xs
-        → Under (over-rows u).long.0 (converted (summed xs a none)).long.0 × Under (over-rows u).oblq.0 (converted (summed xs a none)).oblq.0
+    sums_hold : (a : Moon) → a.t ≡ t → Each (λ (x : Row). Under (ones x) (sines a x)) xs → Each (λ (x : Row). Under (ones x) (cosines a x)) xs
+        → Under (over_rows u).long.0 (converted (summed xs a none)).long.0 × Under (over_rows u).oblq.0 (converted (summed xs a none)).oblq.0
     unfolding converted
-    sums-hold a e v w = (
+    sums_hold a e v w = (
       rw (long_largest_lem xs u none, long_walked xs a none, e) (holds long slow_long xs t u h (sines a) v (rw (long_largest_lem xs u none) at p)),
       rw (oblq_largest_lem xs u none, oblq_walked xs a none, e) (holds oblq slow_oblq xs t u h (cosines a) w (rw (oblq_largest_lem xs u none) at q)),
     )
@@ -137,51 +137,51 @@ sizes_under t u p h = under_of_size (size u) (size t) (rw (finite_size u) p) (pl
 table_grows : (t u : Float) → Under (size u) (size t) → Finite (ceiling_at u).long.0 → Finite (ceiling_at u).oblq.0
     → Under (ceiling_at u).long.0 (ceiling_at t).long.0 × Under (ceiling_at u).oblq.0 (ceiling_at t).oblq.0
 unfolding ceiling_at
-table_grows t u h p q = sums-grow rows (size t) (size u) h p q
+table_grows t u h p q = sums_grow rows (size t) (size u) h p q
 
 lt_of_positive : (a x : Float) → T (positive a) → Finite x → a ≼ x → T (lt zero x)
 unfolding is_finite lt of_bits
-lt_of_positive a x p q h = by-case x q (above_of_le a x p h)
+lt_of_positive a x p q h = by_case x q (above_of_le a x p h)
   where
-    by-case : (x : Float) → Finite x → T (above x) → T (lt zero x)
-    by-case nan q k = absurd q
-    by-case (inf s) q k = absurd q
-    by-case (fin true m e) q k = absurd k
-    by-case (fin false m e) q k = lt→ltb (0 * down e) (m * up e * 1) (omega (arith, mul-pos (ltb→lt 0 m k) (up_pos e)))
+    by_case : (x : Float) → Finite x → T (above x) → T (lt zero x)
+    by_case nan q k = absurd q
+    by_case (inf s) q k = absurd q
+    by_case (fin true m e) q k = absurd k
+    by_case (fin false m e) q k = lt→ltb (0 * down e) (m * up e * 1) (omega (arith, mul-pos (ltb→lt 0 m k) (up_pos e)))
 
 module _ (t : Float) (h : size t ≼ farthest) where
-  finite-century : Finite t
-  finite-century = finite_of_size t farthest finite_farthest h
+  finite_century : Finite t
+  finite_century = finite_of_size t farthest finite_farthest h
 
-  to-farthest : Under (ceiling_at farthest).long.0 (ceiling_at t).long.0 × Under (ceiling_at farthest).oblq.0 (ceiling_at t).oblq.0
-  to-farthest = table_grows t farthest (sizes_under t farthest finite_farthest (rw size_farthest h)) finite_long finite_oblq
+  to_farthest : Under (ceiling_at farthest).long.0 (ceiling_at t).long.0 × Under (ceiling_at farthest).oblq.0 (ceiling_at t).oblq.0
+  to_farthest = table_grows t farthest (sizes_under t farthest finite_farthest (rw size_farthest h)) finite_long finite_oblq
 
-  pub ceiling-within-farthest : NoMore (ceiling_at t) (ceiling_at farthest)
-  ceiling-within-farthest = record { long = to-farthest.0.between.to; oblq = to-farthest.1.between.to }
+  pub ceiling_within_farthest : NoMore (ceiling_at t) (ceiling_at farthest)
+  ceiling_within_farthest = record { long = to_farthest.0.between.to; oblq = to_farthest.1.between.to }
 
-  pub ceiling-finite : Finite (ceiling_at t).long.0 × Finite (ceiling_at t).oblq.0
-  ceiling-finite = (to-farthest.0.between.finite, to-farthest.1.between.finite)
+  pub ceiling_finite : Finite (ceiling_at t).long.0 × Finite (ceiling_at t).oblq.0
+  ceiling_finite = (to_farthest.0.between.finite, to_farthest.1.between.finite)
 
-  from-none : Under (ceiling_at t).long.0 (ceiling_at zero).long.0 × Under (ceiling_at t).oblq.0 (ceiling_at zero).oblq.0
-  from-none =
+  from_none : Under (ceiling_at t).long.0 (ceiling_at zero).long.0 × Under (ceiling_at t).oblq.0 (ceiling_at zero).oblq.0
+  from_none =
       table_grows zero t
-      (sizes_under zero t finite-century (rw size_zero (zero_le_plus (size t) (rw (finite_size t) finite-century) (plus_size t finite-century))))
-      ceiling-finite.0 ceiling-finite.1
+      (sizes_under zero t finite_century (rw size_zero (zero_le_plus (size t) (rw (finite_size t) finite_century) (plus_size t finite_century))))
+      ceiling_finite.0 ceiling_finite.1
 
-  pub ceiling-ample : Ample (ceiling_at t)
-  ceiling-ample =
+  pub ceiling_ample : Ample (ceiling_at t)
+  ceiling_ample =
       record {
-        long = (ceiling-finite.0, lt_of_positive (ceiling_at zero).long.0 (ceiling_at t).long.0 positive_long ceiling-finite.0 from-none.0.between.to);
-        oblq = (ceiling-finite.1, lt_of_positive (ceiling_at zero).oblq.0 (ceiling_at t).oblq.0 positive_oblq ceiling-finite.1 from-none.1.between.to);
+        long = (ceiling_finite.0, lt_of_positive (ceiling_at zero).long.0 (ceiling_at t).long.0 positive_long ceiling_finite.0 from_none.0.between.to);
+        oblq = (ceiling_finite.1, lt_of_positive (ceiling_at zero).oblq.0 (ceiling_at t).oblq.0 positive_oblq ceiling_finite.1 from_none.1.between.to);
       }
 
   -- of any arguments at the century t whose sines and cosines are up to 1 in size
-  pub ceiling-holds : (a : Moon) → a.t ≡ t → Each (λ (x : Row). Under (ones x) (sines a x)) rows → Each (λ (x : Row). Under (ones x) (cosines a x)) rows
+  pub ceiling_holds : (a : Moon) → a.t ≡ t → Each (λ (x : Row). Under (ones x) (sines a x)) rows → Each (λ (x : Row). Under (ones x) (cosines a x)) rows
       → Bounds (ceiling_at t) (converted (summed rows a none))
   unfolding ceiling_at
-  ceiling-holds a e v w =
-      let F : Finite (size t) = rw (finite_size t) finite-century in
-      let k = sums-hold rows t (size t) (under_size t F) ceiling-finite.0 ceiling-finite.1 a e v w in
+  ceiling_holds a e v w =
+      let F : Finite (size t) = rw (finite_size t) finite_century in
+      let k = sums_hold rows t (size t) (under_size t F) ceiling_finite.0 ceiling_finite.1 a e v w in
       record {
         long = size_under (ceiling_at t).long.0 (converted (summed rows a none)).long.0 k.0;
         oblq = size_under (ceiling_at t).oblq.0 (converted (summed rows a none)).oblq.0 k.1;
@@ -190,6 +190,6 @@ module _ (t : Float) (h : size t ≼ farthest) where
 -- it does not fall as the size of the century grows
 pub ceiling_grows : (t u : Float) → size u ≼ farthest → size t ≼ size u → NoMore (ceiling_at t) (ceiling_at u)
 ceiling_grows t u f h =
-    let p = ceiling-finite u f in
-    let k = table_grows t u (sizes_under t u (finite-century u f) h) p.0 p.1 in
+    let p = ceiling_finite u f in
+    let k = table_grows t u (sizes_under t u (finite_century u f) h) p.0 p.1 in
     record { long = k.0.between.to; oblq = k.1.between.to }

@@ -31,8 +31,8 @@ module _ (b : Float) (p : Finite b) (q : Plus b) where
   negated : Between (neg b) b (neg b)
   negated = between (turned b p) p (le_refl (neg b) (turned b p)) (minus_le_plus b b q q)
 
-  pub under-itself : Under b b
-  under-itself = record { plain = q; between = itself }
+  pub under_itself : Under b b
+  under_itself = record { plain = q; between = itself }
 
 -- of a size up to the bound
 pub under_of_size : (b x : Float) → Finite b → Plus b → size x ≼ b → Under b x
@@ -45,7 +45,7 @@ pub under_size : (x : Float) → Finite (size x) → Under (size x) x
 under_size x p = under_of_size (size x) x p (plus_size x (rw (← finite_size x) p)) (le_refl (size x) p)
 
 pub size_itself : (x : Float) → Finite (size x) → Under (size x) (size x)
-size_itself x p = under-itself (size x) p (plus_size x (rw (← finite_size x) p))
+size_itself x p = under_itself (size x) p (plus_size x (rw (← finite_size x) p))
 
 -- ---- a product
 
@@ -61,8 +61,8 @@ module _ (f : Format) where
       (amid lo hi (mul f c e) (mul f d e) (mul f y e) (rw (mul_comm f c e) i) (rw (mul_comm f d e) j)
       (mul_amid f c y d e q.start q.finite q.end p q.from q.to))
 
-  pub under-mul : (b c x y : Float) → Under b x → Under c y → Finite (mul f b c) → Under (mul f b c) (mul f x y)
-  under-mul b c x y u w p =
+  pub under_mul : (b c x y : Float) → Under b x → Under c y → Finite (mul f b c) → Under (mul f b c) (mul f x y)
+  under_mul b c x y u w p =
       let i = u.between in
       let j = w.between in
       let m = mul f b c in
@@ -80,19 +80,19 @@ module _ (f : Format) where
 
   -- ---- a sum
 
-  add-negated : (x y : Float) → Finite x → Finite y → Plus x → Plus y → add f (neg x) (neg y) ≡ neg (add f x y)
+  add_negated : (x y : Float) → Finite x → Finite y → Plus x → Plus y → add f (neg x) (neg y) ≡ neg (add f x y)
   unfolding is_finite add sum neg
-  add-negated nan y p q r s = absurd p
-  add-negated (inf u) y p q r s = absurd p
-  add-negated (fin true m e) y p q r s = absurd r
-  add-negated (fin false m e) nan p q r s = absurd q
-  add-negated (fin false m e) (inf u) p q r s = absurd q
-  add-negated (fin false m e) (fin true n d) p q r s = absurd s
-  add-negated (fin false m e) (fin false n d) p q r s =
+  add_negated nan y p q r s = absurd p
+  add_negated (inf u) y p q r s = absurd p
+  add_negated (fin true m e) y p q r s = absurd r
+  add_negated (fin false m e) nan p q r s = absurd q
+  add_negated (fin false m e) (inf u) p q r s = absurd q
+  add_negated (fin false m e) (fin true n d) p q r s = absurd s
+  add_negated (fin false m e) (fin false n d) p q r s =
       round_neg f false (m * up e * down d + n * up d * down e) (down e * down d)
 
-  pub under-add : (b c x y : Float) → Under b x → Under c y → Finite (add f b c) → Under (add f b c) (add f x y)
-  under-add b c x y u w p =
+  pub under_add : (b c x y : Float) → Under b x → Under c y → Finite (add f b c) → Under (add f b c) (add f x y)
+  under_add b c x y u w p =
       let i = u.between in
       let j = w.between in
       let a = add f b c in
@@ -100,15 +100,15 @@ module _ (f : Format) where
         plain = add_plus f b c i.end j.end u.plain (minus_le_plus b c u.plain w.plain);
         between =
             between (turned a p) p
-            (subst (λ (z : Float). z ≼ add f x y) (add-negated b c i.end j.end u.plain w.plain)
+            (subst (λ (z : Float). z ≼ add f x y) (add_negated b c i.end j.end u.plain w.plain)
             (add_mono f (neg b) x (neg c) y i.start i.finite j.start j.finite i.from j.from))
             (add_mono f x b y c i.finite i.end j.finite j.end i.to j.to);
       }
 
   -- ---- a quotient by a divisor above zero
 
-  pub under-div : (b x y : Float) → Under b x → T (positive y) → Finite (div f b y) → Under (div f b y) (div f x y)
-  under-div b x y u Y p =
+  pub under_div : (b x y : Float) → Under b x → T (positive y) → Finite (div f b y) → Under (div f b y) (div f x y)
+  under_div b x y u Y p =
       let i = u.between in
       let d = div f b y in
       record {
@@ -121,40 +121,40 @@ module _ (f : Format) where
 
   -- ---- what is finite was made of what is finite
 
-  no-infinity : (b s : Bool) → Finite (cond b nan (inf s)) → ⊥
+  no_infinity : (b s : Bool) → Finite (cond b nan (inf s)) → ⊥
   unfolding is_finite
-  no-infinity true s t = t
-  no-infinity false s t = t
+  no_infinity true s t = t
+  no_infinity false s t = t
 
-  pub mul-back : (x y : Float) → Finite (mul f x y) → Finite x × Finite y
+  pub mul_back : (x y : Float) → Finite (mul f x y) → Finite x × Finite y
   unfolding mul is_finite
-  mul-back nan y t = absurd t
-  mul-back (inf s) nan t = absurd t
-  mul-back (inf s) (inf u) t = absurd t
-  mul-back (inf s) (fin u n d) t = absurd (no-infinity (eqb n 0) (unlike s u) t)
-  mul-back (fin s m e) nan t = absurd t
-  mul-back (fin s m e) (inf u) t = absurd (no-infinity (eqb m 0) (unlike s u) t)
-  mul-back (fin s m e) (fin u n d) t = (tt, tt)
+  mul_back nan y t = absurd t
+  mul_back (inf s) nan t = absurd t
+  mul_back (inf s) (inf u) t = absurd t
+  mul_back (inf s) (fin u n d) t = absurd (no_infinity (eqb n 0) (unlike s u) t)
+  mul_back (fin s m e) nan t = absurd t
+  mul_back (fin s m e) (inf u) t = absurd (no_infinity (eqb m 0) (unlike s u) t)
+  mul_back (fin s m e) (fin u n d) t = (tt, tt)
 
-  no-sum : (b s : Bool) → Finite (cond b (inf s) nan) → ⊥
+  no_sum : (b s : Bool) → Finite (cond b (inf s) nan) → ⊥
   unfolding is_finite
-  no-sum true s t = t
-  no-sum false s t = t
+  no_sum true s t = t
+  no_sum false s t = t
 
   pub add_back : (x y : Float) → Finite (add f x y) → Finite x × Finite y
   unfolding add is_finite
   add_back nan y t = absurd t
   add_back (inf s) nan t = absurd t
-  add_back (inf s) (inf u) t = absurd (no-sum (beq s u) s t)
+  add_back (inf s) (inf u) t = absurd (no_sum (beq s u) s t)
   add_back (inf s) (fin u n d) t = absurd t
   add_back (fin s m e) nan t = absurd t
   add_back (fin s m e) (inf u) t = absurd t
   add_back (fin s m e) (fin u n d) t = (tt, tt)
 
-  pub div-back : (x y : Float) → Finite (div f x y) → Finite x
+  pub div_back : (x y : Float) → Finite (div f x y) → Finite x
   unfolding div is_finite
-  div-back nan y t = absurd t
-  div-back (inf s) nan t = absurd t
-  div-back (inf s) (inf u) t = absurd t
-  div-back (inf s) (fin u n d) t = absurd t
-  div-back (fin s m e) y t = tt
+  div_back nan y t = absurd t
+  div_back (inf s) nan t = absurd t
+  div_back (inf s) (inf u) t = absurd t
+  div_back (inf s) (fin u n d) t = absurd t
+  div_back (fin s m e) y t = tt

@@ -18,25 +18,25 @@ use Rattle.parallax_ecl.specs.rules.Ecliptic.{nearby, long_top, ecliptic_from, t
 
 -- from latitude's numerator without the cosine, the longitude's cosine and N
 abbrev pub of_crate : Float → Float → Float → Answer Rad
-of_crate up cosLong n = arctangent_in (cosLong ⊗ up) n
+of_crate up cos_long n = arctangent_in (cos_long ⊗ up) n
 
 abbrev pub published : Float → Float → Float → Answer Rad
-published up cosLong n = cond (eq cosLong zero) (refused 6) (arctangent_in up (n ⊘ cosLong))
+published up cos_long n = cond (eq cos_long zero) (refused 6) (arctangent_in up (n ⊘ cos_long))
 
 module _ (latitude : Float → Float → Float → Answer Rad) where
   abbrev along : Centre → Folded → Folded → Folded → Rad → Float → Rad → Answer Triple
   along c b s e semidiameter n long =
-      let cosLong = cosine_of long in
+      let cos_long = cosine_of long in
       let up = folded_sine b ⊖ c.parallax ⊗ (c.rho_sin ⊗ folded_cosine e ⊖ c.rho_cos ⊗ folded_sine e ⊗ folded_sine s) in
-      then (latitude up cosLong n) (λ (lat : Rad). ecliptic_from long cosLong lat semidiameter n)
+      then (latitude up cos_long n) (λ (lat : Rad). ecliptic_from long cos_long lat semidiameter n)
 
   abbrev at : Centre → Folded → Folded → Folded → Folded → Rad → Answer Triple
   at c l b s e semidiameter =
       let n = nearby c l b s in
       cond (eq n zero) (refused 6) (then (long_top c l b s e n) (along c b s e semidiameter n))
 
-  abbrev pub topopcentBy : EclPoint → Rad → GeographPoint → Float → Rad → Rad → Rad → Answer Triple
-  topopcentBy p parallax site height sidereal oblq semidiameter =
+  abbrev pub topopcent_by : EclPoint → Rad → GeographPoint → Float → Rad → Rad → Rad → Answer Triple
+  topopcent_by p parallax site height sidereal oblq semidiameter =
       unless (topopcent_refusal p parallax site height sidereal oblq semidiameter)
       (then (rho_in (rad site.lat) height)
       (λ (rho : Pair). at (centre_of (first rho) (second rho) parallax)

@@ -22,4 +22,4 @@ longitude_is_latitude e p parallax site height sidereal oblq semidiameter =
 
 -- Meeus's latitude with the crate's numerator
 abbrev pub numerator_keeps_cosine : Float → Float → Float → Answer Rad
-numerator_keeps_cosine up cosLong n = cond (eq cosLong zero) (refused 6) (arctangent_in (cosLong ⊗ up) (n ⊘ cosLong))
+numerator_keeps_cosine up cos_long n = cond (eq cos_long zero) (refused 6) (arctangent_in (cos_long ⊗ up) (n ⊘ cos_long))

@@ -37,29 +37,29 @@ upward c b s e =
 
 -- beyond the pole where N is below zero
 unfoldable pub lat_of_crate : Float → Float → Float → Answer Rad
-lat_of_crate up cosLong n = arctangent_in (cosLong ⊗ up) n
+lat_of_crate up cos_long n = arctangent_in (cos_long ⊗ up) n
 
 -- 6 where the cosine of the longitude is zero
 unfoldable pub lat_published : Float → Float → Float → Answer Rad
-lat_published up cosLong n = cond (eq cosLong zero) (refused 6) (arctangent_in up (n ⊘ cosLong))
+lat_published up cos_long n = cond (eq cos_long zero) (refused 6) (arctangent_in up (n ⊘ cos_long))
 
 unfoldable pub lat_top : Edition → Float → Float → Float → Answer Rad
-lat_top edition up cosLong n = by_edition edition (lat_of_crate up cosLong n) (lat_published up cosLong n)
+lat_top edition up cos_long n = by_edition edition (lat_of_crate up cos_long n) (lat_published up cos_long n)
 
 unfoldable pub semidiameter_in : Float → Rad → Rad → Float → Answer Rad
-semidiameter_in cosLong lat semidiameter n =
-    arcsine_in (cosLong ⊗ cosine_of lat ⊗ sine_of semidiameter ⊘ n)
+semidiameter_in cos_long lat semidiameter n =
+    arcsine_in (cos_long ⊗ cosine_of lat ⊗ sine_of semidiameter ⊘ n)
 
 unfoldable pub ecliptic_from : Rad → Float → Rad → Rad → Float → Answer Triple
-ecliptic_from long cosLong lat semidiameter n =
-    then (semidiameter_in cosLong lat semidiameter n)
+ecliptic_from long cos_long lat semidiameter n =
+    then (semidiameter_in cos_long lat semidiameter n)
     (λ (s : Rad). answered (triple (within_two_PI long).0 lat.0 s.0))
 
 -- the semidiameter goes by the edition's latitude
 unfoldable pub ecliptic_along : Edition → Float → Rad → Rad → Float → Answer Triple
 ecliptic_along edition up long semidiameter n =
-    let cosLong = cosine_of long in
-    then (lat_top edition up cosLong n) (λ (lat : Rad). ecliptic_from long cosLong lat semidiameter n)
+    let cos_long = cosine_of long in
+    then (lat_top edition up cos_long n) (λ (lat : Rad). ecliptic_from long cos_long lat semidiameter n)
 
 -- 6 where N is zero, as soon as it is worked out
 unfoldable pub ecliptic_at : Edition → Centre → Folded → Folded → Folded → Folded → Rad → Answer Triple

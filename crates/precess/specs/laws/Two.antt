@@ -25,10 +25,10 @@ precessed_by_arcs d precession =
     arcs_by_tests (λ (x : Rad). rad (x.0 ⊕ precession.zeta.0)) a.up a.across a.height
 
 module _ (asc dec asc2 dec2 : Rad) (precession : EqPrecession) where
-  pub first-precessed : first_place (precessed_two asc dec asc2 dec2 precession) ≡ precessed_in asc dec precession
+  pub first_precessed : first_place (precessed_two asc dec asc2 dec2 precession) ≡ precessed_in asc dec precession
   unfolding precessed_two precessed_in arcs_two
-  first-precessed = precessed_by_arcs _ precession
+  first_precessed = precessed_by_arcs _ precession
 
-  pub second-precessed : second_place (precessed_two asc dec asc2 dec2 precession) ≡ precessed_in asc2 dec2 precession
+  pub second_precessed : second_place (precessed_two asc dec asc2 dec2 precession) ≡ precessed_in asc2 dec2 precession
   unfolding precessed_two precessed_in arcs_two
-  second-precessed = precessed_by_arcs _ precession
+  second_precessed = precessed_by_arcs _ precession

@@ -1,5 +1,5 @@
 -- Two places side by side: each with its two floats and its refusal, all of them fixed whatever is refused.
--- `first-precessed` and `second-precessed` in laws/Two say that each is the place that it is alone.
+-- `first_precessed` and `second_precessed` in laws/Two say that each is the place that it is alone.
 use Rattle.double.specs.rules.Operations.{◌⊕◌}
 use Rattle.quantity.specs.declared.Rad.{Rad}
 use Rattle.quantity.specs.declared.Places.{Places}

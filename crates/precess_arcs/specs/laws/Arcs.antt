@@ -12,7 +12,7 @@ use Rattle.quantity.specs.rules.Answer.{Answer, answered, refused, Pair, pair, u
 use Rattle.root.specs.rules.Root.{root_of}
 use Rattle.elementary_arc.specs.rules.Arctangent.{both_zero, arctangent_of, arctangent_in}
 use Rattle.elementary_arc.specs.rules.Arcsine.{square, arcsine_in}
-use Rattle.elementary_arc.specs.laws.Arcsine.{arcsine-answered, arcsine_of_neither}
+use Rattle.elementary_arc.specs.laws.Arcsine.{arcsine_answered, arcsine_of_neither}
 use Rattle.precess_arcs.specs.rules.Arcs.{arcs_refusal}
 
 -- the declination of a height that is not refused
@@ -24,7 +24,7 @@ arcsine_tested : (s : Float) (x : Float) (t u : Bool) → le (size s) one ≡ t 
     → unless (cond t 0 (cond u 7 1)) (answered (pair x (height_arc s).0))
     ≡ both (answered (record { 0 = x })) (arcsine_in s)
 unfolding both then
-arcsine_tested s x true u e f = rw (arcsine-answered s (holds e))
+arcsine_tested s x true u e f = rw (arcsine_answered s (holds e))
 arcsine_tested s x false true e f = ap (λ (a : Answer Rad). both (answered (record { 0 = x })) a) (sym past)
   where
     past : arcsine_in s ≡ refused 7
@@ -36,13 +36,13 @@ pub arcs_by_tests : (f : Rad → Rad) (up across height : Float)
     → unless (arcs_refusal up across height) (answered (pair (f (arctangent_of up across)).0 (height_arc height).0))
     ≡ both (with f (arctangent_in up across)) (arcsine_in height)
 unfolding arcs_refusal arctangent_in
-arcs_by_tests f up across height = by-case (both_zero up across)
+arcs_by_tests f up across height = by_case (both_zero up across)
   where
-    by-case : (b : Bool)
+    by_case : (b : Bool)
         → unless (cond b 14 (cond (le (size height) one) 0 (cond (lt one (size height)) 7 1))) (answered (pair (f (arctangent_of up across)).0 (height_arc height).0))
         ≡ both (with f (cond b (refused 14) (answered (arctangent_of up across)))) (arcsine_in height)
-    by-case true = unfold both then in refl
-    by-case false = arcsine_tested height (f (arctangent_of up across)).0 (le (size height) one) (lt one (size height)) refl refl
+    by_case true = unfold both then in refl
+    by_case false = arcsine_tested height (f (arctangent_of up across)).0 (le (size height) one) (lt one (size height)) refl refl
 
 as_it_is : {A : Type 0} (a : Answer A) → with (λ (x : A). x) a ≡ a
 as_it_is (answered x) = refl

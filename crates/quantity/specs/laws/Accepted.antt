@@ -25,51 +25,51 @@ use Rattle.quantity.specs.rules.Refusal.{height_refusal}
 -- the least of two numbers is none only where both are
 pub lower_none : (a b : ℕ) → lower a b ≡ 0 → (a ≡ 0) × (b ≡ 0)
 lower_none ℕ.zero b e = (refl, e)
-lower_none (suc a) b e = by-case (eqb b 0) (eqb→eq b 0) (eqb-false b 0) (leb (suc a) b) (rw (eqb-suc-zero a) at e)
+lower_none (suc a) b e = by_case (eqb b 0) (eqb→eq b 0) (eqb-false b 0) (leb (suc a) b) (rw (eqb-suc-zero a) at e)
   where
-    by-case : (t : Bool) → (T t → b ≡ 0) → (t ≡ false → b ≡ 0 → ⊥) → (u : Bool) → cond t (suc a) (cond u (suc a) b) ≡ 0
+    by_case : (t : Bool) → (T t → b ≡ 0) → (t ≡ false → b ≡ 0 → ⊥) → (u : Bool) → cond t (suc a) (cond u (suc a) b) ≡ 0
         → (suc a ≡ 0) × (b ≡ 0)
-    by-case true p q u e = (e, p tt)
-    by-case false p q true e = absurd (omega arith)
-    by-case false p q false e = absurd (q refl e)
+    by_case true p q u e = (e, p tt)
+    by_case false p q true e = absurd (omega arith)
+    by_case false p q false e = absurd (q refl e)
 
 -- an answer was not refused
 pub answered_unless : {A : Type 0} (n : ℕ) (a : Answer A) (v : A) → unless n a ≡ answered v → (n ≡ 0) × (a ≡ answered v)
-answered_unless n a v e = by-case (eqb n 0) (eqb→eq n 0) e
+answered_unless n a v e = by_case (eqb n 0) (eqb→eq n 0) e
   where
-    by-case : (b : Bool) → (T b → n ≡ 0) → cond b a (refused n) ≡ answered v → (n ≡ 0) × (a ≡ answered v)
-    by-case true p e = (p tt, e)
-    by-case false p e = let z : ◌≡◌ {A = ℕ} 0 1 = cc in absurd (omega arith)
+    by_case : (b : Bool) → (T b → n ≡ 0) → cond b a (refused n) ≡ answered v → (n ≡ 0) × (a ≡ answered v)
+    by_case true p e = (p tt, e)
+    by_case false p e = let z : ◌≡◌ {A = ℕ} 0 1 = cc in absurd (omega arith)
 
 -- ---- arguments
 
 pub number_accepted : (x : Float) → number_refusal x ≡ 0 → Finite x
-number_accepted x e = by-case (is_finite x) e
+number_accepted x e = by_case (is_finite x) e
   where
-    by-case : (b : Bool) → ◌≡◌ {A = ℕ} (cond b 0 1) 0 → T b
-    by-case true e = tt
-    by-case false e = absurd (omega arith)
+    by_case : (b : Bool) → ◌≡◌ {A = ℕ} (cond b 0 1) 0 → T b
+    by_case true e = tt
+    by_case false e = absurd (omega arith)
 
 -- up to the limit in size
 pub past_accepted : (x limit : Float) (n : ℕ) → 0 < n → Finite limit → past x limit n ≡ 0 → size x ≼ limit
-past_accepted x limit n p q e = by-case (is_finite x) (lt limit (size x)) (λ t. t) (λ t. t) e
+past_accepted x limit n p q e = by_case (is_finite x) (lt limit (size x)) (λ t. t) (λ t. t) e
   where
-    by-case : (b c : Bool) → (T b → Finite x) → (T (not c) → T (not (lt limit (size x)))) → cond b (cond c n 0) 1 ≡ 0 → size x ≼ limit
-    by-case true true f l e = absurd (omega arith)
-    by-case true false f l e = le_of_not_lt limit (size x) q (rw (finite_size x) (f tt)) (l tt)
-    by-case false c f l e = absurd (omega arith)
+    by_case : (b c : Bool) → (T b → Finite x) → (T (not c) → T (not (lt limit (size x)))) → cond b (cond c n 0) 1 ≡ 0 → size x ≼ limit
+    by_case true true f l e = absurd (omega arith)
+    by_case true false f l e = le_of_not_lt limit (size x) q (rw (finite_size x) (f tt)) (l tt)
+    by_case false c f l e = absurd (omega arith)
 
 -- between the two ends
 pub outside_accepted : (x least most : Float) (n : ℕ) → 0 < n → Finite least → Finite most → outside x least most n ≡ 0
     → Between least most x
-outside_accepted x least most n p q r e = by-case (is_finite x) (lt x least) (lt most x) (λ t. t) (λ t. t) (λ t. t) e
+outside_accepted x least most n p q r e = by_case (is_finite x) (lt x least) (lt most x) (λ t. t) (λ t. t) (λ t. t) e
   where
-    by-case : (b c d : Bool) → (T b → Finite x) → (T (not c) → T (not (lt x least))) → (T (not d) → T (not (lt most x)))
+    by_case : (b c d : Bool) → (T b → Finite x) → (T (not c) → T (not (lt x least))) → (T (not d) → T (not (lt most x)))
         → cond b (cond c n (cond d n 0)) 1 ≡ 0 → Between least most x
-    by-case true true d f k l e = absurd (omega arith)
-    by-case true false true f k l e = absurd (omega arith)
-    by-case true false false f k l e = between q r (le_of_not_lt x least (f tt) q (k tt)) (le_of_not_lt most x r (f tt) (l tt))
-    by-case false c d f k l e = absurd (omega arith)
+    by_case true true d f k l e = absurd (omega arith)
+    by_case true false true f k l e = absurd (omega arith)
+    by_case true false false f k l e = between q r (le_of_not_lt x least (f tt) q (k tt)) (le_of_not_lt most x r (f tt) (l tt))
+    by_case false c d f k l e = absurd (omega arith)
 
 pub angle_accepted : (x : Rad) → angle_refusal x ≡ 0 → size x.0 ≼ farthest
 unfolding angle_refusal is_finite of_bits
@@ -94,17 +94,17 @@ height_accepted x e = outside_accepted x least_height most_height 5 (lit< tt) tt
 -- a day's distance from the epoch is no NaN, and no infinity passes the test
 pub day_accepted : (day : Float) → day_refusal day ≡ 0 → size (day ⊖ epoch) ≼ days_around
 unfolding day_refusal is_finite of_bits
-day_accepted day e = by-case (is_finite day) (lt days_around (size (day ⊖ epoch))) (λ t. t) (λ t. t) e
+day_accepted day e = by_case (is_finite day) (lt days_around (size (day ⊖ epoch))) (λ t. t) (λ t. t) e
   where
-    from-epoch : (d : Float) → (d ≡ nan → ⊥) → T (not (lt days_around (size d))) → size d ≼ days_around
-    from-epoch nan n l = absurd (n refl)
-    from-epoch (inf s) n l = absurd (unfold lt size of_bits in l)
-    from-epoch (fin s m e) n l = le_of_not_lt days_around (size (fin s m e)) (unfold is_finite of_bits in tt) (unfold is_finite size in tt) l
+    from_epoch : (d : Float) → (d ≡ nan → ⊥) → T (not (lt days_around (size d))) → size d ≼ days_around
+    from_epoch nan n l = absurd (n refl)
+    from_epoch (inf s) n l = absurd (unfold lt size of_bits in l)
+    from_epoch (fin s m e) n l = le_of_not_lt days_around (size (fin s m e)) (unfold is_finite of_bits in tt) (unfold is_finite size in tt) l
 
-    by-case : (b c : Bool) → (T b → Finite day) → (T (not c) → T (not (lt days_around (size (day ⊖ epoch)))))
+    by_case : (b c : Bool) → (T b → Finite day) → (T (not c) → T (not (lt days_around (size (day ⊖ epoch)))))
         → ◌≡◌ {A = ℕ} (cond b (cond c 2 0) 1) 0 → size (day ⊖ epoch) ≼ days_around
-    by-case true true f l e = absurd (omega arith)
-    by-case true false f l e =
-        from-epoch (day ⊖ epoch) (rounds_not_nan (sub_rounds binary64 day epoch (f tt) (unfold is_finite of_bits in tt)))
+    by_case true true f l e = absurd (omega arith)
+    by_case true false f l e =
+        from_epoch (day ⊖ epoch) (rounds_not_nan (sub_rounds binary64 day epoch (f tt) (unfold is_finite of_bits in tt)))
         (l tt)
-    by-case false c f l e = absurd (omega arith)
+    by_case false c f l e = absurd (omega arith)

@@ -51,8 +51,8 @@ module _ (x y : Float) (F : T (fits binary64 x)) (G : T (fits binary64 y)) (i : 
       (rw (pattern_counts x F i, pattern_counts y G j) at (rest_counts first second some h))
       (has_pattern _ (binary_places_of (size_pattern y)) (lt_trans (mod-lt _ (second.some some)) second.few) second.room)
 
-  pub remainder-is-exact : IsRemainder x y (remainder_of x y)
-  remainder-is-exact = go (less_or_not (size_pattern x) (size_pattern y))
+  pub remainder_is_exact : IsRemainder x y (remainder_of x y)
+  remainder_is_exact = go (less_or_not (size_pattern x) (size_pattern y))
     where
       by : (r : Float) → IsRemainder x y r → IsRemainder x y (remainder_of x y)
       by r h = subst (IsRemainder x y) (remainder_is_only x y r F G i j p h) h

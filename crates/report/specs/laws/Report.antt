@@ -20,9 +20,9 @@ use Rattle.list_tally.specs.declared.Tally.{Tally}
 use Rattle.star_store.specs.declared.Tallied.{Tallied}
 use Rattle.star_store.specs.rules.Star.{first_of, second_of}
 use Rattle.star_store.specs.rules.Stored.{store_refusal, StarsStored}
-use Rattle.star_store.specs.laws.Stored.{tally-is, status-at}
+use Rattle.star_store.specs.laws.Stored.{tally_is, status_at}
 use Rattle.batch.specs.rules.Batch.{Batch}
-use Rattle.batch.specs.laws.Batch.{asc-read, dec-read}
+use Rattle.batch.specs.laws.Batch.{asc_read, dec_read}
 use Rattle.rotation_list.specs.rules.Rotate.{Rotated}
 use Rattle.rotation_list.specs.laws.Rotate as rotation
 use Rattle.text_number.specs.rules.Refused.{refused_text}
@@ -49,8 +49,8 @@ unfolding listText
 list_is style edition {rule} {s} {r = r} {status' = status'} {asc'} {dec'} b e asc-is dec-is =
     ap (λ (t : List ℕ). head_text style edition ++ (t ++ footText style r.tally))
     (texts_same (count_of s) (lentLine style s status' asc' dec') (line_by style rule s)
-    (λ (i : ℕ) (h : i < count_of s). simp (status-at b e i h, asc-is i h, dec-is i h)))
-    ∙ ap (λ (t : Tally). head_text style edition ++ (texts (count_of s) (line_by style rule s) ++ footText style t)) (tally-is b e)
+    (λ (i : ℕ) (h : i < count_of s). simp (status_at b e i h, asc-is i h, dec-is i h)))
+    ∙ ap (λ (t : Tally). head_text style edition ++ (texts (count_of s) (line_by style rule s) ++ footText style t)) (tally_is b e)
 
 -- of as many stars as a list may have
 slices_as_long : (s : List ℕ) (day1 day2 : Float) (p q t : ℕ) → p ≡ most_stars → q ≡ most_stars → t ≡ most_stars
@@ -67,31 +67,31 @@ module _ (style : Style) (edition : Edition) {s : List ℕ} {day1 day2 : Float} 
   number = store_refusal s day1 day2 (length status) (length asc) (length dec)
 
   -- with such a text where the call is not refused
-  abbrev unlessRefused : ℕ → List ℕ → List ℕ
-  unlessRefused n t = cond (eqb (refusalIn style n) 0) t (refusedIn style (refusalIn style n))
+  abbrev unless_refused : ℕ → List ℕ → List ℕ
+  unless_refused n t = cond (eqb (refusalIn style n) 0) t (refusedIn style (refusalIn style n))
 
-  accepted-text : number ≡ 0 → listText style edition s status' asc' dec' r.tally ≡ stars_text style edition s day1 day2
-  accepted-text e = list_is style edition b e (asc-read edition b e) (dec-read edition b e)
+  accepted_text : number ≡ 0 → listText style edition s status' asc' dec' r.tally ≡ stars_text style edition s day1 day2
+  accepted_text e = list_is style edition b e (asc_read edition b e) (dec_read edition b e)
 
-  done-text : answersText style edition s status' asc' dec' r.refusal r.tally ≡ unlessRefused number (stars_text style edition s day1 day2)
+  done_text : answersText style edition s status' asc' dec' r.refusal r.tally ≡ unless_refused number (stars_text style edition s day1 day2)
   unfolding answersText
-  done-text =
-      ap (λ (q : Tallied). unlessRefused q.refusal (listText style edition s status' asc' dec' r.tally)) b.answer
-      ∙ by-case (eqb (refusalIn style number) 0) refl
+  done_text =
+      ap (λ (q : Tallied). unless_refused q.refusal (listText style edition s status' asc' dec' r.tally)) b.answer
+      ∙ by_case (eqb (refusalIn style number) 0) refl
     where
-      by-case : (t : Bool) → eqb (refusalIn style number) 0 ≡ t
+      by_case : (t : Bool) → eqb (refusalIn style number) 0 ≡ t
           → cond t (listText style edition s status' asc' dec' r.tally) (refusedIn style (refusalIn style number))
           ≡ cond t (stars_text style edition s day1 day2) (refusedIn style (refusalIn style number))
-      by-case true e = accepted-text (not_refused style number (eqb-true (refusalIn style number) 0 e))
-      by-case false e = refl
+      by_case true e = accepted_text (not_refused style number (eqb-true (refusalIn style number) 0 e))
+      by_case false e = refl
 
   -- with slices for as many stars as a list may have
-  pub report-is : length status ≡ most_stars → length asc ≡ most_stars → length dec ≡ most_stars
+  pub report_is : length status ≡ most_stars → length asc ≡ most_stars → length dec ≡ most_stars
       → answersText style edition s status' asc' dec' r.refusal r.tally ≡ report_of style edition s day1 day2
   unfolding report_of
-  report-is p q t =
-      done-text
-      ∙ ap (λ (n : ℕ). unlessRefused n (stars_text style edition s day1 day2))
+  report_is p q t =
+      done_text
+      ∙ ap (λ (n : ℕ). unless_refused n (stars_text style edition s day1 day2))
       (slices_as_long s day1 day2 _ _ _ p q t)
 
 -- ---- under one rotation
@@ -100,16 +100,16 @@ module _ (edition : Edition) {s : List ℕ} {day1 day2 : Float} {status asc dec 
     (b : Rotated edition s day1 day2 status asc dec r status' asc' dec')
     (p : length status ≡ most_stars) (q : length asc ≡ most_stars) (t : length dec ≡ most_stars) where
   -- the refusal of the call is the rule's
-  is-refusal : r.refusal ≡ store_refusal s day1 day2 most_stars most_stars most_stars
-  is-refusal = ap (λ (k : Tallied). k.refusal) b.answer ∙ slices_as_long s day1 day2 _ _ _ p q t
+  is_refusal : r.refusal ≡ store_refusal s day1 day2 most_stars most_stars most_stars
+  is_refusal = ap (λ (k : Tallied). k.refusal) b.answer ∙ slices_as_long s day1 day2 _ _ _ p q t
 
-  pub rotated-refused : r.refusal ≢ 0 → refused_text r.refusal ≡ rotated_of edition s day1 day2
+  pub rotated_refused : r.refusal ≢ 0 → refused_text r.refusal ≡ rotated_of edition s day1 day2
   unfolding rotated_of
-  rotated-refused h = rw (← is-refusal, ne_eqb r.refusal 0 h)
+  rotated_refused h = rw (← is_refusal, ne_eqb r.refusal 0 h)
 
-  pub rotated-is : r.refusal ≡ 0 → alone_text ++ listText Lines edition s status' asc' dec' r.tally ≡ rotated_of edition s day1 day2
+  pub rotated_is : r.refusal ≡ 0 → alone_text ++ listText Lines edition s status' asc' dec' r.tally ≡ rotated_of edition s day1 day2
   unfolding rotated_of
-  rotated-is e =
+  rotated_is e =
       let none = sym (ap (λ (k : Tallied). k.refusal) b.answer) ∙ e in
-      ap (λ (l : List ℕ). alone_text ++ l) (list_is Lines edition b none (rotation.asc-read edition b none) (rotation.dec-read edition b none))
-      ∙ rw (← is-refusal, eq-eqb r.refusal 0 e)
+      ap (λ (l : List ℕ). alone_text ++ l) (list_is Lines edition b none (rotation.asc_read edition b none) (rotation.dec_read edition b none))
+      ∙ rw (← is_refusal, eq-eqb r.refusal 0 e)

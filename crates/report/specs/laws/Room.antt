@@ -80,8 +80,8 @@ module _ (style : Style) (edition : Edition) (rule : Star → Answer Pair) (s : 
   place_short : (i : ℕ) → length (line_by style rule s i) ≤ 145
   place_short i = either_short 145 (is_kept (nth s i)) _ [] (star_short style _ _ _ _) (omega arith)
 
-  by-short : count_of s ≤ most_stars → length (text_by style edition rule s) ≤ 444 + 145 * most_stars
-  by-short h =
+  by_short : count_of s ≤ most_stars → length (text_by style edition rule s) ≤ 444 + 145 * most_stars
+  by_short h =
       let lines = texts (count_of s) (line_by style rule s) in
       let tally = tally_of (statuses_by rule s) in
       let short = texts_short 145 (count_of s) (line_by style rule s) (λ (i : ℕ) k. place_short i) in
@@ -96,21 +96,21 @@ module _ (style : Style) (edition : Edition) (rule : Star → Answer Pair) (s : 
 module _ (style : Style) (edition : Edition) (s : List ℕ) (day1 day2 : Float) where
   pub has_room : length (report_of style edition s day1 day2) ≤ room
   unfolding report_of
-  has_room = by-case (eqb no 0) refl
+  has_room = by_case (eqb no 0) refl
     where
       no : ℕ
       no = report_refusal style s day1 day2
 
-      by-case : (t : Bool) → eqb no 0 ≡ t → length (cond t (stars_text style edition s day1 day2) (refusedIn style no)) ≤ room
-      by-case true e =
+      by_case : (t : Bool) → eqb no 0 ≡ t → length (cond t (stars_text style edition s day1 day2) (refusedIn style no)) ≤ room
+      by_case true e =
           let none = not_refused style (store_refusal s day1 day2 most_stars most_stars most_stars) (eqb-true no 0 e) in
-          omega (arith, by-short style edition (stars_on edition day1 day2) s (accepted s day1 day2 most_stars most_stars most_stars none).statuses)
-      by-case false e = omega (arith, refused_short_in style no)
+          omega (arith, by_short style edition (stars_on edition day1 day2) s (accepted s day1 day2 most_stars most_stars most_stars none).statuses)
+      by_case false e = omega (arith, refused_short_in style no)
 
 -- under one rotation
 pub rotated_has_room : (edition : Edition) (s : List ℕ) (day1 day2 : Float) → length (rotated_of edition s day1 day2) ≤ room
 unfolding rotated_of
-rotated_has_room edition s day1 day2 = by-case (eqb no 0) refl
+rotated_has_room edition s day1 day2 = by_case (eqb no 0) refl
   where
     no : ℕ
     no = store_refusal s day1 day2 most_stars most_stars most_stars
@@ -118,11 +118,11 @@ rotated_has_room edition s day1 day2 = by-case (eqb no 0) refl
     rule : Star → Answer Pair
     rule = rotated_on edition day1 day2
 
-    by-case : (t : Bool) → eqb no 0 ≡ t → length (cond t (alone_text ++ text_by Lines edition rule s) (refused_text no)) ≤ room
-    by-case true e =
+    by_case : (t : Bool) → eqb no 0 ≡ t → length (cond t (alone_text ++ text_by Lines edition rule s) (refused_text no)) ≤ room
+    by_case true e =
         let few = (accepted s day1 day2 most_stars most_stars most_stars (eqb-true no 0 e)).statuses in
-        omega (arith, length-append alone_text (text_by Lines edition rule s), by-short Lines edition rule s few)
-    by-case false e = omega (arith, refused_short no)
+        omega (arith, length-append alone_text (text_by Lines edition rule s), by_short Lines edition rule s few)
+    by_case false e = omega (arith, refused_short no)
 
 -- a plan at its own sidereal time
 pub plan_has_room : (table : Bool) (edition : Edition) (s : List ℕ) (day1 day2 : Float) (long lat alt : Deg)

@@ -35,7 +35,7 @@ pub digits_exact : (n parts : ℕ) → Ends n (parts % whole_day)
     → worth (digits_text n parts) * whole_day ≡ parts % whole_day * 10 ^ length (digits_text n parts)
 unfolding digits_text worth
 digits_exact zero parts e = let none : parts % whole_day ≡ 0 = omega (arith, e.is) in rw none
-digits_exact (suc n) parts e = by-case (eqb (left_of parts) 0) refl (digits_exact n (left_of parts) (next_ends n parts e))
+digits_exact (suc n) parts e = by_case (eqb (left_of parts) 0) refl (digits_exact n (left_of parts) (next_ends n parts e))
   where
     d : ℕ
     d = tenfold parts / whole_day
@@ -49,10 +49,10 @@ digits_exact (suc n) parts e = by-case (eqb (left_of parts) 0) refl (digits_exac
     digit : digit_of parts - digit0 ≡ d
     digit = omega arith
 
-    by-case : (b : Bool) → eqb (left_of parts) 0 ≡ b → worth t * whole_day ≡ left_of parts % whole_day * 10 ^ length t
+    by_case : (b : Bool) → eqb (left_of parts) 0 ≡ b → worth t * whole_day ≡ left_of parts % whole_day * 10 ^ length t
         → worth (digit_of parts ∷ cond b [] t) * whole_day ≡ parts % whole_day * 10 ^ length (digit_of parts ∷ cond b [] t)
-    by-case true q i = rw digit (last d (parts % whole_day) (left_of parts % whole_day) split (ap (λ (k : ℕ). k % whole_day) (eqb-true _ _ q)))
-    by-case false q i =
+    by_case true q i = rw digit (last d (parts % whole_day) (left_of parts % whole_day) split (ap (λ (k : ℕ). k % whole_day) (eqb-true _ _ q)))
+    by_case false q i =
         rw (digit, pow-suc 10 (length t)) (one_more d (worth t) (parts % whole_day) (left_of parts % whole_day) (10 ^ length t) split i)
 
 -- 32 digits suffice

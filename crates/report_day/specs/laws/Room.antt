@@ -19,11 +19,11 @@ use Rattle.report_day.specs.rules.Day.{millionths_of, six_digits, degrees_text, 
 digits_short : (n left : ℕ) → length (digits_text n left) ≤ n
 unfolding digits_text
 digits_short zero left = omega arith
-digits_short (suc n) left = by-case (eqb (left_of left) 0) (digits_short n (left_of left))
+digits_short (suc n) left = by_case (eqb (left_of left) 0) (digits_short n (left_of left))
   where
-    by-case : (b : Bool) → length (digits_text n (left_of left)) ≤ n → suc (length (cond b [] (digits_text n (left_of left)))) ≤ suc n
-    by-case true h = omega arith
-    by-case false h = omega arith
+    by_case : (b : Bool) → length (digits_text n (left_of left)) ≤ n → suc (length (cond b [] (digits_text n (left_of left)))) ≤ suc n
+    by_case true h = omega arith
+    by_case false h = omega arith
 
 exact_short : (day : Float) → length (exact_text day) ≤ 53
 unfolding exact_text
@@ -68,8 +68,8 @@ text_short day mean apparent utc =
 
 pub has_room_lem : (day : Float) (utc : Bool) → length (day_of day utc) ≤ room
 unfolding day_of
-has_room_lem day utc = by-case (eqb (day_refusal day) 0)
+has_room_lem day utc = by_case (eqb (day_refusal day) 0)
   where
-    by-case : (b : Bool) → length (cond b (day_text day (mean_of day) (apparent_of day) utc) (refused_text (day_refusal day))) ≤ room
-    by-case true = text_short day (mean_of day) (apparent_of day) utc
-    by-case false = omega (arith, refused_short (day_refusal day))
+    by_case : (b : Bool) → length (cond b (day_text day (mean_of day) (apparent_of day) utc) (refused_text (day_refusal day))) ≤ room
+    by_case true = text_short day (mean_of day) (apparent_of day) utc
+    by_case false = omega (arith, refused_short (day_refusal day))

@@ -4,19 +4,19 @@ use Rattle.std.proofs.Common.{sym, ◌∙◌, arith}
 use Rattle.std.proofs.Math.Path.{ap}
 use mathlib.Core.List.{List, [], ◌∷◌, ◌++◌, append_assoc, append-nil}
 use Rattle.lent.specs.rules.Writing.{Wrote}
-use Rattle.lent.specs.laws.Writing.{after, same, nothing, length-kept}
+use Rattle.lent.specs.laws.Writing.{after, same, nothing, length_kept}
 use Rattle.report_day.specs.rules.Digits.{digit_of, left_of, count_after, digits_text}
 use Rattle.report_day.specs.notions.Walk.{Upto}
 
 -- what follows a digit
 follows : (n left : ℕ) → digit_of left ∷ digits_text (count_after (suc n) (left_of left)) (left_of left) ≡ digits_text (suc n) left
 unfolding digits_text
-follows n left = by-case (eqb (left_of left) 0)
+follows n left = by_case (eqb (left_of left) 0)
   where
-    by-case : (b : Bool)
+    by_case : (b : Bool)
         → digit_of left ∷ digits_text (cond b 0 (suc n - 1)) (left_of left) ≡ digit_of left ∷ cond b [] (digits_text n (left_of left))
-    by-case true = refl
-    by-case false = ap (λ (k : ℕ). digit_of left ∷ digits_text k (left_of left)) (let e : suc n - 1 ≡ n = omega arith in e)
+    by_case true = refl
+    by_case false = ap (λ (k : ℕ). digit_of left ∷ digits_text k (left_of left)) (let e : suc n - 1 ≡ n = omega arith in e)
 
 module _ {old : List ℕ} {at : ℕ} {all : List ℕ} where
   pub begun : {offset left n : ℕ} → offset ≡ min at (length old) → digits_text n left ≡ all → Upto old at all old offset left n
@@ -38,12 +38,12 @@ module _ {old : List ℕ} {at : ℕ} {all : List ℕ} where
 
   -- the slice's length
   pub stays : {new : List ℕ} {offset left n : ℕ} → Upto old at all new offset left n → length new ≡ length old
-  stays u = length-kept u.wrote
+  stays u = length_kept u.wrote
 
 -- a pass less
 pub falls : (n left : ℕ) → (n ≡ 0 → ⊥) → count_after n left < n
-falls n left some = by-case (eqb left 0)
+falls n left some = by_case (eqb left 0)
   where
-    by-case : (b : Bool) → cond b 0 (n - 1) < n
-    by-case true = omega (arith, some)
-    by-case false = omega (arith, some)
+    by_case : (b : Bool) → cond b 0 (n - 1) < n
+    by_case true = omega (arith, some)
+    by_case false = omega (arith, some)

@@ -36,28 +36,28 @@ lines_short edition sight heading az alt =
     simp length-append (omega arith)
 
 module _ (edition : Edition) (sight : Sight) where
-  beside-has-room : (heading az alt : Deg) (mark : Answer Deg) → length (beside_text edition sight heading az alt mark) ≤ room
-  beside-has-room heading az alt (answered mark) =
+  beside_has_room : (heading az alt : Deg) (mark : Answer Deg) → length (beside_text edition sight heading az alt mark) ≤ room
+  beside_has_room heading az alt (answered mark) =
       let a = lines_short edition sight heading az alt in
       let b = mark_short mark in
       let c = open_short sight.utc in
       simp length-append (omega arith)
-  beside-has-room heading az alt (refused n) = omega (arith, mark_refusal_short n)
+  beside_has_room heading az alt (refused n) = omega (arith, mark_refusal_short n)
 
-  read-has-room : (heading az alt : Deg) (readings : Readings) → length (read_text edition sight heading az alt readings) ≤ room
-  read-has-room heading az alt None =
+  read_has_room : (heading az alt : Deg) (readings : Readings) → length (read_text edition sight heading az alt readings) ≤ room
+  read_has_room heading az alt None =
       let a = lines_short edition sight heading az alt in
       let b = open_short sight.utc in
       simp length-append (omega arith)
-  read-has-room heading az alt (At star mark) = beside-has-room heading az alt (mark_heading_rule heading star mark)
+  read_has_room heading az alt (At star mark) = beside_has_room heading az alt (mark_heading_rule heading star mark)
 
-  bearings-have-room : (a : Answer Triple) (readings : Readings) → length (bearings_text edition sight a readings) ≤ room
-  bearings-have-room (answered (triple heading az alt)) readings = read-has-room (deg heading) (deg az) (deg alt) readings
-  bearings-have-room (refused n) readings = omega (arith, sight_refusal_short n)
+  bearings_have_room : (a : Answer Triple) (readings : Readings) → length (bearings_text edition sight a readings) ≤ room
+  bearings_have_room (answered (triple heading az alt)) readings = read_has_room (deg heading) (deg az) (deg alt) readings
+  bearings_have_room (refused n) readings = omega (arith, sight_refusal_short n)
 
-  found-has-room : (found : Answer Entry) (readings : Readings) → length (found_text edition sight found readings) ≤ room
-  found-has-room (answered e) readings = bearings-have-room (bearings_of edition e.star sight) readings
-  found-has-room (refused n) readings = omega (arith, sight_refusal_short n)
+  found_has_room : (found : Answer Entry) (readings : Readings) → length (found_text edition sight found readings) ≤ room
+  found_has_room (answered e) readings = bearings_have_room (bearings_of edition e.star sight) readings
+  found_has_room (refused n) readings = omega (arith, sight_refusal_short n)
 
   pub has_room : (s : List ℕ) (readings : Readings) → length (sight_text edition s sight readings) ≤ room
-  has_room s readings = found-has-room (find_rule s sight.number) readings
+  has_room s readings = found_has_room (find_rule s sight.number) readings

@@ -14,8 +14,8 @@ use Rattle.text_fields.specs.rules.Lines.{lines}
 use Rattle.text_fields.specs.rules.Next.{found, unclear_at, next_of}
 use Rattle.text_fields.specs.rules.Stored.{places_of, EntriesStored}
 use Rattle.text_fields.specs.notions.Stored.{Upto}
-use Rattle.text_fields.specs.laws.Walk.{lines_left, unclear-line, lines-read, lines-some}
-use Rattle.text_fields.specs.laws.Stored.{none-stored, at-unclear, at-no-more, at-full, one-stored}
+use Rattle.text_fields.specs.laws.Walk.{lines_left, unclear_line_lem, lines_read, lines_some}
+use Rattle.text_fields.specs.laws.Stored.{none_stored, at_unclear, at_no_more, at_full, one_stored}
 use Rattle.text_night.specs.declared.Next.{Next}
 use Rattle.text_night.specs.rules.Sight.{sight, sight_rule}
 use Rattle.text_night.specs.rules.Next.{shown_next}
@@ -39,7 +39,7 @@ module _ (c : tie.After-fewest invariant-loop decreases-loop) where
   places-are = c.fewest.ensures
 
 loop-holds : tie.Need-loop-init invariant-loop decreases-loop
-loop-holds c = none-stored _ _ _ _ _ _ _ _ _ (places-are c)
+loop-holds c = none_stored _ _ _ _ _ _ _ _ _ (places-are c)
 
 module _ (c : tie.At-loop invariant-loop decreases-loop) where
   abbrev start : tie.Start invariant-loop decreases-loop
@@ -78,13 +78,13 @@ same_length c = (so_far (at-loop c.before.before)).lines_so_far.long
 returns : tie.Need-returns invariant-loop decreases-loop
 returns c =
     let k = c.before.before in
-    promised (at-loop k) _ (at-full (so_far (at-loop k)) _ _ (next k) (is_found k) c.if1.true)
+    promised (at-loop k) _ (at_full (so_far (at-loop k)) _ _ (next k) (is_found k) c.if1.true)
 
 add-passed : tie.Need-overflow-add-passed invariant-loop decreases-loop
 add-passed c =
     let k = c.before.before in
     let w = (so_far (at-loop k)).walked in
-    record { fits = omega (arith, lines_left w, lines-read w _ _ (next k) (is_found k), (start (at-loop k)).good.1.1.1.0) }
+    record { fits = omega (arith, lines_left w, lines_read w _ _ (next k) (is_found k), (start (at-loop k)).good.1.1.1.0) }
 
 store-sight-requires : tie.Need-store-sight-requires invariant-loop decreases-loop
 store-sight-requires c κs =
@@ -109,13 +109,13 @@ loop-less : tie.Need-loop-smaller invariant-loop decreases-loop
 loop-less c =
     let k = c.before.before.before.before.before.before.before.before.before.before.before.before.before.before.before in
     let w = (so_far (at-loop k)).walked in
-    omega (arith, lines-read w _ _ (next k) (is_found k), lines-some w _ _ (next k) (is_found k))
+    omega (arith, lines_read w _ _ (next k) (is_found k), lines_some w _ _ (next k) (is_found k))
 
 loop-again : tie.Need-loop-preserved invariant-loop decreases-loop
 loop-again c =
     let k = c.before.before.before.before.before.before.before.before.before.before.before.before.before.before.before in
     let there = c.before.before.before.before.before.before.before.before.before.before.before.before.before.if1.false in
-    one-stored (so_far (at-loop k)) _ _ (next k) (is_found k) (omega (arith, there))
+    one_stored (so_far (at-loop k)) _ _ (next k) (is_found k) (omega (arith, there))
     c.before.before.before.before.before.before.before.before.store-sight.ensures
 
 -- a line cannot be read
@@ -130,7 +130,7 @@ add-t36 : tie.Need-overflow-add-t36 invariant-loop decreases-loop
 add-t36 c =
     let k = at-loop-2 c.before in
     let w = (so_far k).walked in
-    record { fits = omega (arith, lines_left w, unclear-line w _ (is-unclear c.before), (start k).good.1.1.1.0) }
+    record { fits = omega (arith, lines_left w, unclear_line_lem w _ (is-unclear c.before), (start k).good.1.1.1.0) }
 
 same-length-5 : tie.Need-same-length-5 invariant-loop decreases-loop
 same-length-5 c = (so_far (at-loop-2 c.before)).lines_so_far.long
@@ -138,7 +138,7 @@ same-length-5 c = (so_far (at-loop-2 c.before)).lines_so_far.long
 returns-2 : tie.Need-returns-2 invariant-loop decreases-loop
 returns-2 c =
     let k = at-loop-2 c.before in
-    promised k _ (at-unclear (so_far k) _ (is-unclear c.before))
+    promised k _ (at_unclear (so_far k) _ (is-unclear c.before))
 
 same-length-9 : tie.Need-same-length-9 invariant-loop decreases-loop
 same-length-9 c = (so_far c.before.before.before).lines_so_far.long
@@ -146,7 +146,7 @@ same-length-9 c = (so_far c.before.before.before).lines_so_far.long
 returns-3 : tie.Need-returns-3 invariant-loop decreases-loop
 returns-3 c =
     let k = c.before.before.before in
-    promised k _ (at-no-more (so_far k) (comes c.before.before _ c.enum_told.given.1))
+    promised k _ (at_no_more (so_far k) (comes c.before.before _ c.enum_told.given.1))
 
 pub read-night-spec : {M : Type 1} → statement M
 read-night-spec =

@@ -5,7 +5,7 @@ use native.Mathlib.Omega.{arith}
 use lib.ListN.{length, drop}
 use borrow.Author.Rules.{rules}
 use Rattle.report_mean.specs.rules.Refused.{first_refused}
-use Rattle.report_mean.specs.laws.Refused.{refused-here, refused_next, refused_none}
+use Rattle.report_mean.specs.laws.Refused.{refused_here, refused_next, refused_none}
 use Rattle.report_mean.proofs.first_refused.Statement.{statement}
 use Rattle.report_mean.proofs.first_refused.Tie as tie
 
@@ -19,7 +19,7 @@ returns : tie.Need-returns invariant-loop decreases-loop
 returns c =
     let pass = c.before.before in
     let s = pass.before.before.args.status.now in
-    omega (arith, refused-here s pass.before.loop.i pass.loop-test.true c.if1.true, pass.before.loop.invariant.1)
+    omega (arith, refused_here s pass.before.loop.i pass.loop-test.true c.if1.true, pass.before.loop.invariant.1)
 
 loop-again : tie.Need-loop-preserved invariant-loop decreases-loop
 loop-again c =

@@ -12,7 +12,7 @@ returns c =
     let at-star = at-status.before in
     rw (
       at-kind.number-at2.ensures,
-      at-status.status-at.ensures,
+      at-status.status_at.ensures,
       at-star.star_at_lem.ensures,
       at-star.before.number_at.ensures,
     )

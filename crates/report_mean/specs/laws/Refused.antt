@@ -11,8 +11,8 @@ one_step (n ∷ s) zero h = refl
 one_step (n ∷ s) (suc i) h = one_step s i (le_of_suc-le-suc h)
 
 module _ (s : List ℕ) (i : ℕ) (h : i < length s) where
-  pub refused-here : get_or s i 0 ≢ 0 → first_refused (drop i s) ≡ 0
-  refused-here e = one_step s i h ∙ ap (λ (t : Bool). cond t (suc (first_refused (drop (suc i) s))) 0) (ne_eqb (get_or s i 0) 0 e)
+  pub refused_here : get_or s i 0 ≢ 0 → first_refused (drop i s) ≡ 0
+  refused_here e = one_step s i h ∙ ap (λ (t : Bool). cond t (suc (first_refused (drop (suc i) s))) 0) (ne_eqb (get_or s i 0) 0 e)
 
   pub refused_next : get_or s i 0 ≡ 0 → i + 1 + first_refused (drop (i + 1) s) ≡ i + first_refused (drop i s)
   refused_next e =

@@ -31,9 +31,9 @@ refused_short line star status bits =
     simp length-append (omega arith)
 
 module _ (edition : Edition) (pad : Pad) (line star : List ℕ) where
-  meant-short : (x : Deg) (sheet : Sheet) (heading : List ℕ) → length (meant_text edition pad x sheet line star heading) ≤ 420 + 197 * length heading
+  meant_short : (x : Deg) (sheet : Sheet) (heading : List ℕ) → length (meant_text edition pad x sheet line star heading) ≤ 420 + 197 * length heading
   unfolding meant_text
-  meant-short x sheet heading =
+  meant_short x sheet heading =
       let a = place_short pad.long pad.lat in
       let b = edition_short edition in
       let c = rows_short line star heading (reference_place heading) (length heading) in
@@ -41,28 +41,28 @@ module _ (edition : Edition) (pad : Pad) (line star : List ℕ) where
       let e = open_short pad.utc in
       simp length-append (omega arith)
 
-  none-agree-short : (heading : List ℕ) → length (none_agree_text line star heading) ≤ 420 + 197 * length heading
+  none_agree_short : (heading : List ℕ) → length (none_agree_text line star heading) ≤ 420 + 197 * length heading
   unfolding none_agree_text
-  none-agree-short heading = let a = rows_short line star heading 0 (length heading) in simp length-append (omega arith)
+  none_agree_short heading = let a = rows_short line star heading 0 (length heading) in simp length-append (omega arith)
 
-  no-mean-short : (n : ℕ) (heading : List ℕ) → length (no_mean_text n line star heading) ≤ 420 + 197 * length heading
+  no_mean_short : (n : ℕ) (heading : List ℕ) → length (no_mean_text n line star heading) ≤ 420 + 197 * length heading
   unfolding no_mean_text
-  no-mean-short n heading =
-      either_short (420 + 197 * length heading) (eqb n 20) (none_agree_text line star heading) (sight_refusal_text n) (none-agree-short heading)
+  no_mean_short n heading =
+      either_short (420 + 197 * length heading) (eqb n 20) (none_agree_text line star heading) (sight_refusal_text n) (none_agree_short heading)
       (omega (arith, sight_refusal_short n))
 
-  agreed-short : (heading : List ℕ) → length (agreed_text edition pad line star heading) ≤ 420 + 197 * length heading
+  agreed_short : (heading : List ℕ) → length (agreed_text edition pad line star heading) ≤ 420 + 197 * length heading
   unfolding agreed_text
-  agreed-short heading = by-case (mean_heading_rule heading)
+  agreed_short heading = by_case (mean_heading_rule heading)
     where
-      by-case : (a : Answer MeanAndSheet) → length (mean_says edition pad a line star heading) ≤ 420 + 197 * length heading
-      by-case (answered (mean x sheet)) = meant-short x sheet heading
-      by-case (refused n) = no-mean-short n heading
+      by_case : (a : Answer MeanAndSheet) → length (mean_says edition pad a line star heading) ≤ 420 + 197 * length heading
+      by_case (answered (mean x sheet)) = meant_short x sheet heading
+      by_case (refused n) = no_mean_short n heading
 
-  pub lent-short : (status bits : List ℕ) → length (lent_text edition pad line star status bits) ≤ 420 + 197 * length bits
+  pub lent_short : (status bits : List ℕ) → length (lent_text edition pad line star status bits) ≤ 420 + 197 * length bits
   unfolding lent_text sights_text
-  lent-short status bits =
+  lent_short status bits =
       let i = first_refused status in
       either_short (420 + 197 * length bits) (eqb (length line) 0) (ascii "refused 8: there is no sight\n") _ (omega arith)
       (either_short (420 + 197 * length bits) (ltb i (length status)) (refused_at line star status bits i) (agreed_text edition pad line star bits)
-      (omega (arith, refused_short (get_or line i 0) (get_or star i 0) (get_or status i 0) (get_or bits i 0))) (agreed-short bits))
+      (omega (arith, refused_short (get_or line i 0) (get_or star i 0) (get_or status i 0) (get_or bits i 0))) (agreed_short bits))

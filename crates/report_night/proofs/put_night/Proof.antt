@@ -11,11 +11,11 @@ use Rattle.list.specs.rules.Stars.{most_stars}
 use Rattle.text_fields.specs.declared.Sights.{Sights}
 use Rattle.text_fields.specs.declared.Sights.TheVariants as sights
 use Rattle.text_fields.specs.rules.Stored.{stored_rule}
-use Rattle.text_fields.specs.laws.Stored.{lines_long, stars-long, firsts-long, seconds-long}
+use Rattle.text_fields.specs.laws.Stored.{lines_long, stars_long, firsts_long, seconds_long}
 use Rattle.text_night.specs.rules.Sight.{sight_rule}
 use Rattle.text_night.specs.rules.Sights.{entry_of, entries_of}
 use Rattle.report_night.specs.rules.Report.{night_text, sights_report, report_of}
-use Rattle.report_night.specs.laws.Report.{text_reported, unclear_reported, report-by, read-night}
+use Rattle.report_night.specs.laws.Report.{text_reported, unclear_reported, report_by, read_night}
 use Rattle.report_night.proofs.put_night.Statement.{statement}
 use Rattle.report_night.proofs.put_night.Tie as tie
 
@@ -31,13 +31,13 @@ module _ (c : tie.After-read-night) where
       ≡ report_of begin.args.edition begin.args.pad begin.args.bytes.now begin.args.text.now said
   as_said = ap (report_of begin.args.edition begin.args.pad begin.args.bytes.now begin.args.text.now) (sym (to_z-of_z begin.fits.dut1))
 
-  answer : (r : Sights) → c.read-night.result ≡ r → r ≡ stored_rule (sight_rule said) entry_of most_stars begin.args.text.now
-  answer r e = sym e ∙ c.read-night.ensures.answer
+  answer : (r : Sights) → c.read_night.result ≡ r → r ≡ stored_rule (sight_rule said) entry_of most_stars begin.args.text.now
+  answer r e = sym e ∙ c.read_night.ensures.answer
 
-  by_answer : (r : Sights) → c.read-night.result ≡ r
+  by_answer : (r : Sights) → c.read_night.result ≡ r
       → report_of begin.args.edition begin.args.pad begin.args.bytes.now begin.args.text.now begin.args.dut1
       ≡ sights_report r (night_text begin.args.edition begin.args.pad begin.args.bytes.now (entries_of said begin.args.text.now))
-  by_answer r e = as_said ∙ report-by _ _ _ _ said r (answer r e)
+  by_answer r e = as_said ∙ report_by _ _ _ _ said r (answer r e)
 
 -- all sights are read
 module _ (c : tie.After-n) where
@@ -53,7 +53,7 @@ module _ (c : tie.After-n) where
 returns : tie.Need-returns
 returns c =
     let at_n = c.before.before.before.before.before.before.before.before.before in
-    text_reported (as_said (at_read at_n) ∙ read-night _ _ _ _ (said (at_read at_n)) _ (all_read at_n) (at_read at_n).read-night.ensures) c.before.before.put-lent.ensures
+    text_reported (as_said (at_read at_n) ∙ read_night _ _ _ _ (said (at_read at_n)) _ (all_read at_n) (at_read at_n).read_night.ensures) c.before.before.put-lent.ensures
 
 returns-2 : tie.Need-returns-2
 returns-2 c =
@@ -63,8 +63,8 @@ returns-2 c =
 returns-3 : tie.Need-returns-3
 returns-3 c =
     let at-put = c.before.before in
-    let at-full = at-put.before.before.before in
-    text_reported (by_answer at-full.before.before.before.before.before.before _ at-full.enum_told.given.1) at-put.put.ensures
+    let at_full = at-put.before.before.before in
+    text_reported (by_answer at_full.before.before.before.before.before.before _ at_full.enum_told.given.1) at-put.put.ensures
 
 pub put-night-spec : {M : Type 1} → statement M
 put-night-spec =
@@ -76,14 +76,14 @@ put-night-spec =
     (λ c. search rules)
     asks_nothing
     (λ c. search rules)
-    (λ c. let k = c.before.before in (lines_long _ entry_of most_stars _ _ (all_read k) (at_read k).read-night.ensures).0)
-    (λ c. let k = c.before.before.before in (lines_long _ entry_of most_stars _ _ (all_read k) (at_read k).read-night.ensures).1)
-    (λ c. let k = c.before.before.before in (stars-long _ entry_of most_stars _ _ (all_read k) (at_read k).read-night.ensures).0)
-    (λ c. let k = c.before.before.before.before in (stars-long _ entry_of most_stars _ _ (all_read k) (at_read k).read-night.ensures).1)
-    (λ c. let k = c.before.before.before.before in (firsts-long _ entry_of most_stars _ _ (all_read k) (at_read k).read-night.ensures).0)
-    (λ c. let k = c.before.before.before.before.before in (firsts-long _ entry_of most_stars _ _ (all_read k) (at_read k).read-night.ensures).1)
-    (λ c. let k = c.before.before.before.before.before in (seconds-long _ entry_of most_stars _ _ (all_read k) (at_read k).read-night.ensures).0)
-    (λ c. let k = c.before.before.before.before.before.before in (seconds-long _ entry_of most_stars _ _ (all_read k) (at_read k).read-night.ensures).1)
+    (λ c. let k = c.before.before in (lines_long _ entry_of most_stars _ _ (all_read k) (at_read k).read_night.ensures).0)
+    (λ c. let k = c.before.before.before in (lines_long _ entry_of most_stars _ _ (all_read k) (at_read k).read_night.ensures).1)
+    (λ c. let k = c.before.before.before in (stars_long _ entry_of most_stars _ _ (all_read k) (at_read k).read_night.ensures).0)
+    (λ c. let k = c.before.before.before.before in (stars_long _ entry_of most_stars _ _ (all_read k) (at_read k).read_night.ensures).1)
+    (λ c. let k = c.before.before.before.before in (firsts_long _ entry_of most_stars _ _ (all_read k) (at_read k).read_night.ensures).0)
+    (λ c. let k = c.before.before.before.before.before in (firsts_long _ entry_of most_stars _ _ (all_read k) (at_read k).read_night.ensures).1)
+    (λ c. let k = c.before.before.before.before.before in (seconds_long _ entry_of most_stars _ _ (all_read k) (at_read k).read_night.ensures).0)
+    (λ c. let k = c.before.before.before.before.before.before in (seconds_long _ entry_of most_stars _ _ (all_read k) (at_read k).read_night.ensures).1)
     asks_nothing
     (λ c. search rules)
     (λ c. search rules)

@@ -9,7 +9,7 @@ use Rattle.list.specs.rules.Stars.{most_stars}
 use Rattle.text_fields.specs.declared.Sights.{Sights}
 use Rattle.text_fields.specs.declared.Sights.TheVariants as sights
 use Rattle.text_fields.specs.rules.Stored.{stored_rule, EntriesStored}
-use Rattle.text_fields.specs.laws.Stored.{lines-front, stars-front, firsts-front, seconds-front}
+use Rattle.text_fields.specs.laws.Stored.{lines_front, stars_front, firsts_front, seconds_front}
 use Rattle.text_night.specs.rules.Sight.{sight_rule}
 use Rattle.text_night.specs.rules.Sights.{entry_of, entries_of}
 use Rattle.report_marks.specs.declared.Pad.{Pad}
@@ -34,20 +34,20 @@ text_inside {p = unclear_line l} h = omega (arith, ap length_of h.answer)
 
 module _ (edition : Edition) (pad : Pad) (s text : List ℕ) (dut1 : ℤ) where
   -- a text that was read leads on by what it gave
-  pub report-by : (r : Sights) → r ≡ stored_rule (sight_rule dut1) entry_of most_stars text
+  pub report_by : (r : Sights) → r ≡ stored_rule (sight_rule dut1) entry_of most_stars text
       → report_of edition pad s text dut1 ≡ sights_report r (night_text edition pad s (entries_of dut1 text))
   unfolding report_of
-  report-by r e = ap (λ (q : Sights). sights_report q (night_text edition pad s (entries_of dut1 text))) (sym e)
+  report_by r e = ap (λ (q : Sights). sights_report q (night_text edition pad s (entries_of dut1 text))) (sym e)
 
   -- and one that was read whole by its sights
-  pub read-night : (n : ℕ) (e : sights.Are n ≡ stored_rule (sight_rule dut1) entry_of most_stars text)
+  pub read_night : (n : ℕ) (e : sights.Are n ≡ stored_rule (sight_rule dut1) entry_of most_stars text)
       → {line star status bits : List ℕ} {r : Sights} {line' star' status' bits' : List ℕ}
       → EntriesStored (sight_rule dut1) entry_of (columns edition pad s) most_stars text line star status bits r line' star' status' bits'
       → report_of edition pad s text dut1 ≡ says (lent_text edition pad (take n line') (take n star') (take n status') (take n bits'))
   unfolding night_text
-  read-night n e rs =
-      let p = lines-front (sight_rule dut1) entry_of most_stars text n e rs in
-      let q = stars-front (sight_rule dut1) entry_of most_stars text n e rs in
-      let t = firsts-front (sight_rule dut1) entry_of most_stars text n e rs in
-      let u = seconds-front (sight_rule dut1) entry_of most_stars text n e rs in
-      report-by (sights.Are n) e ∙ sym (λ j. says (lent_text edition pad (p j) (q j) (t j) (u j)))
+  read_night n e rs =
+      let p = lines_front (sight_rule dut1) entry_of most_stars text n e rs in
+      let q = stars_front (sight_rule dut1) entry_of most_stars text n e rs in
+      let t = firsts_front (sight_rule dut1) entry_of most_stars text n e rs in
+      let u = seconds_front (sight_rule dut1) entry_of most_stars text n e rs in
+      report_by (sights.Are n) e ∙ sym (λ j. says (lent_text edition pad (p j) (q j) (t j) (u j)))

@@ -18,7 +18,7 @@ returns c =
     let known = c.before.before.before.before.i.given in
     (λ j.
     record {
-      status = c.before.before.status-at.ensures j;
+      status = c.before.before.status_at.ensures j;
       asc = c.before.number_at.ensures j;
       dec = c.number-at2.ensures j;
     })

@@ -9,7 +9,7 @@ use lib.ListN.{length}
 use Rattle.double.specs.laws.Calls.{asks_nothing}
 use Rattle.report_residuals.specs.rules.Came.{lent_came}
 use Rattle.report_residuals.specs.notions.Matched.{Upto}
-use Rattle.report_residuals.specs.laws.Matched.{none-matched, one-matched, all-matched}
+use Rattle.report_residuals.specs.laws.Matched.{none_matched, one_matched, all_matched}
 use Rattle.report_residuals.proofs.match_sights.Statement.{statement}
 use Rattle.report_residuals.proofs.match_sights.Tie as tie
 
@@ -22,7 +22,7 @@ decreases-loop bytes status asc dec star status₀ asc₀ dec₀ n i₀ status' 
 loop-holds : tie.Need-loop-init invariant-loop decreases-loop
 loop-holds c =
     let pre = c.before.before.before.before.before.before.before.before.requires in
-    none-matched _ _ _ _ _ pre.0 pre.1.0 pre.1.1
+    none_matched _ _ _ _ _ pre.0 pre.1.0 pre.1.1
 
 -- each sight has its place
 module _ (c : tie.After-came-to invariant-loop decreases-loop) where
@@ -39,10 +39,10 @@ slice-write-sight-dec : tie.Need-slice-write-sight-dec invariant-loop decreases-
 slice-write-sight-dec c = inside c c.before.before.before.loop.invariant.decs
 
 loop-again : tie.Need-loop-preserved invariant-loop decreases-loop
-loop-again c = one-matched _ _ _ _ _ c.before.before.before.loop.invariant c.before.before.loop-test.true _ c.came-to.ensures
+loop-again c = one_matched _ _ _ _ _ c.before.before.before.loop.invariant c.before.before.loop-test.true _ c.came-to.ensures
 
 returns : tie.Need-returns invariant-loop decreases-loop
-returns c = all-matched _ _ _ _ _ c.before.loop.invariant c.loop-test.false
+returns c = all_matched _ _ _ _ _ c.before.loop.invariant c.loop-test.false
 
 pub match-sights-spec : {M : Type 1} → statement M
 match-sights-spec =

@@ -2,23 +2,23 @@
 use borrow.Author.Rules.{rules}
 use Rattle.double.specs.laws.Calls.{asks_nothing}
 use Rattle.report_residuals.specs.rules.Report.{matched_report}
-use Rattle.report_residuals.specs.laws.Matched.{status-long, asc-long, dec-long, matched-sheets}
+use Rattle.report_residuals.specs.laws.Matched.{status_long, asc_long, dec_long, matched_sheets}
 use Rattle.report_residuals.specs.laws.Report.{reported_as}
 use Rattle.report_residuals.proofs.put_matched.Statement.{statement}
 use Rattle.report_residuals.proofs.put_matched.Tie as tie
 
 slice-aggregate-put-sheets : tie.Need-slice-aggregate-put-sheets
-slice-aggregate-put-sheets c = status-long c.before.before.before.before.before.match-sights.ensures
+slice-aggregate-put-sheets c = status_long c.before.before.before.before.before.match-sights.ensures
 
 slice-aggregate-put-sheets-2 : tie.Need-slice-aggregate-put-sheets-2
-slice-aggregate-put-sheets-2 c = asc-long c.before.before.before.before.before.before.match-sights.ensures
+slice-aggregate-put-sheets-2 c = asc_long c.before.before.before.before.before.before.match-sights.ensures
 
 slice-aggregate-put-sheets-3 : tie.Need-slice-aggregate-put-sheets-3
-slice-aggregate-put-sheets-3 c = dec-long c.before.before.before.before.before.before.before.match-sights.ensures
+slice-aggregate-put-sheets-3 c = dec_long c.before.before.before.before.before.before.before.match-sights.ensures
 
 returns : tie.Need-returns
 unfolding matched_report
-returns c = reported_as (matched-sheets c.before.before.before.before.before.before.before.before.before.before.match-sights.ensures _ _ _ _) c.before.before.put-sheets.ensures
+returns c = reported_as (matched_sheets c.before.before.before.before.before.before.before.before.before.before.match-sights.ensures _ _ _ _) c.before.before.put-sheets.ensures
 
 pub put-matched-spec : {M : Type 1} → statement M
 put-matched-spec =

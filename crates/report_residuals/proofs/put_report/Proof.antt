@@ -6,7 +6,7 @@ use Rattle.double.specs.laws.Calls.{asks_nothing}
 use Rattle.star_store.specs.declared.Tallied.{Tallied}
 use Rattle.report_residuals.specs.rules.Text.{list_refused}
 use Rattle.report_residuals.specs.rules.Report.{report_of}
-use Rattle.report_residuals.specs.laws.Report.{as_said, reported_as, report-is, list_refused_lem}
+use Rattle.report_residuals.specs.laws.Report.{as_said, reported_as, report_is, list_refused_lem}
 use Rattle.report_residuals.proofs.put_report.Statement.{statement}
 use Rattle.report_residuals.proofs.put_report.Tie as tie
 
@@ -19,7 +19,7 @@ returns-2 : tie.Need-returns-2
 returns-2 c =
     let done = c.before.before.before.before.before.before.before.before.before.before.before.batch.ensures in
     let is = ap (λ (q : Tallied). q.refusal) done.answer in
-    reported_as (report-is _ done (sym is ∙ c.before.before.before.before.before.before.before.if1.false) _ _ refl refl refl) c.before.before.put-sighted.ensures
+    reported_as (report_is _ done (sym is ∙ c.before.before.before.before.before.before.before.if1.false) _ _ refl refl refl) c.before.before.put-sighted.ensures
 
 pub put-report-spec : {M : Type 1} → statement M
 put-report-spec =

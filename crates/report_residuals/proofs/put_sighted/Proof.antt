@@ -6,7 +6,7 @@ use native.Mathlib.Omega.{arith}
 use Rattle.double.specs.laws.Calls.{asks_nothing}
 use Rattle.list.specs.rules.Stars.{most_stars}
 use Rattle.text_fields.specs.declared.Sights.TheVariants as sights
-use Rattle.text_fields.specs.laws.Stored.{few-sights, lines_long, stars-long, firsts-long, seconds-long}
+use Rattle.text_fields.specs.laws.Stored.{few_sights, lines_long, stars_long, firsts_long, seconds_long}
 use Rattle.text_measured.specs.rules.Sight.{sight_rule}
 use Rattle.text_measured.specs.rules.Sights.{entry_of, sights_rule}
 use Rattle.report_residuals.specs.rules.Text.{unclear_line, too_many}
@@ -40,7 +40,7 @@ put-matched-requires : tie.Need-put-matched-requires
 put-matched-requires c κs =
     let at_n = c.before.before.before.before.before.before in
     let e = all_read at_n in
-    omega (arith, (stars-long sight_rule entry_of most_stars _ _ e (at_read at_n).read-sights.ensures).1, few-sights sight_rule entry_of most_stars _ _ e)
+    omega (arith, (stars_long sight_rule entry_of most_stars _ _ e (at_read at_n).read-sights.ensures).1, few_sights sight_rule entry_of most_stars _ _ e)
 
 pub put-sighted-spec : {M : Type 1} → statement M
 put-sighted-spec =
@@ -54,12 +54,12 @@ put-sighted-spec =
     (λ c. search rules)
     (λ c. let k = c.before.before in (lines_long sight_rule entry_of most_stars _ _ (all_read k) (at_read k).read-sights.ensures).0)
     (λ c. let k = c.before.before.before in (lines_long sight_rule entry_of most_stars _ _ (all_read k) (at_read k).read-sights.ensures).1)
-    (λ c. let k = c.before.before.before in (stars-long sight_rule entry_of most_stars _ _ (all_read k) (at_read k).read-sights.ensures).0)
-    (λ c. let k = c.before.before.before.before in (stars-long sight_rule entry_of most_stars _ _ (all_read k) (at_read k).read-sights.ensures).1)
-    (λ c. let k = c.before.before.before.before in (firsts-long sight_rule entry_of most_stars _ _ (all_read k) (at_read k).read-sights.ensures).0)
-    (λ c. let k = c.before.before.before.before.before in (firsts-long sight_rule entry_of most_stars _ _ (all_read k) (at_read k).read-sights.ensures).1)
-    (λ c. let k = c.before.before.before.before.before in (seconds-long sight_rule entry_of most_stars _ _ (all_read k) (at_read k).read-sights.ensures).0)
-    (λ c. let k = c.before.before.before.before.before.before in (seconds-long sight_rule entry_of most_stars _ _ (all_read k) (at_read k).read-sights.ensures).1)
+    (λ c. let k = c.before.before.before in (stars_long sight_rule entry_of most_stars _ _ (all_read k) (at_read k).read-sights.ensures).0)
+    (λ c. let k = c.before.before.before.before in (stars_long sight_rule entry_of most_stars _ _ (all_read k) (at_read k).read-sights.ensures).1)
+    (λ c. let k = c.before.before.before.before in (firsts_long sight_rule entry_of most_stars _ _ (all_read k) (at_read k).read-sights.ensures).0)
+    (λ c. let k = c.before.before.before.before.before in (firsts_long sight_rule entry_of most_stars _ _ (all_read k) (at_read k).read-sights.ensures).1)
+    (λ c. let k = c.before.before.before.before.before in (seconds_long sight_rule entry_of most_stars _ _ (all_read k) (at_read k).read-sights.ensures).0)
+    (λ c. let k = c.before.before.before.before.before.before in (seconds_long sight_rule entry_of most_stars _ _ (all_read k) (at_read k).read-sights.ensures).1)
     put-matched-requires
     (λ c. search rules)
     (λ c. search rules)

@@ -13,16 +13,16 @@ use Rattle.lent.specs.laws.Writing.{inside}
 use Rattle.list.specs.rules.Record.{in_range}
 use Rattle.list.specs.rules.Stars.{most_stars, is_list, count_of, stars, nth}
 use Rattle.list.specs.rules.Find.{Entry, entry_at, index_of}
-use Rattle.list.specs.laws.Stars.{length-stars}
+use Rattle.list.specs.laws.Stars.{length_stars}
 use Rattle.star_store.specs.declared.Tallied.{Tallied}
 use Rattle.star_store.specs.rules.Star.{first_bits, second_bits}
 use Rattle.star_store.specs.rules.Stored.{store_refusal}
-use Rattle.star_store.specs.laws.Stored.{status-at, asc-at, dec-at}
+use Rattle.star_store.specs.laws.Stored.{status_at, asc_at, dec_at}
 use Rattle.batch.specs.rules.Star.{star_rule}
 use Rattle.batch.specs.rules.Batch.{Batch}
 use Rattle.text_fields.specs.declared.Sights.{Sights}
 use Rattle.text_fields.specs.declared.Sights.TheVariants as sights
-use Rattle.text_fields.specs.laws.Stored.{lines-front, stars-front, firsts-front, seconds-front}
+use Rattle.text_fields.specs.laws.Stored.{lines_front, stars_front, firsts_front, seconds_front}
 use Rattle.text_measured.specs.rules.Sight.{sight_rule}
 use Rattle.text_measured.specs.rules.Sights as measured
 use Rattle.text_measured.specs.rules.Sights.{entry_of, entries_of, sights_rule, asc_bits, dec_bits, ReadSights}
@@ -81,10 +81,10 @@ pub read_sighted : (text : List ℕ) (n : ℕ) (e : sights.Are n ≡ sights_rule
     → ReadSights most_stars text line star asc dec r line' star' asc' dec' → (style : Style) (s status ascs decs : List ℕ)
     → sighted_report style s status ascs decs text ≡ matched_report style s status ascs decs (take n line') (take n star') (take n asc') (take n dec')
 read_sighted text n e rs style s status ascs decs =
-    let p = lines-front sight_rule entry_of most_stars text n e rs in
-    let q = stars-front sight_rule entry_of most_stars text n e rs in
-    let t = firsts-front sight_rule entry_of most_stars text n e rs in
-    let u = seconds-front sight_rule entry_of most_stars text n e rs in
+    let p = lines_front sight_rule entry_of most_stars text n e rs in
+    let q = stars_front sight_rule entry_of most_stars text n e rs in
+    let t = firsts_front sight_rule entry_of most_stars text n e rs in
+    let u = seconds_front sight_rule entry_of most_stars text n e rs in
     sighted_by style s status ascs decs text (sights.Are n) e
     ∙ sym (λ j. matched_report style s status ascs decs (p j) (q j) (t j) (u j))
 
@@ -99,56 +99,56 @@ module _ (edition : Edition) {s : List ℕ} {day1 day2 : Float} {status asc dec 
   abbrev answer : Entry → Answer Pair
   answer e = star_rule edition e.star day1 day2
 
-  refused-came : (n : ℕ) → came_at status' asc' dec' (refused n) ≡ came (refused n)
-  refused-came n = let bare = sym zero_bits_lem in λ j. record { status = n; asc = bare j; dec = bare j }
+  refused_came : (n : ℕ) → came_at status' asc' dec' (refused n) ≡ came (refused n)
+  refused_came n = let bare = sym zero_bits_lem in λ j. record { status = n; asc = bare j; dec = bare j }
 
-  at-index : (i : ℕ) (t u : Bool) → ltb i (length (stars s)) ≡ t
+  at_index : (i : ℕ) (t u : Bool) → ltb i (length (stars s)) ≡ t
       → came_at status' asc' dec' (cond t (cond u (answered (record { index = i; star = nth s i })) (refused 9)) (refused 10))
       ≡ came (then (cond t (cond u (answered (record { index = i; star = nth s i })) (refused 9)) (refused 10)) answer)
   unfolding then
-  at-index i true true h =
-      let inside : i < count_of s = omega (arith, ltb-true i (length (stars s)) h, length-stars s) in
-      λ j. record { status = status-at b none i inside j; asc = asc-at b none i inside j; dec = dec-at b none i inside j }
-  at-index i true false h = refused-came 9
-  at-index i false u h = refused-came 10
+  at_index i true true h =
+      let inside : i < count_of s = omega (arith, ltb-true i (length (stars s)) h, length_stars s) in
+      λ j. record { status = status_at b none i inside j; asc = asc_at b none i inside j; dec = dec_at b none i inside j }
+  at_index i true false h = refused_came 9
+  at_index i false u h = refused_came 10
 
   in_list : (t u : Bool) (i : ℕ) → came_at status' asc' dec' (cond t (cond u (refused 10) (entry_at (stars s) i)) (refused 8))
       ≡ came (then (cond t (cond u (refused 10) (entry_at (stars s) i)) (refused 8)) answer)
   unfolding then
-  in_list true true i = refused-came 10
-  in_list true false i = at-index i (ltb i (length (stars s))) (in_range (nth s i)) refl
-  in_list false u i = refused-came 8
+  in_list true true i = refused_came 10
+  in_list true false i = at_index i (ltb i (length (stars s))) (in_range (nth s i)) refl
+  in_list false u i = refused_came 8
 
-  came-is : (number : ℕ) → lent_came s status' asc' dec' number ≡ came (came_to edition s day1 day2 number)
+  came_is : (number : ℕ) → lent_came s status' asc' dec' number ≡ came (came_to edition s day1 day2 number)
   unfolding lent_came came_to
-  came-is number = in_list (is_list s) (eqb number 0) (index_of number (stars s))
+  came_is number = in_list (is_list s) (eqb number 0) (index_of number (stars s))
 
   -- of every sight
-  all-came : (f : Came → ℕ) (l : List measured.Entry)
+  all_came : (f : Came → ℕ) (l : List measured.Entry)
       → map (λ (n : ℕ). f (lent_came s status' asc' dec' n)) (map (λ (e : measured.Entry). e.number) l)
       ≡ map (λ (e : measured.Entry). f (came (came_to edition s day1 day2 e.number))) l
-  all-came f [] = refl
-  all-came f (e ∷ l) = λ j. f (came-is e.number j) ∷ all-came f l j
+  all_came f [] = refl
+  all_came f (e ∷ l) = λ j. f (came_is e.number j) ∷ all_came f l j
 
-  pub sighted-is : (style : Style) (text : List ℕ) → sighted_report style s status' asc' dec' text
+  pub sighted_is : (style : Style) (text : List ℕ) → sighted_report style s status' asc' dec' text
       ≡ sights_report (sights_rule most_stars text) (night_report style edition s day1 day2 (entries_of text))
   unfolding sighted_report matched_report night_report
-  sighted-is style text =
+  sighted_is style text =
       let all = entries_of text in
       λ j.
       sights_report (sights_rule most_stars text)
       (sheets_report style (map (λ (e : measured.Entry). e.line) all) (map (λ (e : measured.Entry). e.number) all)
-      (all-came (λ (c : Came). c.status) all j) (all-came (λ (c : Came). c.asc) all j) (all-came (λ (c : Came). c.dec) all j)
+      (all_came (λ (c : Came). c.status) all j) (all_came (λ (c : Came). c.asc) all j) (all_came (λ (c : Came). c.dec) all j)
       (map asc_bits all) (map dec_bits all))
 
   -- in slices for as many stars as a list may have
-  pub report-is : (style : Style) (text : List ℕ) → length status ≡ most_stars → length asc ≡ most_stars → length dec ≡ most_stars
+  pub report_is : (style : Style) (text : List ℕ) → length status ≡ most_stars → length asc ≡ most_stars → length dec ≡ most_stars
       → report_of style edition s day1 day2 text ≡ sighted_report style s status' asc' dec' text
   unfolding report_of
-  report-is style text p q t =
+  report_is style text p q t =
       ap (λ (k : ℕ). cond (eqb k 0) (sights_report (sights_rule most_stars text) (night_report style edition s day1 day2 (entries_of text))) (list_refused k))
       (ap (λ (k : ℕ). store_refusal s day1 day2 k most_stars most_stars) (sym p)
       ∙ ap (λ (k : ℕ). store_refusal s day1 day2 (length status) k most_stars) (sym q)
       ∙ ap (λ (k : ℕ). store_refusal s day1 day2 (length status) (length asc) k) (sym t)
       ∙ none)
-      ∙ sym (sighted-is style text)
+      ∙ sym (sighted_is style text)

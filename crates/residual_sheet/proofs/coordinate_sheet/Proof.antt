@@ -3,7 +3,7 @@ use mathlib.Core.Path.{sym, ap, subst, ◌∙◌}
 use Rattle.list.specs.rules.Stars.{most_stars}
 use Rattle.residual_sheet.specs.rules.Running.{AtMost, sheet_from}
 use Rattle.residual_sheet.specs.rules.Entry.{entries_of}
-use Rattle.residual_sheet.specs.laws.Running.{all-at-most, grown_is_sheet}
+use Rattle.residual_sheet.specs.laws.Running.{all_at_most, grown_is_sheet}
 use Rattle.residual_sheet.proofs.coordinate_sheet.Statement.{statement}
 use Rattle.residual_sheet.proofs.coordinate_sheet.Tie as tie
 
@@ -12,7 +12,7 @@ sheet-from-requires c κs =
     let start = c.before.before.before.before in
     let a = start.args in
     subst (AtMost most_stars) (sym c.running-of.ensures)
-    (all-at-most a.across a.status.now a.computed.now a.decreases.now start.requires.0)
+    (all_at_most a.across a.status.now a.computed.now a.decreases.now start.requires.0)
 
 returns : tie.Need-returns
 returns c =

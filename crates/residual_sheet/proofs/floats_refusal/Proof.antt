@@ -7,7 +7,7 @@ use borrow.Author.Rules.{rules}
 use Rattle.double.specs.laws.Calls.{asks_nothing}
 use Rattle.quantity.specs.rules.Refusal.{lower}
 use Rattle.residual_sheet.specs.rules.Residuals.{float_refusal, floats_refusal}
-use Rattle.residual_sheet.specs.laws.Residuals.{least-next, least-done}
+use Rattle.residual_sheet.specs.laws.Residuals.{least_next, least_done}
 use Rattle.residual_sheet.proofs.floats_refusal.Statement.{statement}
 use Rattle.residual_sheet.proofs.floats_refusal.Tie as tie
 
@@ -23,13 +23,13 @@ loop-again c =
     let s = pass.before.before.before.args.s.now in (
       omega (arith, pass.loop-test.true),
       ap (λ (n : ℕ). lower n (floats_refusal (drop (pass.before.loop.i + 1) s))) c.refusal-after.ensures
-          ∙ least-next float_refusal s pass.before.loop.i pass.before.loop.refusal pass.loop-test.true
+          ∙ least_next float_refusal s pass.before.loop.i pass.before.loop.refusal pass.loop-test.true
           ∙ pass.before.loop.invariant.1,
     )
 
 returns : tie.Need-returns invariant-loop decreases-loop
 returns c =
-    least-done float_refusal c.before.before.before.args.s.now c.before.loop.i c.before.loop.refusal (omega (arith, c.loop-test.false))
+    least_done float_refusal c.before.before.before.args.s.now c.before.loop.i c.before.loop.refusal (omega (arith, c.loop-test.false))
     ∙ c.before.loop.invariant.1
 
 pub floats-refusal-spec : {M : Type 1} → statement M

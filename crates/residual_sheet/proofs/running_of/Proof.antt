@@ -11,7 +11,7 @@ use Rattle.lent.specs.rules.Rows.{upto}
 use Rattle.list.specs.rules.Stars.{most_stars}
 use Rattle.residual_sheet.specs.rules.Entry.{entry_at}
 use Rattle.residual_sheet.specs.rules.Running.{running_of, AtMost}
-use Rattle.residual_sheet.specs.laws.Running.{one_more, first-at-most}
+use Rattle.residual_sheet.specs.laws.Running.{one_more, first_at_most}
 use Rattle.residual_sheet.specs.laws.Residuals.{floats_no_nan}
 use Rattle.residual_sheet.proofs.running_of.Statement.{statement}
 use Rattle.residual_sheet.proofs.running_of.Tie as tie
@@ -50,7 +50,7 @@ module _ (c : tie.In-loop invariant-loop decreases-loop) where
   bounded =
       let a = begin.args in
       subst (AtMost c.before.loop.i) (sym c.before.loop.invariant.1)
-      (first-at-most a.across a.status.now a.computed.now a.decreases.now c.before.loop.i (omega (arith, there)))
+      (first_at_most a.across a.status.now a.computed.now a.decreases.now c.before.loop.i (omega (arith, there)))
 
 loop-again : tie.Need-loop-preserved invariant-loop decreases-loop
 unfolding entry_at

@@ -44,8 +44,8 @@ module _ (l p m q n r : ℕ) where
   right : (a b : ℕ) → pick m q n r ≡ a → pick l p (max m n) a ≡ b → pick l p (max m n) (pick m q n r) ≡ b
   right a b e f = ap (λ (x : ℕ). pick l p (max m n) x) e ∙ f
 
-  pick-associates : pick (max l m) (pick l p m q) n r ≡ pick l p (max m n) (pick m q n r)
-  pick-associates = by_order (compare l m) (compare m n) (compare l n)
+  pick_associates : pick (max l m) (pick l p m q) n r ≡ pick l p (max m n) (pick m q n r)
+  pick_associates = by_order (compare l m) (compare m n) (compare l n)
     where
       by_order : Order l m → Order m n → Order l n → pick (max l m) (pick l p m q) n r ≡ pick l p (max m n) (pick m q n r)
       by_order (less x) (less y) (less z) =
@@ -127,8 +127,8 @@ merged_none_first f =
 -- ---- order
 
 module _ (f g : Figures) (F : IsSheet f) (G : IsSheet g) where
-  place-commutes : merged_place f g ≡ merged_place g f
-  place-commutes = by_count (some_or_none f.count) (some_or_none g.count)
+  place_commutes : merged_place f g ≡ merged_place g f
+  place_commutes = by_count (some_or_none f.count) (some_or_none g.count)
     where
       by_count : Some f.count → Some g.count → merged_place f g ≡ merged_place g f
       by_count (none a) (none b) = rw (is_none a, is_none b) (G.no_place b ∙ sym (F.no_place a))
@@ -136,29 +136,29 @@ module _ (f g : Figures) (F : IsSheet f) (G : IsSheet g) where
       by_count (some h) (none b) = rw (is_some h, is_none b)
       by_count (some h) (some k) = rw (is_some h, is_some k) (pick_commutes f.largest f.place g.largest g.place)
 
-  pub merged-commutes : merged f g ≡ merged g f
+  pub merged_commutes : merged f g ≡ merged g f
   unfolding merged
-  merged-commutes =
+  merged_commutes =
       λ i.
       record {
-        count = plus-commutes f.count g.count i;
+        count = plus_commutes f.count g.count i;
         sum = +ℤ_comm f.sum g.sum i;
-        squares = plus-commutes f.squares g.squares i;
-        largest = max-commutes f.largest g.largest i;
-        place = place-commutes i;
-        aside = plus-commutes f.aside g.aside i;
+        squares = plus_commutes f.squares g.squares i;
+        largest = max_commutes f.largest g.largest i;
+        place = place_commutes i;
+        aside = plus_commutes f.aside g.aside i;
       }
     where
-      plus-commutes : (m n : ℕ) → m + n ≡ n + m
-      plus-commutes m n = omega arith
+      plus_commutes : (m n : ℕ) → m + n ≡ n + m
+      plus_commutes m n = omega arith
 
-      max-commutes : (m n : ℕ) → max m n ≡ max n m
-      max-commutes m n = omega arith
+      max_commutes : (m n : ℕ) → max m n ≡ max n m
+      max_commutes m n = omega arith
 
   -- merged they are a sheet again
-  pub merged-is-sheet : IsSheet (merged f g)
+  pub merged_is_sheet : IsSheet (merged f g)
   unfolding merged
-  merged-is-sheet =
+  merged_is_sheet =
       record {
         no_largest = λ e. omega (arith, F.no_largest (omega arith), G.no_largest (omega arith));
         no_place = λ e. rw (is_none {n = f.count} (omega arith)) (G.no_place (omega arith));
@@ -171,14 +171,14 @@ moved_is_sheet n f F = record { no_largest = F.no_largest; no_place = λ e. rw (
 pub merged_none_last : (f : Figures) → IsSheet f → merged f (figures_of []) ≡ f
 unfolding figures_of
 merged_none_last f F =
-    merged-commutes f (figures_of []) F (record { no_largest = λ e. refl; no_place = λ e. refl }) ∙ merged_none_first f
+    merged_commutes f (figures_of []) F (record { no_largest = λ e. refl; no_place = λ e. refl }) ∙ merged_none_first f
 
 -- ---- grouping
 
 module _ (f g h : Figures) (F : IsSheet f) (G : IsSheet g) (H : IsSheet h) where
-  place-associates : merged_place (merged f g) h ≡ merged_place f (merged g h)
+  place_associates : merged_place (merged f g) h ≡ merged_place f (merged g h)
   unfolding merged
-  place-associates = by_count (some_or_none f.count) (some_or_none g.count) (some_or_none h.count)
+  place_associates = by_count (some_or_none f.count) (some_or_none g.count) (some_or_none h.count)
     where
       by_count : Some f.count → Some g.count → Some h.count → merged_place (merged f g) h ≡ merged_place f (merged g h)
       by_count (none a) (none b) c = rw (is_none {n = f.count + g.count} (omega arith), is_none a, is_none b)
@@ -198,23 +198,23 @@ module _ (f g h : Figures) (F : IsSheet f) (G : IsSheet g) (H : IsSheet h) where
           (ap (λ (l : ℕ). pick f.largest f.place l g.place) (omega (arith, H.no_largest c)))
       by_count (some a) (some b) (some c) =
           rw (is_some {n = f.count + g.count} (omega arith), is_some {n = g.count + h.count} (omega arith), is_some a, is_some b, is_some c)
-          (pick-associates f.largest f.place g.largest g.place h.largest h.place)
+          (pick_associates f.largest f.place g.largest g.place h.largest h.place)
 
-  pub merged-associates : merged (merged f g) h ≡ merged f (merged g h)
+  pub merged_associates : merged (merged f g) h ≡ merged f (merged g h)
   unfolding merged
-  merged-associates =
+  merged_associates =
       λ i.
       record {
-        count = plus-associates f.count g.count h.count i;
+        count = plus_associates f.count g.count h.count i;
         sum = +ℤ_assoc f.sum g.sum h.sum i;
-        squares = plus-associates f.squares g.squares h.squares i;
-        largest = max-associates f.largest g.largest h.largest i;
-        place = place-associates i;
-        aside = plus-associates f.aside g.aside h.aside i;
+        squares = plus_associates f.squares g.squares h.squares i;
+        largest = max_associates f.largest g.largest h.largest i;
+        place = place_associates i;
+        aside = plus_associates f.aside g.aside h.aside i;
       }
     where
-      plus-associates : (k m n : ℕ) → k + m + n ≡ k + (m + n)
-      plus-associates k m n = omega arith
+      plus_associates : (k m n : ℕ) → k + m + n ≡ k + (m + n)
+      plus_associates k m n = omega arith
 
-      max-associates : (k m n : ℕ) → max (max k m) n ≡ max k (max m n)
-      max-associates k m n = omega arith
+      max_associates : (k m n : ℕ) → max (max k m) n ≡ max k (max m n)
+      max_associates k m n = omega arith

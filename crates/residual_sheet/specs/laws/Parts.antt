@@ -141,13 +141,13 @@ module _ (es fs : List Entry) where
   abbrev placed : ℕ
   placed = first_place (max top later) (es ++ fs)
 
-  all-taken : place_of (es ++ fs) ≡ cond (eqb (m + n) 0) 0 placed
-  all-taken =
+  all_taken : place_of (es ++ fs) ≡ cond (eqb (m + n) 0) 0 placed
+  all_taken =
       rw (taken_append es fs, length-append (taken_in es) (taken_in fs), largest_append (taken_in es) (taken_in fs))
 
-  pub place-append : place_of (es ++ fs) ≡ merged_place (figures_of es) (moved_on (length es) (figures_of fs))
+  pub place_append : place_of (es ++ fs) ≡ merged_place (figures_of es) (moved_on (length es) (figures_of fs))
   unfolding figures_of moved_on
-  place-append = all-taken ∙ by_count (some_or_none m) (some_or_none n) (compare top later)
+  place_append = all_taken ∙ by_count (some_or_none m) (some_or_none n) (compare top later)
     where
       here : max top later ≡ top → 0 < m → placed ≡ first_place top es
       here e h = rw e (first_there top es fs (largest_there es h))
@@ -171,16 +171,16 @@ module _ (es fs : List Entry) where
           rw (is_some h, is_some k, is_some {n = m + n} (omega arith), le-ltb later top (omega arith), le-ltb top later (omega arith))
           (here (omega arith) h ∙ omega (arith, first_within top es))
 
-  pub sheet-in-two-parts : figures_of (es ++ fs) ≡ merged (figures_of es) (moved_on (length es) (figures_of fs))
+  pub sheet_in_two_parts : figures_of (es ++ fs) ≡ merged (figures_of es) (moved_on (length es) (figures_of fs))
   unfolding figures_of moved_on merged
-  sheet-in-two-parts =
+  sheet_in_two_parts =
       λ i.
       record {
         count = (ap length (taken_append es fs) ∙ length-append (taken_in es) (taken_in fs)) i;
         sum = (ap sum_of (taken_append es fs) ∙ sum_append (taken_in es) (taken_in fs)) i;
         squares = (ap squares_of (taken_append es fs) ∙ squares_append (taken_in es) (taken_in fs)) i;
         largest = (ap largest_of (taken_append es fs) ∙ largest_append (taken_in es) (taken_in fs)) i;
-        place = place-append i;
+        place = place_append i;
         aside = aside_append es fs i;
       }
 

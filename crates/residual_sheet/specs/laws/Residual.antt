@@ -41,15 +41,15 @@ most = decimal 26402000000 0
 -- ---- a difference
 
 module _ (computed measured : Rad) (c : size computed.0 ≼ farthest) (m : size measured.0 ≼ farthest) where
-  pub difference-within : Between (neg widest) widest (difference computed measured).0
+  pub difference_within : Between (neg widest) widest (difference computed measured).0
   unfolding is_finite le neg sub of_bits
-  difference-within =
+  difference_within =
       bounded binary64 (neg widest) widest
       (known (size→between farthest computed.0 tt c) ⊟ known (size→between farthest measured.0 tt m)) tt
 
   -- `limit_to_two_PI` refuses none
-  pub fold-answers : limit_to_two_PI_rule (difference computed measured) ≡ answered (within_two_PI (difference computed measured))
-  fold-answers = rw (is_true (is_finite (difference computed measured).0) difference-within.finite)
+  pub fold_answers : limit_to_two_PI_rule (difference computed measured) ≡ answered (within_two_PI (difference computed measured))
+  fold_answers = rw (is_true (is_finite (difference computed measured).0) difference_within.finite)
 
 -- ---- across the turn
 
@@ -72,37 +72,37 @@ wider x i = bounded binary64 (neg widest) widest (known i) tt
 -- ---- the nearest
 
 module _ (x : Rad) (i : Between (neg widest) widest x.0) where
-  in-milliarcseconds-within : Between (neg most) most (unrounded x)
+  in_milliarcseconds_within : Between (neg most) most (unrounded x)
   unfolding is_finite le neg mul of_bits round
-  in-milliarcseconds-within =
+  in_milliarcseconds_within =
       bounded binary64 (neg most) most (known i ⊠ con degrees_of_radian ⊠ con milliarcseconds_of_degree) tt
 
-  finite-size-of : Finite (size (unrounded x))
-  finite-size-of = rw (finite_size (unrounded x)) in-milliarcseconds-within.finite
+  finite_size_of : Finite (size (unrounded x))
+  finite_size_of = rw (finite_size (unrounded x)) in_milliarcseconds_within.finite
 
-  whole-at-most : whole_part (size (unrounded x)) ≤ 26402000000
-  whole-at-most =
-      let within = in-milliarcseconds-within in
-      le_trans (whole_part_mono (size (unrounded x)) most finite-size-of within.end (unfold round in tt) (between→size most (unrounded x) within))
+  whole_at_most : whole_part (size (unrounded x)) ≤ 26402000000
+  whole_at_most =
+      let within = in_milliarcseconds_within in
+      le_trans (whole_part_mono (size (unrounded x)) most finite_size_of within.end (unfold round in tt) (between→size most (unrounded x) within))
       (unfold round to_unsigned in lit≤ tt)
 
-  in-milliarcseconds-nearest : IsNearest (in_milliarcseconds x).size (size (unrounded x))
+  in_milliarcseconds_nearest : IsNearest (in_milliarcseconds x).size (size (unrounded x))
   unfolding in_milliarcseconds rounded
-  in-milliarcseconds-nearest =
-      let h = whole-at-most in
-      let finite = is_true (is_finite (unrounded x)) in-milliarcseconds-within.finite in
-      nearest_true (size (unrounded x)) (size_from_zero (unrounded x) (mul-fits binary64 _ _) finite).held finite-size-of
-      (plus_size (unrounded x) in-milliarcseconds-within.finite) (omega arith)
+  in_milliarcseconds_nearest =
+      let h = whole_at_most in
+      let finite = is_true (is_finite (unrounded x)) in_milliarcseconds_within.finite in
+      nearest_true (size (unrounded x)) (size_from_zero (unrounded x) (mul-fits binary64 _ _) finite).held finite_size_of
+      (plus_size (unrounded x) in_milliarcseconds_within.finite) (omega arith)
 
 module _ (computed measured : Rad) (c : size computed.0 ≼ farthest) (m : size measured.0 ≼ farthest) where
   -- in declination
-  pub dec-nearest : IsNearest (residual_of false computed measured).size (size (unrounded (difference computed measured)))
+  pub dec_nearest : IsNearest (residual_of false computed measured).size (size (unrounded (difference computed measured)))
   unfolding residual_of
-  dec-nearest = in-milliarcseconds-nearest (difference computed measured) (difference-within computed measured c m)
+  dec_nearest = in_milliarcseconds_nearest (difference computed measured) (difference_within computed measured c m)
 
   -- in right ascension
-  pub asc-nearest : IsNearest (residual_of true computed measured).size (size (unrounded (across_turn (difference computed measured))))
+  pub asc_nearest : IsNearest (residual_of true computed measured).size (size (unrounded (across_turn (difference computed measured))))
   unfolding residual_of
-  asc-nearest =
+  asc_nearest =
       let d = difference computed measured in
-      in-milliarcseconds-nearest (across_turn d) (wider (across_turn d).0 (across_turn_within d (difference-within computed measured c m).finite))
+      in_milliarcseconds_nearest (across_turn d) (wider (across_turn d).0 (across_turn_within d (difference_within computed measured c m).finite))

@@ -22,7 +22,7 @@ use Rattle.units.specs.notions.Nearest.{IsNearest}
 use Rattle.quantity.specs.laws.Accepted.{lower_none, angle_accepted}
 use Rattle.list.specs.rules.Stars.{most_stars}
 use Rattle.residual_sheet.specs.rules.Residual.{difference, across_turn, unrounded, residual_of}
-use Rattle.residual_sheet.specs.laws.Residual.{asc-nearest, dec-nearest}
+use Rattle.residual_sheet.specs.laws.Residual.{asc_nearest, dec_nearest}
 use Rattle.residual_sheet.specs.declared.Sheets.{Sheets}
 use Rattle.residual_sheet.specs.declared.Sheets.TheVariants.{Are, Refused}
 use Rattle.residual_sheet.specs.rules.Residuals.{lengths_refusal, least_refusal, float_refusal, floats_refusal, residuals_refusal, shown_sheets}
@@ -82,18 +82,18 @@ near_changes_nothing n b h = sym (lower_none_last n _ (past_none (bits b) farthe
 
 -- one after the other
 module _ (f : ℕ → ℕ) where
-  next-least : (s : List ℕ) (i : ℕ) → i < length s → least_refusal f (drop i s) ≡ lower (f (get_or s i 0)) (least_refusal f (drop (suc i) s))
+  next_least : (s : List ℕ) (i : ℕ) → i < length s → least_refusal f (drop i s) ≡ lower (f (get_or s i 0)) (least_refusal f (drop (suc i) s))
   unfolding least_refusal
-  next-least [] i h = absurd (omega arith)
-  next-least (b ∷ bs) zero h = refl
-  next-least (b ∷ bs) (suc i) h = next-least bs i (le_of_suc-le-suc h)
+  next_least [] i h = absurd (omega arith)
+  next_least (b ∷ bs) zero h = refl
+  next_least (b ∷ bs) (suc i) h = next_least bs i (le_of_suc-le-suc h)
 
-  pub least-next : (s : List ℕ) (i n : ℕ) → i < length s
+  pub least_next : (s : List ℕ) (i n : ℕ) → i < length s
       → lower (lower n (f (get_or s i 0))) (least_refusal f (drop (i + 1) s)) ≡ lower n (least_refusal f (drop i s))
-  least-next s i n h =
+  least_next s i n h =
       ap (λ (k : ℕ). lower (lower n (f (get_or s i 0))) (least_refusal f (drop k s))) (add-one i)
       ∙ lower_associates n (f (get_or s i 0)) (least_refusal f (drop (suc i) s))
-      ∙ ap (lower n) (sym (next-least s i h))
+      ∙ ap (lower n) (sym (next_least s i h))
 
   none_left : (s : List ℕ) (i : ℕ) → length s ≤ i → least_refusal f (drop i s) ≡ 0
   unfolding least_refusal
@@ -102,15 +102,15 @@ module _ (f : ℕ → ℕ) where
   none_left (b ∷ bs) zero h = absurd (omega arith)
   none_left (b ∷ bs) (suc i) h = none_left bs i (le_of_suc-le-suc h)
 
-  pub least-done : (s : List ℕ) (i n : ℕ) → length s ≤ i → n ≡ lower n (least_refusal f (drop i s))
-  least-done s i n h = sym (lower_none_last n (least_refusal f (drop i s)) (none_left s i h))
+  pub least_done : (s : List ℕ) (i n : ℕ) → length s ≤ i → n ≡ lower n (least_refusal f (drop i s))
+  least_done s i n h = sym (lower_none_last n (least_refusal f (drop i s)) (none_left s i h))
 
   -- where there is none, none of them has one
-  pub least-accepted : (s : List ℕ) (i : ℕ) → i < length s → least_refusal f s ≡ 0 → f (get_or s i 0) ≡ 0
+  pub least_accepted : (s : List ℕ) (i : ℕ) → i < length s → least_refusal f s ≡ 0 → f (get_or s i 0) ≡ 0
   unfolding least_refusal
-  least-accepted [] i h e = absurd (omega arith)
-  least-accepted (b ∷ bs) zero h e = (lower_none (f b) (least_refusal f bs) e).0
-  least-accepted (b ∷ bs) (suc i) h e = least-accepted bs i (le_of_suc-le-suc h) (lower_none (f b) (least_refusal f bs) e).1
+  least_accepted [] i h e = absurd (omega arith)
+  least_accepted (b ∷ bs) zero h e = (lower_none (f b) (least_refusal f bs) e).0
+  least_accepted (b ∷ bs) (suc i) h e = least_accepted bs i (le_of_suc-le-suc h) (lower_none (f b) (least_refusal f bs) e).1
 
 -- ---- slices that are not refused
 
@@ -142,7 +142,7 @@ lengths_accepted n a b c d e = equal (by_flag (eqb a n && eqb b n && eqb c n && 
 
 -- each float is within the limit
 pub floats_accepted : (s : List ℕ) (i : ℕ) → i < length s → floats_refusal s ≡ 0 → size (bits (get_or s i 0)) ≼ farthest
-floats_accepted s i h e = angle_accepted (rad (bits (get_or s i 0))) (least-accepted float_refusal s i h e)
+floats_accepted s i h e = angle_accepted (rad (bits (get_or s i 0))) (least_accepted float_refusal s i h e)
 
 -- and its bits are no NaN's
 pub floats_no_nan : (s : List ℕ) (i : ℕ) → i < length s → floats_refusal s ≡ 0 → T (not (nan_bits binary64 (get_or s i 0)))
@@ -185,16 +185,16 @@ module _ {status asc dec measuredAsc measuredDec : List ℕ} (a : Accepted statu
   abbrev angle : List ℕ → Rad
   angle s = rad (bits (get_or s i 0))
 
-  pub asc-residual-nearest : IsNearest (residual_of true (angle asc) (angle measuredAsc)).size
+  pub asc_residual_nearest : IsNearest (residual_of true (angle asc) (angle measuredAsc)).size
       (size (unrounded (across_turn (difference (angle asc) (angle measuredAsc)))))
-  asc-residual-nearest =
-      asc-nearest (angle asc) (angle measuredAsc) (floats_accepted asc i (omega (arith, a.equal.first)) a.ascs)
+  asc_residual_nearest =
+      asc_nearest (angle asc) (angle measuredAsc) (floats_accepted asc i (omega (arith, a.equal.first)) a.ascs)
       (floats_accepted measuredAsc i (omega (arith, a.equal.third)) a.measured_ascs)
 
-  pub dec-residual-nearest : IsNearest (residual_of false (angle dec) (angle measuredDec)).size
+  pub dec_residual_nearest : IsNearest (residual_of false (angle dec) (angle measuredDec)).size
       (size (unrounded (difference (angle dec) (angle measuredDec))))
-  dec-residual-nearest =
-      dec-nearest (angle dec) (angle measuredDec) (floats_accepted dec i (omega (arith, a.equal.second)) a.decs)
+  dec_residual_nearest =
+      dec_nearest (angle dec) (angle measuredDec) (floats_accepted dec i (omega (arith, a.equal.second)) a.decs)
       (floats_accepted measuredDec i (omega (arith, a.equal.fourth)) a.measured_decs)
 
 -- ---- a contract `shown_sheets r ≡ rule` holds of one r only

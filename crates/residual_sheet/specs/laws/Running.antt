@@ -11,7 +11,7 @@ use Rattle.double.specs.rules.Operations.{bits}
 use Rattle.double.specs.laws.Tests.{by_test}
 use Rattle.quantity.specs.rules.Angle.{rad}
 use Rattle.lent.specs.rules.Rows.{upto}
-use Rattle.lent.specs.laws.Upto.{length-upto}
+use Rattle.lent.specs.laws.Upto.{length_upto}
 use Rattle.list.specs.rules.Stars.{most_stars}
 use Rattle.residual_sheet.specs.declared.Residual.{Residual}
 use Rattle.residual_sheet.specs.declared.Running.{Running}
@@ -23,7 +23,7 @@ use Rattle.residual_sheet.specs.rules.Running.{above, below, above_of, below_of,
 use Rattle.residual_sheet.specs.notions.Place.{Some, none, some, Order, less, same, more}
 use Rattle.residual_sheet.specs.notions.Sheet.{AllNear}
 use Rattle.residual_sheet.specs.laws.Parts.{some_or_none, compare, is_none, is_some, taken_append, aside_append, squares_append, largest_append}
-use Rattle.residual_sheet.specs.laws.Parts.{place-append, first_within}
+use Rattle.residual_sheet.specs.laws.Parts.{place_append, first_within}
 
 -- ---- one entry more
 
@@ -45,28 +45,28 @@ module _ (es : List Entry) (x : Residual) where
   abbrev top : ℕ
   top = largest_of (taken_in es)
 
-  one-largest : largest_of (taken_in last) ≡ x.size
-  one-largest = omega arith
+  one_largest : largest_of (taken_in last) ≡ x.size
+  one_largest = omega arith
 
-  place-onward : place_after m top (place_of es) x.size (length es) ≡ place_of (es ++ last)
+  place_onward : place_after m top (place_of es) x.size (length es) ≡ place_of (es ++ last)
   unfolding figures_of moved_on
-  place-onward = by_count (some_or_none m) (compare top x.size) ∙ sym (place-append es last)
+  place_onward = by_count (some_or_none m) (compare top x.size) ∙ sym (place_append es last)
     where
       by_count : Some m → Order top x.size
           → place_after m top (place_of es) x.size (length es) ≡ merged_place (figures_of es) (moved_on (length es) (figures_of last))
-      by_count (none a) o = rw (is_none a, one-largest, eq-eqb x.size x.size refl) (omega arith)
+      by_count (none a) o = rw (is_none a, one_largest, eq-eqb x.size x.size refl) (omega arith)
       by_count (some h) (less g) =
-          rw (is_some h, one-largest, eq-eqb x.size x.size refl, lt-ltb top x.size g, le-ltb x.size top (omega arith)) (omega arith)
+          rw (is_some h, one_largest, eq-eqb x.size x.size refl, lt-ltb top x.size g, le-ltb x.size top (omega arith)) (omega arith)
       by_count (some h) (same e) =
-          rw (is_some h, one-largest, eq-eqb x.size x.size refl, le-ltb top x.size (omega arith), le-ltb x.size top (omega arith))
+          rw (is_some h, one_largest, eq-eqb x.size x.size refl, le-ltb top x.size (omega arith), le-ltb x.size top (omega arith))
           (omega (arith, first_within top es))
       by_count (some h) (more g) =
-          rw (is_some h, one-largest, le-ltb top x.size (omega arith), lt-ltb x.size top g)
+          rw (is_some h, one_largest, le-ltb top x.size (omega arith), lt-ltb x.size top g)
 
 -- an entry that is not taken in leaves all but those set aside
 left_out : (es : List Entry) (e : Entry) → taken_in (e ∷ []) ≡ [] → place_of es ≡ place_of (es ++ (e ∷ []))
 unfolding figures_of moved_on
-left_out es e n = by_count (some_or_none (length (taken_in es))) ∙ sym (place-append es (e ∷ []))
+left_out es e n = by_count (some_or_none (length (taken_in es))) ∙ sym (place_append es (e ∷ []))
   where
     no-count : eqb (length (taken_in (e ∷ []))) 0 ≡ true
     no-count = is_none {n = length (taken_in (e ∷ []))} (ap length n)
@@ -121,7 +121,7 @@ grows es (taken x) =
       below = (more-below ∙ ap below_of ts) i;
       squares = (more-squares ∙ ap squares_of ts) i;
       largest = (more-largest ∙ ap largest_of ts) i;
-      place = place-onward es x i;
+      place = place_onward es x i;
       aside = more-aside i;
     }
   where
@@ -266,7 +266,7 @@ near_entries (suc n) s g =
 -- the figures after n entries, each by a rule of its place
 pub entry_more : (n : ℕ) (f : ℕ → Entry) → onward (running_of (upto n f)) n (f n) ≡ running_of (upto (n + 1) f)
 entry_more n f =
-    ap (λ (k : ℕ). onward (running_of (upto n f)) k (f n)) (sym (length-upto n f))
+    ap (λ (k : ℕ). onward (running_of (upto n f)) k (f n)) (sym (length_upto n f))
     ∙ grows (upto n f) (f n)
     ∙ ap running_of (sym (upto_last n f))
     ∙ ap (λ (k : ℕ). running_of (upto k f)) (sym (add-one n))
@@ -274,8 +274,8 @@ entry_more n f =
 pub entries_at_most : (n : ℕ) (s : ℕ → ℕ) (g : ℕ → Residual) → n ≤ most_stars → AtMost n (running_of (upto n (λ (i : ℕ). entry_of (s i) (g i))))
 entries_at_most n s g h =
     let f : ℕ → Entry = λ (i : ℕ). entry_of (s i) (g i) in
-    subst (λ (k : ℕ). AtMost k (running_of (upto n f))) (length-upto n f)
-    (grown_at_most (upto n f) (near_entries n s g) (omega (arith, h, length-upto n f)))
+    subst (λ (k : ℕ). AtMost k (running_of (upto n f))) (length_upto n f)
+    (grown_at_most (upto n f) (near_entries n s g) (omega (arith, h, length_upto n f)))
 
 -- what so few entries come to, all of them come to at most
 pub few_at_most : (n : ℕ) (r : Running) → AtMost n r → AtMost most_stars r
@@ -297,11 +297,11 @@ module _ (across : Bool) (status computed measured : List ℕ) where
   pub one_more : (n : ℕ) → onward (running_of (first n)) n (entry_at across status computed measured n) ≡ running_of (first (n + 1))
   one_more n = entry_more n (entry_at across status computed measured)
 
-  pub first-at-most : (n : ℕ) → n ≤ most_stars → AtMost n (running_of (first n))
+  pub first_at_most : (n : ℕ) → n ≤ most_stars → AtMost n (running_of (first n))
   unfolding entry_at
-  first-at-most n h =
+  first_at_most n h =
       entries_at_most n (λ (i : ℕ). get_or status i 0)
       (λ (i : ℕ). residual_of across (rad (bits (get_or computed i 0))) (rad (bits (get_or measured i 0)))) h
 
-  pub all-at-most : length status ≤ most_stars → AtMost most_stars (running_of (entries_of across status computed measured))
-  all-at-most h = few_at_most (length status) _ (first-at-most (length status) h)
+  pub all_at_most : length status ≤ most_stars → AtMost most_stars (running_of (entries_of across status computed measured))
+  all_at_most h = few_at_most (length status) _ (first_at_most (length status) h)

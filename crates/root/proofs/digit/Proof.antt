@@ -1,7 +1,7 @@
 -- `root::digit` meets its contract: each pass brings t nearer to the digit.
 use Rattle.std.proofs.Common.{◌≡◌, ℕ, ◌+◌, ◌-◌, ◌*◌, ◌^◌, ◌<◌, ◌≤◌, Bool, true, false, not, sym, refl, lt_of_le_of_lt, arith, pow_pos}
 use Rattle.root.specs.notions.Steps.{away}
-use Rattle.root.specs.laws.Whole.{taken-under, taken-over, digit_back, some_digit, away_down, away_up}
+use Rattle.root.specs.laws.Whole.{taken_under, taken_over, digit_back, some_digit, away_down, away_up}
 use Rattle.root.proofs.digit.Statement.{statement}
 use Rattle.root.proofs.digit.Tie as tie
 
@@ -38,10 +38,10 @@ module _ (c : tie.After-taken invariant-loop decreases-loop) where
   takes s = start.args.twice * s * p + s * s
 
   too_much : start.args.left < c.taken.result → start.args.left * p < takes t
-  too_much h = taken-over start.args.left start.args.twice p t (pow_pos start.args.k) (omega (arith, c.taken.ensures))
+  too_much h = taken_over start.args.left start.args.twice p t (pow_pos start.args.k) (omega (arith, c.taken.ensures))
 
   not-too-much : c.taken.result ≤ start.args.left → takes t ≤ start.args.left * p
-  not-too-much h = taken-under start.args.left start.args.twice p t (pow_pos start.args.k) (omega (arith, c.taken.ensures))
+  not-too-much h = taken_under start.args.left start.args.twice p t (pow_pos start.args.k) (omega (arith, c.taken.ensures))
 
   more : c.taken.result ≤ start.args.left → takes (t + 1) ≤ start.args.left * p
   more h = c.before.before.is_digit.ensures.no (tried _ c.before.if1.true) (not-too-much h)

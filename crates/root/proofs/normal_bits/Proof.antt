@@ -7,7 +7,7 @@ use Rattle.root.specs.rules.Root.{root_pattern, root_of}
 use Rattle.root.specs.notions.Steps.{IsNormal}
 use Rattle.double.specs.laws.Patterns.{above_zero_pattern, finite_no_nan, pattern_no_nan}
 use Rattle.root.specs.laws.Normal.{above_zero_normal, high_square, handed_on}
-use Rattle.root.specs.laws.Nearest.{pattern-finite}
+use Rattle.root.specs.laws.Nearest.{pattern_finite}
 use Rattle.root.specs.laws.Tests.{normal_tested}
 use Rattle.root.proofs.normal_bits.Statement.{statement}
 use Rattle.root.proofs.normal_bits.Tie as tie

@@ -7,7 +7,7 @@ use Rattle.root.specs.rules.Root.{root_pattern, root_of}
 use Rattle.root.specs.notions.Steps.{IsNormal}
 use Rattle.double.specs.laws.Patterns.{above_zero_pattern, finite_no_nan, pattern_no_nan}
 use Rattle.root.specs.laws.Normal.{above_zero_normal, high_square, handed_on}
-use Rattle.root.specs.laws.Nearest.{pattern-finite}
+use Rattle.root.specs.laws.Nearest.{pattern_finite}
 use Rattle.root.specs.laws.Tests.{normal_tested}
 use Rattle.root.proofs.normal_root.Statement.{statement}
 use Rattle.root.proofs.normal_root.Tie as tie
@@ -21,7 +21,7 @@ normal-bits-requires c κs = search rules
 
 float-from-bits-result : tie.Need-float-from-bits-result
 float-from-bits-result c =
-    rw c.normal-bits.ensures (pattern_no_nan _ (pattern-finite (above_zero_normal c.before.args.x (tested c.before).above).2))
+    rw c.normal-bits.ensures (pattern_no_nan _ (pattern_finite (above_zero_normal c.before.args.x (tested c.before).above).2))
 
 returns : tie.Need-returns
 unfolding root_of

@@ -3,8 +3,8 @@ use Rattle.std.proofs.Common.{◌≡◌, ℕ, ◌+◌, ◌*◌, ◌/◌, ◌%◌
 use Rattle.double.specs.laws.Patterns.{pattern_no_nan}
 use Rattle.root.specs.rules.Whole.{whole_root}
 use Rattle.root.specs.notions.Steps.{Normal}
-use Rattle.root.specs.laws.Normal.{normal, pattern-is}
-use Rattle.root.specs.laws.Nearest.{root-digits-most}
+use Rattle.root.specs.laws.Normal.{normal, pattern_is}
+use Rattle.root.specs.laws.Nearest.{root_digits_most}
 use Rattle.root.proofs.pack.Statement.{statement}
 use Rattle.root.proofs.pack.Tie as tie
 
@@ -37,10 +37,10 @@ rounded-root-requires : tie.Need-rounded-root-requires
 rounded-root-requires c κs = omega (arith, (form c.before).least, (form c.before).most)
 
 add-result : tie.Need-overflow-add-result
-add-result c = omega (arith, found c, root-digits-most (form c.before.before))
+add-result c = omega (arith, found c, root_digits_most (form c.before.before))
 
 returns : tie.Need-returns
-returns c = rw (pattern-is (form c.before.before)) (omega (arith, found c, root-digits-most (form c.before.before)))
+returns c = rw (pattern_is (form c.before.before)) (omega (arith, found c, root_digits_most (form c.before.before)))
 
 pub pack-spec : {M : Type 1} → statement M
 pack-spec =

@@ -1,8 +1,8 @@
 -- `root::rounded_root` meets its contract: two digits, and what is left beside them.
 use Rattle.std.proofs.Common.{◌≡◌, ℕ, ◌+◌, ◌-◌, ◌*◌, ◌/◌, ◌%◌, ◌^◌, ◌<◌, ◌≤◌, subst, mul-le-mul, arith, rules}
 use Rattle.root.specs.rules.Whole.{IsWholeRoot, IsDigit}
-use Rattle.root.specs.laws.Whole.{whole_root_least, whole_root_most, first_digit, second-most, first_fits, second_fits, rest-most, rounded-down}
-use Rattle.root.specs.laws.Whole.{rounded-up}
+use Rattle.root.specs.laws.Whole.{whole_root_least, whole_root_most, first_digit, second_most, first_fits, second_fits, rest_most, rounded_down}
+use Rattle.root.specs.laws.Whole.{rounded_up}
 use Rattle.root.proofs.rounded_root.Statement.{statement}
 use Rattle.root.proofs.rounded_root.Tie as tie
 
@@ -55,7 +55,7 @@ module _ (c : tie.After-digit2) where
   hi = one.before.before.pre.1
 
   b-most : b ≤ 2 ^ 24
-  b-most = second-most lo hi (whole one) second
+  b-most = second_most lo hi (whole one) second
 
   square-most : b * b ≤ 2 ^ 48
   square-most = mul-le-mul {n₁ = b} {m₁ = b} {n₂ = 2 ^ 24} {m₂ = 2 ^ 24} b-most b-most
@@ -68,7 +68,7 @@ module _ (c : tie.After-digit2) where
 
   rest-exact : (((w one - a one * a one) * 2 ^ 24 - (a one + a one) * b) * 2 ^ 24) % 2 ^ 64
       ≡ ((w one - a one * a one) * 2 ^ 24 - (a one + a one) * b) * 2 ^ 24
-  rest-exact = omega (arith, rest-most lo hi (whole one) second, most one, b-most, square-most)
+  rest-exact = omega (arith, rest_most lo hi (whole one) second, most one, b-most, square-most)
 
 selected-requires : tie.Need-selected-requires
 selected-requires c κs = search rules
@@ -117,12 +117,12 @@ add-result c = search rules
 returns : tie.Need-returns
 returns c =
     let e = c.before in
-    rw (root-exact e) (rounded-up (lo e) (hi e) (whole (one e)) (second e) (rw (exact (one e), rest-exact e, root-exact e) at c.if1.true))
+    rw (root-exact e) (rounded_up (lo e) (hi e) (whole (one e)) (second e) (rw (exact (one e), rest-exact e, root-exact e) at c.if1.true))
 
 returns-2 : tie.Need-returns-2
 returns-2 c =
     let e = c.before in
-    rw (root-exact e) (rounded-down (lo e) (hi e) (whole (one e)) (second e) (rw (exact (one e), rest-exact e, root-exact e) at c.if1.false))
+    rw (root-exact e) (rounded_down (lo e) (hi e) (whole (one e)) (second e) (rw (exact (one e), rest-exact e, root-exact e) at c.if1.false))
 
 pub rounded-root-spec : {M : Type 1} → statement M
 rounded-root-spec =

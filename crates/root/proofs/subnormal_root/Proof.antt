@@ -9,7 +9,7 @@ use Rattle.double.specs.notions.Count.{Raised}
 use Rattle.root.specs.notions.Steps.{IsSubnormal}
 use Rattle.double.specs.laws.Patterns.{above_zero_pattern, finite_no_nan, pattern_no_nan}
 use Rattle.root.specs.laws.Normal.{above_zero_normal, brought_up, handed_on}
-use Rattle.root.specs.laws.Nearest.{pattern-finite}
+use Rattle.root.specs.laws.Nearest.{pattern_finite}
 use Rattle.root.specs.laws.Tests.{subnormal_tested}
 use Rattle.root.proofs.subnormal_root.Statement.{statement}
 use Rattle.root.proofs.subnormal_root.Tie as tie
@@ -60,7 +60,7 @@ pack-requires c κs = omega (arith, up c)
 
 float-from-bits-result : tie.Need-float-from-bits-result
 float-from-bits-result c =
-    rw (packed c) (pattern_no_nan _ (pattern-finite (above_zero_normal c.before.args.x (tested c.before).above).2))
+    rw (packed c) (pattern_no_nan _ (pattern_finite (above_zero_normal c.before.args.x (tested c.before).above).2))
 
 returns : tie.Need-returns
 unfolding root_of

@@ -13,7 +13,7 @@ use Rattle.root.specs.rules.Root.{root_pattern, root_of, root_rule}
 use Rattle.root.specs.rules.Bits.{shown_bits}
 use Rattle.root.specs.notions.Steps.{IsNormal}
 use Rattle.root.specs.laws.Normal.{above_zero_normal}
-use Rattle.root.specs.laws.Nearest.{pattern-finite}
+use Rattle.root.specs.laws.Nearest.{pattern_finite}
 use Rattle.root.specs.laws.Root.{root_answered}
 
 pub normal_bits_answered : (x : Float) → IsNormal x → answered (root_pattern (twice_root_squared x)) ≡ with pattern_of (root_rule x)
@@ -22,7 +22,7 @@ normal_bits_answered x n =
     sym
     (ap (with pattern_of) (root_answered x n.above.finite n.plus)
     ∙ ap (λ (y : Float). answered (pattern_of y)) (rw (n.above.above, n.above.finite))
-    ∙ ap answered (pattern_bits _ (pattern-finite (above_zero_normal x n.above).2)))
+    ∙ ap answered (pattern_bits _ (pattern_finite (above_zero_normal x n.above).2)))
 
 -- each case of an answer
 pub bits_answered : {r : One} {a : Answer Float} {y : Float} {b : ℕ}

@@ -36,10 +36,10 @@ module _ (w q e : ℕ) (least : 2 ^ 52 ≤ q) where
           let u : (2 * q + 1) * 2 ^ e ≤ q * 2 ^ e + a * 2 ^ j = rw m (next q b (2 ^ e) (mul-le-mul_right (2 ^ e) t)) in
           lt_of_lt_of_le h (mul-le-mul u u)
 
-  pub near-below : (a j : ℕ) → (2 * q - 1) * 2 ^ e * ((2 * q - 1) * 2 ^ e) < w → 2 ^ 53 * 2 ^ e * (2 ^ 53 * 2 ^ e) ≤ w
+  pub near_below : (a j : ℕ) → (2 * q - 1) * 2 ^ e * ((2 * q - 1) * 2 ^ e) < w → 2 ^ 53 * 2 ^ e * (2 ^ 53 * 2 ^ e) ≤ w
       → a < 2 ^ 53 → a * 2 ^ j < q * 2 ^ e
       → (q * 2 ^ e + a * 2 ^ j) * (q * 2 ^ e + a * 2 ^ j) < w
-  near-below a j h k f l = go (less_or_not j e)
+  near_below a j h k f l = go (less_or_not j e)
     where
       before : (c : ℕ) → c < q → q * 2 ^ e + c * 2 ^ e ≤ (2 * q - 1) * 2 ^ e
       before c t = le_trans (le_of_eq (sym (add-mul q c (2 ^ e)))) (mul-le-mul_right (2 ^ e) (omega arith))
@@ -49,13 +49,13 @@ module _ (w q e : ℕ) (least : 2 ^ 52 ≤ q) where
           let u : q * 2 ^ e + y ≤ (2 * q - 1) * 2 ^ e = omega (arith, before c t) in
           lt_of_le_of_lt (mul-le-mul u u) h
 
-      two-halves : (x y p : ℕ) → x ≡ 2 ^ 52 * p → y < 2 ^ 52 * p → x + y < 2 ^ 53 * p
-      two-halves x y p a b = omega arith
+      two_halves : (x y p : ℕ) → x ≡ 2 ^ 52 * p → y < 2 ^ 52 * p → x + y < 2 ^ 53 * p
+      two_halves x y p a b = omega arith
 
       at_least : a * 2 ^ j < 2 ^ 52 * 2 ^ e → (2 ^ 52 ≡ q) ⊎ (2 ^ 52 < q) → (q * 2 ^ e + a * 2 ^ j) * (q * 2 ^ e + a * 2 ^ j) < w
       at_least s (inl t) =
           lt_of_lt_of_le
-          (square_lt _ _ (two-halves (q * 2 ^ e) (a * 2 ^ j) (2 ^ e) (ap (λ (x : ℕ). x * 2 ^ e) (sym t)) s)) k
+          (square_lt _ _ (two_halves (q * 2 ^ e) (a * 2 ^ j) (2 ^ e) (ap (λ (x : ℕ). x * 2 ^ e) (sym t)) s)) k
       at_least s (inr t) = from (a * 2 ^ j) (2 ^ 52) (le_of_lt s) t
 
       go : (j < e) ⊎ (e ≤ j) → (q * 2 ^ e + a * 2 ^ j) * (q * 2 ^ e + a * 2 ^ j) < w

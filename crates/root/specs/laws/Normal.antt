@@ -107,8 +107,8 @@ module _ {w d e : ℕ} (n : Normal w d e) where
       let least : 106 + 2 * e < size w = pow_lt_back (106 + 2 * e) (size w) (lt_of_le_of_lt (rw (pow-add 2 106 (2 * e)) lo) (size-lt w)) in
       omega arith
 
-  pub pattern-is : root_pattern w ≡ e * 2 ^ 52 + (whole_root 54 (d * 2 ^ 54) + 1) / 2
+  pub pattern_is : root_pattern w ≡ e * 2 ^ 52 + (whole_root 54 (d * 2 ^ 54) + 1) / 2
   unfolding root_pattern
-  pattern-is =
+  pattern_is =
       ap (λ (k : ℕ). k * 2 ^ 52 + (whole_root 54 (w / 2 ^ (2 * k)) + 1) / 2) halvings
       ∙ ap (λ (x : ℕ). e * 2 ^ 52 + (whole_root 54 x + 1) / 2) (rw n.is (mul-div_cancel (d * 2 ^ 54) (pow_pos (2 * e))))

@@ -12,7 +12,7 @@ use Rattle.root.specs.rules.Nearest.{twice_root_squared}
 use Rattle.root.specs.rules.Root.{root_pattern, root_of, root_refusal, root_rule}
 use Rattle.double.specs.laws.Patterns.{pattern_from_zero}
 use Rattle.root.specs.laws.Normal.{above_zero_normal}
-use Rattle.root.specs.laws.Nearest.{pattern-finite}
+use Rattle.root.specs.laws.Nearest.{pattern_finite}
 
 -- either zero
 pub root_of_zero : (s : Bool) → root_of (fin s zero (pos zero)) ≡ fin s zero (pos zero)
@@ -28,7 +28,7 @@ root_from_zero x d = go (lt operations.zero x) refl
     go : (t : Bool) → lt operations.zero x ≡ t → IsFromZero (cond t (cond (is_finite x) (bits (root_pattern (twice_root_squared x))) x) x)
     go true l =
         let a : IsAboveZero x = record { held = d.held; finite = d.finite; above = l } in
-        rw d.finite (pattern_from_zero (root_pattern (twice_root_squared x)) (pattern-finite (above_zero_normal x a).2))
+        rw d.finite (pattern_from_zero (root_pattern (twice_root_squared x)) (pattern_finite (above_zero_normal x a).2))
     go false l = d
 
 pub root_not_refused : (x : Float) → is_finite x ≡ true → bears_minus x ≡ false → root_refusal x ≡ 0
@@ -49,7 +49,7 @@ finite_root x held f = go (lt operations.zero x) refl
     go : (t : Bool) → lt operations.zero x ≡ t → is_finite (cond t (cond (is_finite x) (bits (root_pattern (twice_root_squared x))) x) x) ≡ true
     go true l =
         let a : IsAboveZero x = record { held = held; finite = f; above = l } in
-        rw f (pattern_from_zero (root_pattern (twice_root_squared x)) (pattern-finite (above_zero_normal x a).2)).finite
+        rw f (pattern_from_zero (root_pattern (twice_root_squared x)) (pattern_finite (above_zero_normal x a).2)).finite
     go false l = f
 
 -- no answered root is a NaN or an infinity

@@ -29,15 +29,15 @@ module _ (m : ℕ) (e : ℤ) (F : T (fits binary64 (fin false m e))) where
   unfolding is_finite bears_minus
   counted = (count_exact (fin false m e) F refl).1
 
-  counts-from : down e ≤ m * up e * 2 ^ 1022 → 2 ^ 52 ≤ count (fin false m e)
-  counts-from h =
+  counts_from : down e ≤ m * up e * 2 ^ 1022 → 2 ^ 52 ≤ count (fin false m e)
+  counts_from h =
       le_of_mul-le-mul_right (scaled (2 ^ 1022) (m * up e) (down e) (count (fin false m e) * down e) counted h) (down_pos e)
     where
       scaled : (p n d w : ℕ) → n * (p * 2 ^ 52) ≡ w → d ≤ n * p → 2 ^ 52 * d ≤ w
       scaled p n d w c h = omega arith
 
-  from-counts : 2 ^ 52 ≤ count (fin false m e) → down e ≤ m * up e * 2 ^ 1022
-  from-counts h =
+  from_counts : 2 ^ 52 ≤ count (fin false m e) → down e ≤ m * up e * 2 ^ 1022
+  from_counts h =
       scaled (2 ^ 1022) (m * up e) (down e) (count (fin false m e) * down e) counted (mul-le-mul_right (down e) h)
     where
       scaled : (p n d w : ℕ) → n * (p * 2 ^ 52) ≡ w → 2 ^ 52 * d ≤ w → d ≤ n * p
@@ -75,7 +75,7 @@ normal_tested (fin false m e) F l h =
     record {
       above = record { held = F; finite = refl; above = a };
       plus = refl;
-      least = pattern_from (to_bits binary64 x) (rw (of_bits-to_bits binary64 x F) (counts-from m e F b));
+      least = pattern_from (to_bits binary64 x) (rw (of_bits-to_bits binary64 x F) (counts_from m e F b));
     }
   where
     plain : (n p d : ℕ) → 1 * 1 * d + 0 * p ≤ n * p + 0 * d → d ≤ n * p
@@ -104,7 +104,7 @@ subnormal_tested (fin false m e) F l h =
     above-all g =
         let x = fin false m e in
         let c : 2 ^ 52 ≤ count x = rw (of_bits-to_bits binary64 x F) at g in
-        let t = below→le least_normal x tt tt (plain (m * up e) (2 ^ 1022) (down e) (from-counts m e F c)) in
+        let t = below→le least_normal x tt tt (plain (m * up e) (2 ^ 1022) (down e) (from_counts m e F c)) in
         true≢false (sym (is_true (le least_normal x) t) ∙ l)
 
 pub infinite_tested : (x : Float) → T (fits binary64 x) → le x greatest ≡ false → is_finite x ≡ false

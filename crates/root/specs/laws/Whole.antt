@@ -56,9 +56,9 @@ rounded_is d r h lo hi =
 
 -- what a digit takes, without the quotient
 module _ (left twice p t : ℕ) (some : 0 < p) where
-  pub taken-under : taken twice p t ≤ left → twice * t * p + t * t ≤ left * p
+  pub taken_under : taken twice p t ≤ left → twice * t * p + t * t ≤ left * p
   unfolding taken
-  taken-under h = go (twice * t) _ (t * t) h ((div-lt_iff_lt-mul some).0 (less (twice * t) _ h))
+  taken_under h = go (twice * t) _ (t * t) h ((div-lt_iff_lt-mul some).0 (less (twice * t) _ h))
     where
       less : (x c : ℕ) → x + c ≤ left → c < left - x + 1
       less x c h = omega arith
@@ -69,9 +69,9 @@ module _ (left twice p t : ℕ) (some : 0 < p) where
       go : (x c y : ℕ) → x + c ≤ left → y + (p - 1) < (left - x + 1) * p → x * p + y ≤ left * p
       go x c y h k = parted x (left - x) y (omega arith) k
 
-  pub taken-over : left < taken twice p t → left * p < twice * t * p + t * t
+  pub taken_over : left < taken twice p t → left * p < twice * t * p + t * t
   unfolding taken
-  taken-over h = go (less_or_not left (twice * t))
+  taken_over h = go (less_or_not left (twice * t))
     where
       before : (x y : ℕ) → left < x → left * p < x * p + y
       before x y l = lt_of_lt_of_le (mul-lt-mul_of_pos_right l some) (omega arith)
@@ -150,8 +150,8 @@ module _ {d a b : ℕ} (lo : 2 ^ 52 ≤ d) (hi : d < 2 ^ 54) (r : IsWholeRoot (d
   least : 2 ^ 28 ≤ a
   least = whole_root_least (2 ^ 28) r (omega arith)
 
-  pub second-most : b ≤ 2 ^ 24
-  second-most = le_of_mul-le-mul_left {k = a + a} (omega (arith, s.under, r.over)) (omega (arith, least))
+  pub second_most : b ≤ 2 ^ 24
+  second_most = le_of_mul-le-mul_left {k = a + a} (omega (arith, s.under, r.over)) (omega (arith, least))
 
   pub first_fits : (a + a) * b ≤ (d * 2 ^ 4 - a * a) * 2 ^ 24
   first_fits = omega (arith, s.under)
@@ -162,11 +162,11 @@ module _ {d a b : ℕ} (lo : 2 ^ 52 ≤ d) (hi : d < 2 ^ 54) (r : IsWholeRoot (d
   rest_is : q * q + rest ≡ d * 2 ^ 52
   rest_is = omega (arith, r.under, first_fits, second_fits)
 
-  pub rest-most : rest ≤ q + q
-  rest-most = omega (arith, s.over)
+  pub rest_most : rest ≤ q + q
+  rest_most = omega (arith, s.over)
 
-  pub rounded-down : rest ≤ q → q ≡ (whole_root 54 (d * 2 ^ 54) + 1) / 2
-  rounded-down h = let both = rest_down (d * 2 ^ 52) q rest rest_is (omega (arith, least)) h in rounded_is d q hi both.0 both.1
+  pub rounded_down : rest ≤ q → q ≡ (whole_root 54 (d * 2 ^ 54) + 1) / 2
+  rounded_down h = let both = rest_down (d * 2 ^ 52) q rest rest_is (omega (arith, least)) h in rounded_is d q hi both.0 both.1
 
-  pub rounded-up : q < rest → q + 1 ≡ (whole_root 54 (d * 2 ^ 54) + 1) / 2
-  rounded-up h = let both = rest_up (d * 2 ^ 52) q rest rest_is h rest-most in rounded_is d (q + 1) hi both.0 both.1
+  pub rounded_up : q < rest → q + 1 ≡ (whole_root 54 (d * 2 ^ 54) + 1) / 2
+  rounded_up h = let both = rest_up (d * 2 ^ 52) q rest rest_is h rest_most in rounded_is d (q + 1) hi both.0 both.1

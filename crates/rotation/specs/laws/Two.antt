@@ -8,10 +8,10 @@ use Rattle.rotation.specs.rules.Matrix.{Matrix}
 use Rattle.rotation.specs.rules.Place.{place_along, toward, rotated_in, rotated_two}
 
 module _ (m : Matrix) (asc dec asc2 dec2 : Rad) where
-  pub first-rotated : first_place (rotated_two m (toward asc dec) (toward asc2 dec2)) ≡ rotated_in m asc dec
+  pub first_rotated : first_place (rotated_two m (toward asc dec) (toward asc2 dec2)) ≡ rotated_in m asc dec
   unfolding rotated_two rotated_in place_along arcs_two
-  first-rotated = arced_by_tests _ _ _
+  first_rotated = arced_by_tests _ _ _
 
-  pub second-rotated : second_place (rotated_two m (toward asc dec) (toward asc2 dec2)) ≡ rotated_in m asc2 dec2
+  pub second_rotated : second_place (rotated_two m (toward asc dec) (toward asc2 dec2)) ≡ rotated_in m asc2 dec2
   unfolding rotated_two rotated_in place_along arcs_two
-  second-rotated = arced_by_tests _ _ _
+  second_rotated = arced_by_tests _ _ _

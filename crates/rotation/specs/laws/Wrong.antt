@@ -21,7 +21,7 @@ use Rattle.precess_angles.specs.rules.Equatorial.{eq_angles_of}
 use Rattle.rotation.specs.rules.Matrix.{Vector, Matrix, entry}
 use Rattle.rotation.specs.rules.Turns.{about_y, about_z, rotation_by, rotation_of}
 use Rattle.rotation.specs.rules.Place.{place_along, toward, rotated_in, rotated_two}
-use Rattle.rotation.specs.laws.Two.{first-rotated, second-rotated}
+use Rattle.rotation.specs.laws.Two.{first_rotated, second_rotated}
 use Rattle.rotation.specs.notions.Computed.{computed}
 use Rattle.rotation.specs.notions.Wrong.{vector_turned_about_y, vector_turned_about_z, left_pair_first, second_other_way, third_other_way, first_other_way}
 use Rattle.rotation.specs.notions.Wrong.{angles_traded, transposed, zeros_left_out, other_edition, third_in_degrees, right_to_left, arcsine_clamped}
@@ -128,4 +128,4 @@ pub lanes_traded_excluded : lanes_traded (rotated_two (rotation_of Crate epoch e
 unfolding computed
 lanes_traded_excluded wrong =
     apart (of_answer of_second) refl
-    (sym (second-rotated (rotation_of Crate epoch epoch) r2 r½ r0 r0) ∙ wrong ∙ first-rotated (rotation_of Crate epoch epoch) r2 r½ r0 r0)
+    (sym (second_rotated (rotation_of Crate epoch epoch) r2 r½ r0 r0) ∙ wrong ∙ first_rotated (rotation_of Crate epoch epoch) r2 r½ r0 r0)

@@ -1,4 +1,4 @@
--- A place under a rotation, alone and beside another. `first-rotated` and `second-rotated` in laws/Two say that each of two is the place
+-- A place under a rotation, alone and beside another. `first_rotated` and `second_rotated` in laws/Two say that each of two is the place
 -- that it is alone.
 use Rattle.std.specs.Prelude.{[], ◌∷◌}
 use Rattle.double.specs.rules.Operations.{◌⊗◌}

@@ -11,11 +11,11 @@ use Rattle.list.specs.declared.Star.{Star}
 use Rattle.list.specs.rules.Stars.{count_of, nth}
 use Rattle.star_store.specs.rules.Stored.{answers_by}
 use Rattle.star_store.specs.notions.StarStored.{Begun, Upto}
-use Rattle.star_store.specs.laws.StarStored.{few-stars, no-star-stored, places-there, one-star-stored, all-stars-stored}
+use Rattle.star_store.specs.laws.StarStored.{few_stars, no_star_stored, places_there, one_star_stored, all_stars_stored}
 use Rattle.rotation_list.specs.rules.Rotate.{rotated_star, rotated_on}
 use Rattle.rotation_list.specs.notions.Aimed.{Aimed}
 use Rattle.rotation_list.specs.laws.Star.{known_rotated}
-use Rattle.rotation_list.specs.laws.Turned.{next_aimed, first-turned, second-turned}
+use Rattle.rotation_list.specs.laws.Turned.{next_aimed, first_turned, second_turned}
 use Rattle.rotation_list.proofs.rotate.Statement.{statement}
 use Rattle.rotation_list.proofs.rotate.Tie as tie
 
@@ -70,14 +70,14 @@ loop-holds c =
       (
         counted.count.ensures,
         (
-          no-star-stored (begun counted) _ counted.before.before.before.before.new.ensures,
+          no_star_stored (begun counted) _ counted.before.before.before.before.new.ensures,
           next_aimed _ _ _ _ c.two-turned.ensures c.before.before.nth.ensures c.before.nth2.ensures,
         ),
       ),
     )
 
 add-loop : tie.Need-overflow-add-loop invariant-loop decreases-loop
-add-loop c = omega (arith, c.loop.invariant.0, c.loop.invariant.1.0, few-stars (begun (before-turns c.before)))
+add-loop c = omega (arith, c.loop.invariant.0, c.loop.invariant.1.0, few_stars (begun (before-turns c.before)))
 
 -- in a pass both stars are there
 module _ (c : tie.In-loop invariant-loop decreases-loop) where
@@ -85,7 +85,7 @@ module _ (c : tie.In-loop invariant-loop decreases-loop) where
   both-there = omega (arith, c.loop-test.true, c.before.loop.invariant.1.0)
 
   few-there : c.before.loop.i + 1 < 3000
-  few-there = omega (arith, both-there, few-stars (begun (before-turns c.before.before)))
+  few-there = omega (arith, both-there, few_stars (begun (before-turns c.before.before)))
 
 add-j : tie.Need-overflow-add-j invariant-loop decreases-loop
 add-j c = omega (arith, few-there c)
@@ -99,7 +99,7 @@ add-nth c = omega (arith, few-there c.before.before)
 store-star-in-requires : tie.Need-store-star-in-requires invariant-loop decreases-loop
 store-star-in-requires c κs =
     let pass = c.before.before.before.before.before.before.before.before.before.before in
-    places-there (begun (before-turns pass.before.before)) pass.before.loop.invariant.1.1.0 _ (omega (arith, both-there pass))
+    places_there (begun (before-turns pass.before.before)) pass.before.loop.invariant.1.1.0 _ (omega (arith, both-there pass))
 
 -- the first of the two is stored
 module _ (c : tie.After-store-star-in invariant-loop decreases-loop) where
@@ -111,14 +111,14 @@ module _ (c : tie.After-store-star-in invariant-loop decreases-loop) where
 
   first-stored : Upto (rule before-pass) (begin before-pass).args.bytes.now (begin before-pass).args.status.now (begin before-pass).args.asc.now (begin before-pass).args.dec.now (in-pass.before.loop.i + 1) (record { counts = c.store-star-in.new.1.1.1.0 }) c.store-star-in.new.0 c.store-star-in.new.1.0 c.store-star-in.new.1.1.0
   first-stored =
-      one-star-stored (begun before-pass) in-pass.before.loop.inv.1.1.0 (omega (arith, both-there in-pass))
-      (first-turned _ in-pass.before.loop.inv.1.1.1 _ _ c.before.before.before.before.before.before.before.two-turned2.ensures c.before.earlier.ensures)
+      one_star_stored (begun before-pass) in-pass.before.loop.inv.1.1.0 (omega (arith, both-there in-pass))
+      (first_turned _ in-pass.before.loop.inv.1.1.1 _ _ c.before.before.before.before.before.before.before.two-turned2.ensures c.before.earlier.ensures)
       c.store-star-in.ensures
 
 store-star-in-requires-2 : tie.Need-store-star-in-requires-2 invariant-loop decreases-loop
 store-star-in-requires-2 c κs =
     let at_first = c.before.before.before.before.before.before.before.before.before.before.before in
-    places-there (begun (before-pass at_first)) (first-stored at_first) _ (both-there (in-pass at_first))
+    places_there (begun (before-pass at_first)) (first-stored at_first) _ (both-there (in-pass at_first))
 
 loop-less : tie.Need-loop-smaller invariant-loop decreases-loop
 loop-less c =
@@ -136,8 +136,8 @@ loop-again c =
       (
         inv.1.0,
         (
-          one-star-stored (begun (before-pass at_first)) (first-stored at_first) (both-there (in-pass at_first))
-              (second-turned _ inv.1.1.1 _ _ at-two.two-turned2.ensures at_second.before.earlier2.ensures)
+          one_star_stored (begun (before-pass at_first)) (first-stored at_first) (both-there (in-pass at_first))
+              (second_turned _ inv.1.1.1 _ _ at-two.two-turned2.ensures at_second.before.earlier2.ensures)
               at_second.store-star-in2.ensures,
           next_aimed _ _ _ _ at-two.two-turned2.ensures at-two.before.before.nth3.ensures at-two.before.nth4.ensures,
         ),
@@ -152,7 +152,7 @@ module _ (c : tie.Then2 invariant-loop decreases-loop) where
 store-star-in-requires-3 : tie.Need-store-star-in-requires-3 invariant-loop decreases-loop
 store-star-in-requires-3 c κs =
     let left = c.before.before.before.before.before.before.before.before.before in
-    places-there (begun (before-turns left.before.before.before)) left.before.before.loop.invariant.1.1.0 _ (last-there left)
+    places_there (begun (before-turns left.before.before.before)) left.before.before.loop.invariant.1.1.0 _ (last-there left)
 
 -- and then stored
 module _ (c : tie.After-store-star-in3 invariant-loop decreases-loop) where
@@ -165,8 +165,8 @@ module _ (c : tie.After-store-star-in3 invariant-loop decreases-loop) where
   last_stored : Upto (rule before_last) (begin before_last).args.bytes.now (begin before_last).args.status.now (begin before_last).args.asc.now (begin before_last).args.dec.now (with-one-left.before.before.loop.i + 1) (record { counts = c.store-star-in3.new.1.1.1.0 }) c.store-star-in3.new.0 c.store-star-in3.new.1.0 c.store-star-in3.new.1.1.0
   last_stored =
       let inv = with-one-left.before.before.loop.inv in
-      one-star-stored (begun before_last) inv.1.1.0 (last-there with-one-left)
-      (first-turned _ inv.1.1.1 _ _ c.before.before.before.before.before.before.before.two-turned3.ensures c.before.earlier3.ensures)
+      one_star_stored (begun before_last) inv.1.1.0 (last-there with-one-left)
+      (first_turned _ inv.1.1.1 _ _ c.before.before.before.before.before.before.before.two-turned3.ensures c.before.earlier3.ensures)
       c.store-star-in3.ensures
 
 same_length : tie.Need-same-length invariant-loop decreases-loop
@@ -182,7 +182,7 @@ returns-2 : tie.Need-returns-2 invariant-loop decreases-loop
 returns-2 c =
     let at_last = c.before.before.before.before.before.before in
     let left = with-one-left at_last in
-    all-stars-stored (begun (before_last at_last)) (last_stored at_last) (promised (before_last at_last))
+    all_stars_stored (begun (before_last at_last)) (last_stored at_last) (promised (before_last at_last))
     (omega (arith, left.before.loop-test.left, last-there left, left.before.before.loop.inv.1.0))
 
 same-length-4 : tie.Need-same-length-4 invariant-loop decreases-loop
@@ -198,7 +198,7 @@ returns-3 : tie.Need-returns-3 invariant-loop decreases-loop
 returns-3 c =
     let inv = c.before.before.loop.invariant in
     let counted = before-turns c.before.before.before in
-    all-stars-stored (begun counted) inv.1.1.0 (promised counted) (omega (arith, c.if2.false, inv.0, inv.1.0))
+    all_stars_stored (begun counted) inv.1.1.0 (promised counted) (omega (arith, c.if2.false, inv.0, inv.1.0))
 
 pub rotate-spec : {M : Type 1} → statement M
 rotate-spec =

@@ -16,17 +16,17 @@ use Rattle.rotation_list.specs.laws.ReadBack.{held_rotated}
 
 module _ (edition : Edition) {s : List ℕ} {day1 day2 : Float} {status asc dec : List ℕ} {r : Tallied} {status' asc' dec' : List ℕ} (b : Rotated edition s day1 day2 status asc dec r status' asc' dec') where
   module _ (none : store_refusal s day1 day2 (length status) (length asc) (length dec) ≡ 0) where
-    pub asc-read : (i : ℕ) → i < count_of s → bits (get_or asc' i 0) ≡ first_of (rotated_on edition day1 day2 (nth s i))
-    asc-read = store.asc-read b none (held_rotated (rotation_of edition day1 day2) (years_between day1 day2))
+    pub asc_read : (i : ℕ) → i < count_of s → bits (get_or asc' i 0) ≡ first_of (rotated_on edition day1 day2 (nth s i))
+    asc_read = store.asc_read b none (held_rotated (rotation_of edition day1 day2) (years_between day1 day2))
 
-    pub dec-read : (i : ℕ) → i < count_of s → bits (get_or dec' i 0) ≡ second_of (rotated_on edition day1 day2 (nth s i))
-    dec-read = store.dec-read b none (held_rotated (rotation_of edition day1 day2) (years_between day1 day2))
+    pub dec_read : (i : ℕ) → i < count_of s → bits (get_or dec' i 0) ≡ second_of (rotated_on edition day1 day2 (nth s i))
+    dec_read = store.dec_read b none (held_rotated (rotation_of edition day1 day2) (years_between day1 day2))
 
     -- the tally is the empty one, raised by each star's status in the list's order
-    pub tally-raised : r.tally ≡ raised_by empty (statuses_by (rotated_on edition day1 day2) s)
-    tally-raised = store.tally-raised b none (known_rotated (rotation_of edition day1 day2) (years_between day1 day2))
+    pub tally_raised : r.tally ≡ raised_by empty (statuses_by (rotated_on edition day1 day2) s)
+    tally_raised = store.tally_raised b none (known_rotated (rotation_of edition day1 day2) (years_between day1 day2))
 
   -- two calls that meet the contract answer alike and leave the slices alike
-  pub rotate-fixes-all : {q : Tallied} {status'' asc'' dec'' : List ℕ} → Rotated edition s day1 day2 status asc dec q status'' asc'' dec''
+  pub rotate_fixes_all : {q : Tallied} {status'' asc'' dec'' : List ℕ} → Rotated edition s day1 day2 status asc dec q status'' asc'' dec''
       → (r ≡ q) × ((status' ≡ status'') × ((asc' ≡ asc'') × (dec' ≡ dec'')))
-  rotate-fixes-all = store.stored-fixes-all b
+  rotate_fixes_all = store.stored_fixes_all b

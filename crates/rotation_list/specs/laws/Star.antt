@@ -9,28 +9,28 @@ use Rattle.star_store.specs.laws.Known.{known_both, known_arctangent, known_arcs
 use Rattle.star_store.specs.laws.Star.{in_its_lane}
 use Rattle.rotation.specs.rules.Matrix.{Matrix}
 use Rattle.rotation.specs.rules.Place.{place_along, toward, rotated_in, rotated_two}
-use Rattle.rotation.specs.laws.Two.{first-rotated, second-rotated}
+use Rattle.rotation.specs.laws.Two.{first_rotated, second_rotated}
 use Rattle.rotation_list.specs.rules.Rotate.{rotated_star, two_stars_rotated}
 
 module _ (m : Matrix) (years : Float) (a b : Star) where
-  pub first-star : first_place (two_stars_rotated m years a b) ≡ rotated_star m years a
+  pub first_star : first_place (two_stars_rotated m years a b) ≡ rotated_star m years a
   unfolding two_stars_rotated rotated_star
-  first-star =
+  first_star =
       let p = rotated_two m (toward (asc_of a years) (dec_of a years)) (toward (asc_of b years) (dec_of b years)) in
       in_its_lane a years p.first_refusal (pair p.first_asc p.first_dec) _
-      (first-rotated m (asc_of a years) (dec_of a years) (asc_of b years) (dec_of b years))
+      (first_rotated m (asc_of a years) (dec_of a years) (asc_of b years) (dec_of b years))
 
-  pub second-star : second_place (two_stars_rotated m years a b) ≡ rotated_star m years b
+  pub second_star : second_place (two_stars_rotated m years a b) ≡ rotated_star m years b
   unfolding two_stars_rotated rotated_star
-  second-star =
+  second_star =
       let p = rotated_two m (toward (asc_of a years) (dec_of a years)) (toward (asc_of b years) (dec_of b years)) in
       in_its_lane b years p.second_refusal (pair p.second_asc p.second_dec) _
-      (second-rotated m (asc_of a years) (dec_of a years) (asc_of b years) (dec_of b years))
+      (second_rotated m (asc_of a years) (dec_of a years) (asc_of b years) (dec_of b years))
 
 -- so a star has one place, whatever star it stands beside and on whichever side
 pub beside_any_star : (m : Matrix) (years : Float) (star a b : Star)
     → first_place (two_stars_rotated m years star a) ≡ second_place (two_stars_rotated m years b star)
-beside_any_star m years star a b = first-star m years star a ∙ sym (second-star m years b star)
+beside_any_star m years star a b = first_star m years star a ∙ sym (second_star m years b star)
 
 pub known_rotated : (m : Matrix) (years : Float) (star : Star) → status_of (rotated_star m years star) ≤ highest_status
 unfolding rotated_star rotated_in place_along

@@ -17,7 +17,7 @@ use Rattle.rotation.specs.rules.Place.{vector_under, rotated_two}
 use Rattle.rotation_list.specs.declared.Turn.{Turn}
 use Rattle.rotation_list.specs.rules.Rotate.{rotated_star, two_stars_rotated, first_aimed, second_aimed, two_turned}
 use Rattle.rotation_list.specs.notions.Aimed.{Aimed}
-use Rattle.rotation_list.specs.laws.Star.{first-star, second-star}
+use Rattle.rotation_list.specs.laws.Star.{first_star, second_star}
 
 -- from what each step of a turn works out
 pub turned_in_steps : (m : Matrix) (ascs decs : TwoSinCos) (years : Float) (a b : Star) {v w : Vector} {n k i j : ℕ} {root root2 : Float} {arcs : TwoArcs} {ascs' decs' : TwoSinCos}
@@ -60,12 +60,12 @@ next_aimed m ascs decs years e f g =
     }
 
 module _ (m : Matrix) {years : Float} {a b : Star} {t : Turn} (k : Aimed years a b t) (x y : Star) {r : ℕ} where
-  pub first-turned : {u : Turn} → u ≡ two_turned m t.ascs t.decs years x y → r ≡ earlier t.first_refusal u.places.first_refusal
+  pub first_turned : {u : Turn} → u ≡ two_turned m t.ascs t.decs years x y → r ≡ earlier t.first_refusal u.places.first_refusal
       → unless r (answered (pair u.places.first_asc u.places.first_dec)) ≡ rotated_star m years a
   unfolding two_turned two_stars_rotated two_sin_cos_of direction_of
-  first-turned e f = rw (f, e, k.ascs_are, k.decs_are, k.first_refused_lem) (first-star m years a b)
+  first_turned e f = rw (f, e, k.ascs_are, k.decs_are, k.first_refused_lem) (first_star m years a b)
 
-  pub second-turned : {u : Turn} → u ≡ two_turned m t.ascs t.decs years x y → r ≡ earlier t.second_refusal u.places.second_refusal
+  pub second_turned : {u : Turn} → u ≡ two_turned m t.ascs t.decs years x y → r ≡ earlier t.second_refusal u.places.second_refusal
       → unless r (answered (pair u.places.second_asc u.places.second_dec)) ≡ rotated_star m years b
   unfolding two_turned two_stars_rotated two_sin_cos_of direction_of
-  second-turned e f = rw (f, e, k.ascs_are, k.decs_are, k.second_refused) (second-star m years a b)
+  second_turned e f = rw (f, e, k.ascs_are, k.decs_are, k.second_refused) (second_star m years a b)

@@ -25,7 +25,7 @@ use Rattle.rotation.specs.rules.Matrix.{Matrix}
 use Rattle.rotation.specs.rules.Turns.{rotation_of}
 use Rattle.rotation.specs.notions.Computed.{computed}
 use Rattle.rotation_list.specs.rules.Rotate.{rotated_star, two_stars_rotated, rotated_on}
-use Rattle.rotation_list.specs.laws.Star.{first-star, second-star}
+use Rattle.rotation_list.specs.laws.Star.{first_star, second_star}
 use Rattle.rotation_list.specs.notions.Wrong.{rates_forgotten, rates_after_the_turn, lanes_traded}
 
 -- at the origin
@@ -51,7 +51,7 @@ rates_after_the_turn_excluded = apart (of_answer of_second) refl
 -- a star out of range beside one in range
 pub lanes_traded_excluded : lanes_traded (two_stars_rotated still one beyond origin) ≢ first_place (two_stars_rotated still one beyond origin)
 unfolding computed rotated_star star_refusal in_range
-lanes_traded_excluded wrong = apart (of_answer of_second) refl (sym (second-star still one beyond origin) ∙ wrong ∙ first-star still one beyond origin)
+lanes_traded_excluded wrong = apart (of_answer of_second) refl (sym (second_star still one beyond origin) ∙ wrong ∙ first_star still one beyond origin)
 
 -- the list of a star out of range, and of one that is past the pole a year later
 pub first_star_copied_on_excluded : (edition : Edition)

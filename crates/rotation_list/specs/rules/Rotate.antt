@@ -21,7 +21,7 @@ use Rattle.rotation_list.specs.declared.Turn.{Turn}
 unfoldable pub rotated_star : Matrix → Float → Star → Answer Pair
 rotated_star m years star = unless (star_refusal star years) (rotated_in m (asc_of star years) (dec_of star years))
 
--- two stars side by side, every float of both fixed whatever is refused; `first-star` and `second-star` in laws/Star say that each has
+-- two stars side by side, every float of both fixed whatever is refused; `first_star` and `second_star` in laws/Star say that each has
 -- the place that it has alone
 unfoldable pub two_stars_rotated : Matrix → Float → Star → Star → Places
 two_stars_rotated m years a b =

@@ -1,6 +1,6 @@
 -- `signed::signed_of` meets its contract.
 use borrow.Author.Rules.{rules}
-use Rattle.signed.proofs.Cases.{fits-high, signed_high}
+use Rattle.signed.proofs.Cases.{fits_high, signed_high}
 use Rattle.signed.proofs.signed_of.Statement.{statement}
 use Rattle.signed.proofs.signed_of.Tie as tie
 
@@ -14,7 +14,7 @@ cast-result-2 : tie.Need-overflow-cast-result-2
 cast-result-2 c = search rules
 
 sub-result-2 : tie.Need-overflow-sub-result-2
-sub-result-2 c = fits-high _ c.if1.false
+sub-result-2 c = fits_high _ c.if1.false
 
 returns : tie.Need-returns
 returns c = search rules

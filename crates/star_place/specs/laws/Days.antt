@@ -36,31 +36,31 @@ abbrev after : Float
 after = over 3182046 1
 
 module _ (day : Float) (none : day_refusal day ≡ 0) where
-  pub from-epoch : Between (neg days_around) days_around (day ⊖ epoch)
-  from-epoch = size→between days_around (day ⊖ epoch) (unfold is_finite of_bits in tt) (day_accepted day none)
+  pub from_epoch : Between (neg days_around) days_around (day ⊖ epoch)
+  from_epoch = size→between days_around (day ⊖ epoch) (unfold is_finite of_bits in tt) (day_accepted day none)
 
   not_after : after ≼ day → ⊥
   unfolding is_finite le neg add sub of_bits round
   not_after h =
       le_trans (after ⊖ epoch) (day ⊖ epoch) days_around
-      (sub_mono binary64 after day epoch epoch tt (finite_day day none) finite_epoch finite_epoch h (le_refl epoch finite_epoch)) from-epoch.to
+      (sub_mono binary64 after day epoch epoch tt (finite_day day none) finite_epoch finite_epoch h (le_refl epoch finite_epoch)) from_epoch.to
 
-  not-before : day ≼ before → ⊥
+  not_before : day ≼ before → ⊥
   unfolding is_finite le neg add sub of_bits round
-  not-before h =
-      le_trans (neg days_around) (day ⊖ epoch) (before ⊖ epoch) from-epoch.from
+  not_before h =
+      le_trans (neg days_around) (day ⊖ epoch) (before ⊖ epoch) from_epoch.from
       (sub_mono binary64 day before epoch epoch (finite_day day none) tt finite_epoch finite_epoch h (le_refl epoch finite_epoch))
 
-  pub day-between : Between before after day
-  day-between =
+  pub day_between : Between before after day
+  day_between =
       let F = finite_day day none in
       let B : Finite before = unfold is_finite round in tt in
       let A : Finite after = unfold is_finite round in tt in
-      between B A (elim (le_total before day B F) [ inl h ↦ h | inr h ↦ absurd (not-before h) ])
+      between B A (elim (le_total before day B F) [ inl h ↦ h | inr h ↦ absurd (not_before h) ])
       (elim (le_total day after F A) [ inl h ↦ h | inr h ↦ absurd (not_after h) ])
 
 pub years_within : (day1 day2 : Float) → day_refusal day1 ≡ 0 → day_refusal day2 ≡ 0
     → Between (neg (over 4001 1)) (over 4001 1) (years_between day1 day2)
 unfolding is_finite le neg add sub div of_bits round
 years_within day1 day2 first second =
-    bounded binary64 (neg (over 4001 1)) (over 4001 1) ((known (day-between day2 second) ⊟ known (day-between day1 first)) ⧄ con days_of_year) tt
+    bounded binary64 (neg (over 4001 1)) (over 4001 1) ((known (day_between day2 second) ⊟ known (day_between day1 first)) ⧄ con days_of_year) tt

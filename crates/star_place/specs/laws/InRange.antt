@@ -34,41 +34,41 @@ module _ (star : Star) (r : in_range star ≡ true) where
   abbrev slow : Bool
   slow = leb (nat_abs star.asc_rate) fastest && leb (nat_abs star.dec_rate) fastest
 
-  all-four : T (ltb star.asc turn && (leb (nat_abs star.dec) quarter && slow))
+  all_four : T (ltb star.asc turn && (leb (nat_abs star.dec) quarter && slow))
   unfolding in_range
-  all-four = holds r
+  all_four = holds r
 
-  last-three : T (leb (nat_abs star.dec) quarter && slow)
-  last-three = and_r (ltb star.asc turn) _ all-four
+  last_three : T (leb (nat_abs star.dec) quarter && slow)
+  last_three = and_r (ltb star.asc turn) _ all_four
 
-  both-rates : T slow
-  both-rates = and_r (leb (nat_abs star.dec) quarter) _ last-three
+  both_rates : T slow
+  both_rates = and_r (leb (nat_abs star.dec) quarter) _ last_three
 
-  pub asc-most : star.asc ≤ turn
-  asc-most = le_of_lt (ltb→lt star.asc turn (and_l (ltb star.asc turn) _ all-four))
+  pub asc_most : star.asc ≤ turn
+  asc_most = le_of_lt (ltb→lt star.asc turn (and_l (ltb star.asc turn) _ all_four))
 
-  pub dec-most : nat_abs star.dec ≤ quarter
-  dec-most = leb→le (nat_abs star.dec) quarter (and_l (leb (nat_abs star.dec) quarter) _ last-three)
+  pub dec_most : nat_abs star.dec ≤ quarter
+  dec_most = leb→le (nat_abs star.dec) quarter (and_l (leb (nat_abs star.dec) quarter) _ last_three)
 
-  asc-rate-most : nat_abs star.asc_rate ≤ fastest
-  asc-rate-most = leb→le (nat_abs star.asc_rate) fastest (and_l (leb (nat_abs star.asc_rate) fastest) _ both-rates)
+  asc_rate_most : nat_abs star.asc_rate ≤ fastest
+  asc_rate_most = leb→le (nat_abs star.asc_rate) fastest (and_l (leb (nat_abs star.asc_rate) fastest) _ both_rates)
 
-  dec-rate-most : nat_abs star.dec_rate ≤ fastest
-  dec-rate-most = leb→le (nat_abs star.dec_rate) fastest (and_r (leb (nat_abs star.asc_rate) fastest) _ both-rates)
+  dec_rate_most : nat_abs star.dec_rate ≤ fastest
+  dec_rate_most = leb→le (nat_abs star.dec_rate) fastest (and_r (leb (nat_abs star.asc_rate) fastest) _ both_rates)
 
 -- a count of either sign
 module _ (most : ℕ) (few : most ≤ quarter) (F : Finite (from_whole most)) where
-  unsigned-between : (n : ℕ) → n ≤ most → Between (neg (from_whole most)) (from_whole most) (from_whole n)
-  unsigned-between n h =
+  unsigned_between : (n : ℕ) → n ≤ most → Between (neg (from_whole most)) (from_whole most) (from_whole n)
+  unsigned_between n h =
       between_wider (rw (finite_neg (from_whole most)) F) F
       (minus_le_plus (from_whole most) zero (from_whole_plus most) (unfold of_bits in tt))
       (le_refl (from_whole most) F) (from_whole_between n most h (omega (arith, few)))
 
-  signed-between : (z : ℤ) → nat_abs z ≤ most → Between (neg (from_whole most)) (from_whole most) (of_int binary64 z)
+  signed_between : (z : ℤ) → nat_abs z ≤ most → Between (neg (from_whole most)) (from_whole most) (of_int binary64 z)
   unfolding of_int
-  signed-between (pos n) h = unsigned-between n h
-  signed-between (negsuc k) h =
-      rw (round_neg binary64 false (suc k) 1) (rw (neg_neg (from_whole most)) at (between_neg (unsigned-between (suc k) h)))
+  signed_between (pos n) h = unsigned_between n h
+  signed_between (negsuc k) h =
+      rw (round_neg binary64 false (suc k) 1) (rw (neg_neg (from_whole most)) at (between_neg (unsigned_between (suc k) h)))
 
 -- ---- its angles after some years
 
@@ -76,35 +76,35 @@ abbrev Years : Float → Type 0
 Years years = Between (neg (over 4001 1)) (over 4001 1) years
 
 module _ (star : Star) (r : in_range star ≡ true) (years : Float) (y : Years years) where
-  pub asc-near : size (asc_of star years).0 ≼ decimal 668 2
+  pub asc_near : size (asc_of star years).0 ≼ decimal 668 2
   unfolding is_finite le neg add mul div of_int of_bits round
-  asc-near =
+  asc_near =
       between→size (decimal 668 2) (asc_of star years).0
       (bounded binary64 (neg (decimal 668 2)) (decimal 668 2)
-      (known (from_whole_between star.asc turn (asc-most star r) (omega arith)) ⧄ con milliarcseconds_of_degree ⊠ con degree
-      ⊞ known (signed-between fastest (omega arith) tt star.asc_rate (asc-rate-most star r)) ⧄ con milliarcseconds_of_degree ⊠ con degree ⊠ known y) tt)
+      (known (from_whole_between star.asc turn (asc_most star r) (omega arith)) ⧄ con milliarcseconds_of_degree ⊠ con degree
+      ⊞ known (signed_between fastest (omega arith) tt star.asc_rate (asc_rate_most star r)) ⧄ con milliarcseconds_of_degree ⊠ con degree ⊠ known y) tt)
 
-  pub dec-between : Between (neg (over 2 1)) (over 2 1) (dec_of star years).0
+  pub dec_between : Between (neg (over 2 1)) (over 2 1) (dec_of star years).0
   unfolding is_finite le neg add mul div of_int of_bits round
-  dec-between =
+  dec_between =
       bounded binary64 (neg (over 2 1)) (over 2 1)
-      (known (signed-between quarter (omega arith) tt star.dec (dec-most star r)) ⧄ con milliarcseconds_of_degree ⊠ con degree
-      ⊞ known (signed-between fastest (omega arith) tt star.dec_rate (dec-rate-most star r)) ⧄ con milliarcseconds_of_degree ⊠ con degree ⊠ known y) tt
+      (known (signed_between quarter (omega arith) tt star.dec (dec_most star r)) ⧄ con milliarcseconds_of_degree ⊠ con degree
+      ⊞ known (signed_between fastest (omega arith) tt star.dec_rate (dec_rate_most star r)) ⧄ con milliarcseconds_of_degree ⊠ con degree ⊠ known y) tt
 
-  pub asc-taken : angle_refusal (asc_of star years) ≡ 0
+  pub asc_taken : angle_refusal (asc_of star years) ≡ 0
   unfolding angle_refusal
-  asc-taken =
+  asc_taken =
       past_none (asc_of star years).0 farthest 3 finite_farthest
-      (le_trans (size (asc_of star years).0) (decimal 668 2) farthest asc-near (unfold le of_bits round in tt))
+      (le_trans (size (asc_of star years).0) (decimal 668 2) farthest asc_near (unfold le of_bits round in tt))
 
   -- 3, or none
-  pub dec-refusal : latitude_refusal (dec_of star years) ≡ cond (lt HALF (size (dec_of star years).0)) 3 0
+  pub dec_refusal : latitude_refusal (dec_of star years) ≡ cond (lt HALF (size (dec_of star years).0)) 3 0
   unfolding latitude_refusal
-  dec-refusal = rw (is_true (is_finite (dec_of star years).0) dec-between.finite)
+  dec_refusal = rw (is_true (is_finite (dec_of star years).0) dec_between.finite)
 
 -- the declination of the record itself is at most HALF in size
 pub record_dec_near : (star : Star) → in_range star ≡ true → size (record_dec star).0 ≼ HALF
 unfolding is_finite le neg mul div of_int of_bits round
 record_dec_near star r =
-    let count = signed-between quarter (omega arith) tt star.dec (dec-most star r) in
+    let count = signed_between quarter (omega arith) tt star.dec (dec_most star r) in
     between→size HALF (record_dec star).0 (bounded binary64 (neg HALF) HALF (known count ⧄ con milliarcseconds_of_degree ⊠ con degree) tt)

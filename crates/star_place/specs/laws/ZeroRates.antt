@@ -25,7 +25,7 @@ use Rattle.helpers.specs.rules.Angle.{degree}
 use Rattle.list.specs.declared.Star.{Star}
 use Rattle.list.specs.rules.Record.{turn, in_range}
 use Rattle.star_place.specs.rules.Place.{angle_of, record_asc, record_dec, asc_of, dec_of}
-use Rattle.star_place.specs.laws.InRange.{asc-most, dec-most}
+use Rattle.star_place.specs.laws.InRange.{asc_most, dec_most}
 
 -- ---- a zero of either sign added to what is not −0.0
 
@@ -62,8 +62,8 @@ module _ (n : ℕ) (few : n ≤ turn) where
   unfolding is_finite le div of_int of_bits round
   quotient_between = bounded binary64 (over 0 1) (over 360 1) (known (from_whole_between n turn few (omega arith)) ⧄ con milliarcseconds_of_degree) tt
 
-  north-plus : Plus ((from_whole n ⊘ milliarcseconds_of_degree) ⊗ degree)
-  north-plus =
+  north_plus : Plus ((from_whole n ⊘ milliarcseconds_of_degree) ⊗ degree)
+  north_plus =
       mul_plus binary64 (from_whole n ⊘ milliarcseconds_of_degree) degree quotient_between.finite (unfold is_finite of_bits in tt)
       (div_plus binary64 (from_whole n) milliarcseconds_of_degree (from_whole_between n turn few (omega arith)).finite (from_whole_plus n) (unfold of_bits in tt))
       (unfold of_bits in tt)
@@ -78,7 +78,7 @@ module _ (n : ℕ) (few : n ≤ turn) where
 
 stays : (z : ℤ) → nat_abs z ≤ turn → (t : Bool) → (angle_of z).0 ⊕ nothing t ≡ (angle_of z).0
 unfolding of_int
-stays (pos n) few t = plus_nothing t _ (mul-fits binary64 _ _) (north-plus n few)
+stays (pos n) few t = plus_nothing t _ (mul-fits binary64 _ _) (north_plus n few)
 stays (negsuc k) few t =
     let north = (from_whole (suc k) ⊘ milliarcseconds_of_degree) ⊗ degree in
     let c = decimal 4 9 in
@@ -94,12 +94,12 @@ stays (negsuc k) few t =
 -- ---- so a star stays
 
 module _ (star : Star) (r : in_range star ≡ true) (years : Float) (F : Finite years) where
-  pub asc-stays : star.asc_rate ≡ pos 0 → asc_of star years ≡ record_asc star
-  asc-stays e =
+  pub asc_stays : star.asc_rate ≡ pos 0 → asc_of star years ≡ record_asc star
+  asc_stays e =
       ap (λ (rate : ℤ). rad ((record_asc star).0 ⊕ ((angle_of rate).0 ⊗ years))) e
-      ∙ ap rad (unmoved (record_asc star).0 (stays (pos star.asc) (asc-most star r)) years F)
+      ∙ ap rad (unmoved (record_asc star).0 (stays (pos star.asc) (asc_most star r)) years F)
 
-  pub dec-stays : star.dec_rate ≡ pos 0 → dec_of star years ≡ record_dec star
-  dec-stays e =
+  pub dec_stays : star.dec_rate ≡ pos 0 → dec_of star years ≡ record_dec star
+  dec_stays e =
       ap (λ (rate : ℤ). rad ((record_dec star).0 ⊕ ((angle_of rate).0 ⊗ years))) e
-      ∙ ap rad (unmoved (record_dec star).0 (stays star.dec (omega (arith, dec-most star r))) years F)
+      ∙ ap rad (unmoved (record_dec star).0 (stays star.dec (omega (arith, dec_most star r))) years F)

@@ -3,7 +3,7 @@ use borrow.Author.Rules.{rules}
 use mathlib.Core.Path.{ap, ◌∙◌}
 use lib.ListN.{set}
 use Rattle.double.specs.laws.Calls.{asks_nothing}
-use Rattle.star_store.specs.laws.StarStored.{status-is, first-star-stored, second-star-stored}
+use Rattle.star_store.specs.laws.StarStored.{status_is, first_star_stored, second_star_stored}
 use Rattle.star_store.proofs.put_star.Statement.{statement}
 use Rattle.star_store.proofs.put_star.Tie as tie
 
@@ -35,11 +35,11 @@ returns : tie.Need-returns
 returns c =
     let at-asc = c.before in
     let begin = at-asc.before.before.before.before.args in
-    let status = status-is begin.refusal begin.a begin.d in
+    let status = status_is begin.refusal begin.a begin.d in
     record {
       status_set = ap (set begin.status.now begin.i) status;
-      asc_set = ap (set begin.asc.now begin.i) (at-asc.stored-bits.ensures ∙ first-star-stored begin.refusal begin.a begin.d);
-      dec_set = ap (set begin.dec.now begin.i) (c.stored-bits2.ensures ∙ second-star-stored begin.refusal begin.a begin.d);
+      asc_set = ap (set begin.asc.now begin.i) (at-asc.stored-bits.ensures ∙ first_star_stored begin.refusal begin.a begin.d);
+      dec_set = ap (set begin.dec.now begin.i) (c.stored-bits2.ensures ∙ second_star_stored begin.refusal begin.a begin.d);
     }
 
 pub put-star-spec : {M : Type 1} → statement M

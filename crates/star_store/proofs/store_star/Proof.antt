@@ -4,7 +4,7 @@ use mathlib.Core.Path.{◌≡◌, ap, ◌∙◌}
 use Rattle.double.specs.laws.Calls.{asks_nothing}
 use Rattle.list_tally.specs.declared.Raised.{Raised}
 use Rattle.list_tally.specs.rules.Tally.{raise_rule}
-use Rattle.star_store.specs.laws.StarStored.{status-is}
+use Rattle.star_store.specs.laws.StarStored.{status_is}
 use Rattle.star_store.proofs.store_star.Statement.{statement}
 use Rattle.star_store.proofs.store_star.Tie as tie
 
@@ -14,7 +14,7 @@ returns c =
     let at-put = at-raise.before.before.before.before.before.before.before in
     let begin = at-put.before.before.before.before.before.before.before.args in
     let placed = at-put.put-star.ensures in
-    let status = status-is begin.refusal begin.a begin.d in
+    let status = status_is begin.refusal begin.a begin.d in
     let raised : at-raise.raise.result ≡ raise_rule begin.tally begin.refusal = at-raise.raise.ensures in
     record { raised = ap (λ (q : Raised). q.tally) (raised ∙ ap (raise_rule begin.tally) status); status_set = placed.status_set; asc_set = placed.asc_set; dec_set = placed.dec_set }
 

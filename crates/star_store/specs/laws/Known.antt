@@ -30,19 +30,19 @@ known_past : (x limit : Float) (n : ℕ) → n ≤ highest_status → past x lim
 known_past x limit n p = known_cond (is_finite x) _ 1 (known_cond (lt limit (size x)) n 0 p (omega arith)) (omega arith)
 
 module _ {A : Type 0} where
-  pub known-choice : (b : Bool) (p q : Answer A) → status_of p ≤ highest_status → status_of q ≤ highest_status
+  pub known_choice : (b : Bool) (p q : Answer A) → status_of p ≤ highest_status → status_of q ≤ highest_status
       → status_of (cond b p q) ≤ highest_status
-  known-choice true p q h k = h
-  known-choice false p q h k = k
+  known_choice true p q h k = h
+  known_choice false p q h k = k
 
-  pub known-unless : (n : ℕ) (a : Answer A) → n ≤ highest_status → status_of a ≤ highest_status → status_of (unless n a) ≤ highest_status
-  known-unless n a p q = known-choice (eqb n 0) a (refused n) q p
+  pub known_unless : (n : ℕ) (a : Answer A) → n ≤ highest_status → status_of a ≤ highest_status → status_of (unless n a) ≤ highest_status
+  known_unless n a p q = known_choice (eqb n 0) a (refused n) q p
 
-  pub known-then : {B : Type 0} (a : Answer A) (f : A → Answer B) → status_of a ≤ highest_status → ((x : A) → status_of (f x) ≤ highest_status)
+  pub known_then : {B : Type 0} (a : Answer A) (f : A → Answer B) → status_of a ≤ highest_status → ((x : A) → status_of (f x) ≤ highest_status)
       → status_of (then a f) ≤ highest_status
   unfolding then
-  known-then (answered x) f p q = q x
-  known-then (refused n) f p q = p
+  known_then (answered x) f p q = q x
+  known_then (refused n) f p q = p
 
 pub known_plus : (a : Answer Rad) (z : Rad) → status_of a ≤ highest_status → status_of (plus a z) ≤ highest_status
 unfolding plus
@@ -72,24 +72,24 @@ known_steep x = known_lower _ _ (known_latitude x) (known_past _ _ 4 (omega arit
 known_root : (x : Float) → status_of (root_rule x) ≤ highest_status
 unfolding root_rule
 known_root x =
-    known-unless (root_refusal x) _
+    known_unless (root_refusal x) _
     (known_cond (is_finite x) _ 1 (known_cond (lt x zero) 5 0 (omega arith) (omega arith)) (omega arith)) (omega arith)
 
 pub known_arctangent : (y x : Float) → status_of (arctangent_in y x) ≤ highest_status
 unfolding arctangent_in
-known_arctangent y x = known-choice (both_zero y x) (refused 14) _ (omega arith) (omega arith)
+known_arctangent y x = known_choice (both_zero y x) (refused 14) _ (omega arith) (omega arith)
 
 pub known_arcsine : (s : Float) → status_of (arcsine_in s) ≤ highest_status
 unfolding arcsine_in
 known_arcsine s =
-    known-choice (lt one (size s)) (refused 7) _ (omega arith)
-    (known-then _ _ (known_root _) (λ (r : Float). known_arctangent s r))
+    known_choice (lt one (size s)) (refused 7) _ (omega arith)
+    (known_then _ _ (known_root _) (λ (r : Float). known_arctangent s r))
 
 -- a star's own refusal, then what its place is answered
 pub known_star : {A : Type 0} (star : Star) (years : Float) (a : Answer A) → status_of a ≤ highest_status
     → status_of (unless (star_refusal star years) a) ≤ highest_status
 unfolding star_refusal
 known_star star years a h =
-    known-unless _ _
+    known_unless _ _
     (known_cond (is_kept star) _ 10 (known_cond (in_range star) _ 9 (known_latitude (dec_of star years)) (omega arith)) (omega arith))
     h

@@ -14,7 +14,7 @@ use Rattle.star_store.specs.rules.Star.{first_bits, second_bits}
 use Rattle.star_store.specs.rules.Stored.{answers_by, StarsStored}
 use Rattle.star_store.specs.notions.Accepted.{Accepted}
 use Rattle.star_store.specs.notions.StarStored.{StarStored, Begun, Upto}
-use Rattle.star_store.specs.laws.Stored.{accepted, how-many, value, raised_at, raised_all}
+use Rattle.star_store.specs.laws.Stored.{accepted, how_many_lem, value, raised_at, raised_all}
 
 -- values over a slice's front
 abbrev laid : {A : Type 0} → (Answer Pair → A) → List A → List (Answer Pair) → List A
@@ -23,28 +23,28 @@ laid f old l = map f l ++ drop (length (map f l)) old
 -- ---- what is stored of a place by its refusal number
 
 by_number : {A : Type 0} (f : Answer Pair → A) (n : ℕ) (p : Pair) → cond (eqb n 0) (f (answered p)) (f (refused n)) ≡ f (unless n (answered p))
-by_number f n p = by-case (eqb n 0)
+by_number f n p = by_case (eqb n 0)
   where
-    by-case : (b : Bool) → cond b (f (answered p)) (f (refused n)) ≡ f (cond b (answered p) (refused n))
-    by-case true = refl
-    by-case false = refl
+    by_case : (b : Bool) → cond b (f (answered p)) (f (refused n)) ≡ f (cond b (answered p) (refused n))
+    by_case true = refl
+    by_case false = refl
 
 module _ (n : ℕ) (a d : Float) where
   abbrev place : Answer Pair
   place = unless n (answered (pair a d))
 
-  pub status-is : n ≡ status_of place
-  status-is = by-case (eqb n 0) (eqb→eq n 0) ∙ by_number status_of n (pair a d)
+  pub status_is : n ≡ status_of place
+  status_is = by_case (eqb n 0) (eqb→eq n 0) ∙ by_number status_of n (pair a d)
     where
-      by-case : (b : Bool) → (T b → n ≡ 0) → n ≡ cond b 0 n
-      by-case true h = h tt
-      by-case false h = refl
+      by_case : (b : Bool) → (T b → n ≡ 0) → n ≡ cond b 0 n
+      by_case true h = h tt
+      by_case false h = refl
 
-  pub first-star-stored : cond (eqb n 0) (pattern_of a) (pattern_of zero) ≡ first_bits place
-  first-star-stored = by_number first_bits n (pair a d)
+  pub first_star_stored : cond (eqb n 0) (pattern_of a) (pattern_of zero) ≡ first_bits place
+  first_star_stored = by_number first_bits n (pair a d)
 
-  pub second-star-stored : cond (eqb n 0) (pattern_of d) (pattern_of zero) ≡ second_bits place
-  second-star-stored = by_number second_bits n (pair a d)
+  pub second_star_stored : cond (eqb n 0) (pattern_of d) (pattern_of zero) ≡ second_bits place
+  second_star_stored = by_number second_bits n (pair a d)
 
 -- ---- a call that is not refused, from its first star to its last
 
@@ -53,13 +53,13 @@ module _ {rule : Star → Answer Pair} {s : List ℕ} {day1 day2 : Float} {statu
   allowed = accepted s day1 day2 (length status₀) (length asc₀) (length dec₀) b.none
 
   all : {A : Type 0} (f : Answer Pair → A) → length (map f (answers_by rule s)) ≡ count_of s
-  all f = how-many f rule s
+  all f = how_many_lem f rule s
 
-  pub few-stars : count_of s ≤ most_stars
-  few-stars = few s allowed.list
+  pub few_stars : count_of s ≤ most_stars
+  few_stars = few s allowed.list
 
-  pub no-star-stored : (tally : Tally) → tally ≡ empty → Upto rule s status₀ asc₀ dec₀ 0 tally status₀ asc₀ dec₀
-  no-star-stored tally e =
+  pub no_star_stored : (tally : Tally) → tally ≡ empty → Upto rule s status₀ asc₀ dec₀ 0 tally status₀ asc₀ dec₀
+  no_star_stored tally e =
       record {
         counted = e;
         statuses = start _ _ _ (all status_of) allowed.statuses;
@@ -69,9 +69,9 @@ module _ {rule : Star → Answer Pair} {s : List ℕ} {day1 day2 : Float} {statu
 
   module _ {i : ℕ} {tally : Tally} {status asc dec : List ℕ} (u : Upto rule s status₀ asc₀ dec₀ i tally status asc dec) where
     -- each star has its place
-    pub places-there : (j : ℕ) → j < count_of s → (j < most_stars) × ((j < length status) × ((j < length asc) × (j < length dec)))
-    places-there j h = (
-      omega (arith, few-stars),
+    pub places_there : (j : ℕ) → j < count_of s → (j < most_stars) × ((j < length status) × ((j < length asc) × (j < length dec)))
+    places_there j h = (
+      omega (arith, few_stars),
       (
         omega (arith, u.statuses.long, allowed.statuses),
         (omega (arith, u.ascs.long, allowed.ascs), omega (arith, u.decs.long, allowed.decs)),
@@ -79,9 +79,9 @@ module _ {rule : Star → Answer Pair} {s : List ℕ} {day1 day2 : Float} {statu
     )
 
     -- star i stored next
-    pub one-star-stored : {a : Answer Pair} {tally' : Tally} {status' asc' dec' : List ℕ} → i < count_of s → a ≡ rule (nth s i)
+    pub one_star_stored : {a : Answer Pair} {tally' : Tally} {status' asc' dec' : List ℕ} → i < count_of s → a ≡ rule (nth s i)
         → StarStored i a tally status asc dec tally' status' asc' dec' → Upto rule s status₀ asc₀ dec₀ (i + 1) tally' status' asc' dec'
-    one-star-stored {a} h e k =
+    one_star_stored {a} h e k =
         record {
           counted = k.raised ∙ raised_at rule b.known s allowed.list i h tally (status_of a) (raise_rule tally (status_of a)) u.counted (ap status_of e) refl;
           statuses = rw k.status_set (store _ _ _ (all status_of) _ i _ _ h u.statuses (ap status_of e ∙ value status_of rule s i));
@@ -90,9 +90,9 @@ module _ {rule : Star → Answer Pair} {s : List ℕ} {day1 day2 : Float} {statu
         }
 
     -- no star is left, and the answers are those of the rule that is promised
-    pub all-stars-stored : {promise : Star → Answer Pair} → answers_by rule s ≡ answers_by promise s → i ≡ count_of s
+    pub all_stars_stored : {promise : Star → Answer Pair} → answers_by rule s ≡ answers_by promise s → i ≡ count_of s
         → StarsStored promise s day1 day2 status₀ asc₀ dec₀ (record { refusal = 0; tally = tally }) status asc dec
-    all-stars-stored same end =
+    all_stars_stored same end =
         let goes = eq-eqb _ 0 b.none in
         let every = raised_all rule b.known s i end in
         record {

@@ -11,15 +11,15 @@ use Rattle.double.specs.laws.ReadBack.{bits_pattern}
 use Rattle.quantity.specs.rules.Answer.{Answer, Pair, status_of}
 use Rattle.precess_angles.specs.rules.Days.{days_refusal}
 use Rattle.lent.specs.laws.Flags.{both_hold}
-use Rattle.lent.specs.laws.Upto.{getD-upto}
+use Rattle.lent.specs.laws.Upto.{get_d_upto}
 use Rattle.list.specs.declared.Star.{Star}
 use Rattle.list.specs.rules.Stars.{is_list, count_of, stars, nought, nth}
-use Rattle.list.specs.laws.Stars.{length-stars, few}
+use Rattle.list.specs.laws.Stars.{length_stars, few}
 use Rattle.list_tally.specs.declared.Raised.{Raised}
 use Rattle.list_tally.specs.declared.Tally.{Tally}
 use Rattle.list_tally.specs.rules.Status.{highest_status}
 use Rattle.list_tally.specs.rules.Tally.{counts_in_all, raise_rule, times, tally_of, empty, raised_by, AllKnown}
-use Rattle.list_tally.specs.laws.Tally.{times_most, raise-more, counts_all}
+use Rattle.list_tally.specs.laws.Tally.{times_most, raise_more, counts_all}
 use Rattle.star_store.specs.declared.Tallied.{Tallied}
 use Rattle.star_store.specs.rules.Star.{first_of, second_of, first_bits, second_bits}
 use Rattle.star_store.specs.rules.Stored.{has_room, store_refusal, answers_by, statuses_by, lent_rule, StarsStored}
@@ -56,8 +56,8 @@ module _ {A : Type 0} (f : Answer Pair → A) (answer : Star → Answer Pair) (s
   abbrev values : List A
   values = map f (map answer (stars s))
 
-  pub how-many : length values ≡ count_of s
-  how-many = length-map (map answer (stars s)) f ∙ length-map (stars s) answer ∙ length-stars s
+  pub how_many_lem : length values ≡ count_of s
+  how_many_lem = length-map (map answer (stars s)) f ∙ length-map (stars s) answer ∙ length_stars s
 
   pub value : (i : ℕ) → f (answer (nth s i)) ≡ get_or values i (f (answer nought))
   value i = sym (get_or-map f (map answer (stars s)) i (answer nought) ∙ ap f (get_or-map answer (stars s) i nought))
@@ -65,7 +65,7 @@ module _ {A : Type 0} (f : Answer Pair → A) (answer : Star → Answer Pair) (s
   -- the same at any default, in a slice whose front is the values
   pub stored : (old : List A) (i : ℕ) (d : A) → i < count_of s → get_or (values ++ drop (length values) old) i d ≡ f (answer (nth s i))
   stored old i d h =
-      let k : i < length values = omega (arith, how-many) in
+      let k : i < length values = omega (arith, how_many_lem) in
       get_or-append values (drop (length values) old) d i k ∙ any_default values i d (f (answer nought)) k ∙ sym (value i)
 
 -- ---- the tally
@@ -86,25 +86,25 @@ module _ (answer : Star → Answer Pair) (known : (star : Star) → status_of (a
       → t ≡ tally_of (take i statuses) → x ≡ status_of (answer (nth s i)) → r ≡ raise_rule t x
       → r.tally ≡ tally_of (take (i + 1) statuses)
   raised_at whole i h t x r before status raised =
-      let all = how-many status_of answer s in
+      let all = how_many_lem status_of answer s in
       let few-before = length-take-le i statuses (omega arith) in
       ap (λ (q : Raised). q.tally)
       (raised ∙ ap (λ (q : Tally). raise_rule q x) before
-      ∙ raise-more (take i statuses) x (rw status (known (nth s i))) (omega (arith, times_most x (take i statuses), few-before, few s whole)))
+      ∙ raise_more (take i statuses) x (rw status (known (nth s i))) (omega (arith, times_most x (take i statuses), few-before, few s whole)))
       ∙ ap tally_of
       (ap (λ (n : ℕ). take i statuses ++ (n ∷ [])) (status ∙ value status_of answer s i)
       ∙ sym (rw add-one (take-suc statuses i (status_of (answer nought)) (omega arith))))
 
   -- after the last pass
   pub raised_all : (i : ℕ) → i ≡ count_of s → take i statuses ≡ statuses
-  raised_all i e = ap (λ (n : ℕ). take n statuses) (e ∙ sym (how-many status_of answer s)) ∙ take-length statuses
+  raised_all i e = ap (λ (n : ℕ). take n statuses) (e ∙ sym (how_many_lem status_of answer s)) ∙ take-length statuses
 
 -- ---- what the rule of a call says of its slices and its tally, and that it fixes all
 
 module _ {rule : Star → Answer Pair} {s : List ℕ} {day1 day2 : Float} {status asc dec : List ℕ} {r : Tallied} {status' asc' dec' : List ℕ} (b : StarsStored rule s day1 day2 status asc dec r status' asc' dec') where
   module _ (none : store_refusal s day1 day2 (length status) (length asc) (length dec) ≡ 0) where
-    pub tally-is : r.tally ≡ tally_of (statuses_by rule s)
-    tally-is =
+    pub tally_is : r.tally ≡ tally_of (statuses_by rule s)
+    tally_is =
         ap (λ (q : Tallied). q.tally) b.answer
         ∙ ap (λ (t : Bool). cond t (tally_of (statuses_by rule s)) empty) (eq-eqb _ 0 none)
 
@@ -115,51 +115,51 @@ module _ {rule : Star → Answer Pair} {s : List ℕ} {day1 day2 : Float} {statu
     front new old cur e = e ∙ ap (λ (t : Bool). cond t (new ++ drop (length new) old) old) (eq-eqb _ 0 none)
 
     -- star i's status and angles are the rule's at that star
-    pub status-at : (i : ℕ) → i < count_of s → get_or status' i 0 ≡ status_of (rule (nth s i))
-    status-at i h =
+    pub status_at : (i : ℕ) → i < count_of s → get_or status' i 0 ≡ status_of (rule (nth s i))
+    status_at i h =
         ap (λ (l : List ℕ). get_or l i 0) (front (statuses_by rule s) status status' b.statuses)
         ∙ stored status_of rule s status i 0 h
 
-    pub asc-at : (i : ℕ) → i < count_of s → get_or asc' i 0 ≡ first_bits (rule (nth s i))
-    asc-at i h =
+    pub asc_at : (i : ℕ) → i < count_of s → get_or asc' i 0 ≡ first_bits (rule (nth s i))
+    asc_at i h =
         ap (λ (l : List ℕ). get_or l i 0) (front (map first_bits (answers_by rule s)) asc asc' b.ascs)
         ∙ stored first_bits rule s asc i 0 h
 
-    pub dec-at : (i : ℕ) → i < count_of s → get_or dec' i 0 ≡ second_bits (rule (nth s i))
-    dec-at i h =
+    pub dec_at : (i : ℕ) → i < count_of s → get_or dec' i 0 ≡ second_bits (rule (nth s i))
+    dec_at i h =
         ap (λ (l : List ℕ). get_or l i 0) (front (map second_bits (answers_by rule s)) dec dec' b.decs)
         ∙ stored second_bits rule s dec i 0 h
 
     -- the angles read back from their bits
     module _ (held : (star : Star) → Held (rule star)) where
-      pub asc-read : (i : ℕ) → i < count_of s → bits (get_or asc' i 0) ≡ first_of (rule (nth s i))
-      asc-read i h = ap bits (asc-at i h) ∙ bits_pattern _ (held (nth s i)).0
+      pub asc_read : (i : ℕ) → i < count_of s → bits (get_or asc' i 0) ≡ first_of (rule (nth s i))
+      asc_read i h = ap bits (asc_at i h) ∙ bits_pattern _ (held (nth s i)).0
 
-      pub dec-read : (i : ℕ) → i < count_of s → bits (get_or dec' i 0) ≡ second_of (rule (nth s i))
-      dec-read i h = ap bits (dec-at i h) ∙ bits_pattern _ (held (nth s i)).1
+      pub dec_read : (i : ℕ) → i < count_of s → bits (get_or dec' i 0) ≡ second_of (rule (nth s i))
+      dec_read i h = ap bits (dec_at i h) ∙ bits_pattern _ (held (nth s i)).1
 
     -- the slice's first bytes are the stars' statuses
-    bytes-are : take (count_of s) status' ≡ statuses_by rule s
-    bytes-are =
+    bytes_are : take (count_of s) status' ≡ statuses_by rule s
+    bytes_are =
         ap (take (count_of s)) (front (statuses_by rule s) status status' b.statuses)
-        ∙ take_at (statuses_by rule s) (drop (length (statuses_by rule s)) status) (count_of s) (how-many status_of rule s)
+        ∙ take_at (statuses_by rule s) (drop (length (statuses_by rule s)) status) (count_of s) (how_many_lem status_of rule s)
 
     -- each count is the number of status bytes of that value
-    pub tally-counts-bytes : (k : ℕ) → k < counts_in_all → get_or r.tally.counts k 0 ≡ times k (take (count_of s) status')
+    pub tally_counts_bytes : (k : ℕ) → k < counts_in_all → get_or r.tally.counts k 0 ≡ times k (take (count_of s) status')
     unfolding tally_of
-    tally-counts-bytes k h =
-        ap (λ (t : Tally). get_or t.counts k 0) tally-is
-        ∙ getD-upto counts_in_all (λ (j : ℕ). times j (statuses_by rule s)) k 0 h
-        ∙ ap (times k) (sym bytes-are)
+    tally_counts_bytes k h =
+        ap (λ (t : Tally). get_or t.counts k 0) tally_is
+        ∙ get_d_upto counts_in_all (λ (j : ℕ). times j (statuses_by rule s)) k 0 h
+        ∙ ap (times k) (sym bytes_are)
 
     -- the tally is the empty one, raised by each star's status in the list's order
-    pub tally-raised : ((star : Star) → status_of (rule star) ≤ highest_status) → r.tally ≡ raised_by empty (statuses_by rule s)
-    tally-raised known =
-        tally-is
-        ∙ sym (counts_all (statuses_by rule s) (all_known rule known s) (omega (arith, how-many status_of rule s, few s (accepted s day1 day2 (length status) (length asc) (length dec) none).list)))
+    pub tally_raised : ((star : Star) → status_of (rule star) ≤ highest_status) → r.tally ≡ raised_by empty (statuses_by rule s)
+    tally_raised known =
+        tally_is
+        ∙ sym (counts_all (statuses_by rule s) (all_known rule known s) (omega (arith, how_many_lem status_of rule s, few s (accepted s day1 day2 (length status) (length asc) (length dec) none).list)))
 
   -- two calls that meet one contract answer alike and leave the slices alike
-  pub stored-fixes-all : {q : Tallied} {status'' asc'' dec'' : List ℕ}
+  pub stored_fixes_all : {q : Tallied} {status'' asc'' dec'' : List ℕ}
       → StarsStored rule s day1 day2 status asc dec q status'' asc'' dec''
       → (r ≡ q) × ((status' ≡ status'') × ((asc' ≡ asc'') × (dec' ≡ dec'')))
-  stored-fixes-all d = (b.answer ∙ sym d.answer, (b.statuses ∙ sym d.statuses, (b.ascs ∙ sym d.ascs, b.decs ∙ sym d.decs)))
+  stored_fixes_all d = (b.answer ∙ sym d.answer, (b.statuses ∙ sym d.statuses, (b.ascs ∙ sym d.ascs, b.decs ∙ sym d.decs)))

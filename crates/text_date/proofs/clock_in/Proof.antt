@@ -1,7 +1,7 @@
 -- `text_date::clock_in` meets its contract.
 use borrow.Author.Rules.{rules}
 use Rattle.double.specs.laws.Calls.{asks_nothing}
-use Rattle.text_date.specs.laws.Steps.{no-hour, no-minute, no_second, no_fraction, timed-by}
+use Rattle.text_date.specs.laws.Steps.{no_hour, no_minute, no_second, no_fraction, timed_by}
 use Rattle.text_date.proofs.clock_in.Statement.{statement}
 use Rattle.text_date.proofs.clock_in.Tie as tie
 
@@ -12,7 +12,7 @@ returns c =
     let p2 = p3.before in
     let p1 = p2.before in
     let a = p1.before.before.args in
-    no-hour a.text.now a.n _ _ _ _ p1.pair.ensures p2.pair2.ensures p3.pair3.ensures f.fraction.ensures
+    no_hour a.text.now a.n _ _ _ _ p1.pair.ensures p2.pair2.ensures p3.pair3.ensures f.fraction.ensures
     c.if1.true
 
 returns-2 : tie.Need-returns-2
@@ -22,7 +22,7 @@ returns-2 c =
     let p2 = p3.before in
     let p1 = p2.before in
     let a = p1.before.before.args in
-    no-minute a.text.now a.n _ _ _ _ p1.pair.ensures p2.pair2.ensures p3.pair3.ensures f.fraction.ensures
+    no_minute a.text.now a.n _ _ _ _ p1.pair.ensures p2.pair2.ensures p3.pair3.ensures f.fraction.ensures
     c.before.if1.false c.if2.true
 
 returns-3 : tie.Need-returns-3
@@ -52,7 +52,7 @@ returns-5 c =
     let p2 = p3.before in
     let p1 = p2.before in
     let a = p1.before.before.args in
-    timed-by a.text.now a.n _ _ _ _ p1.pair.ensures p2.pair2.ensures p3.pair3.ensures f.fraction.ensures
+    timed_by a.text.now a.n _ _ _ _ p1.pair.ensures p2.pair2.ensures p3.pair3.ensures f.fraction.ensures
     c.before.before.before.if1.false c.before.before.if2.false c.before.if3.false c.if4.false
 
 pub clock-in-spec : {M : Type 1} → statement M

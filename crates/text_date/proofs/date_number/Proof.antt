@@ -4,7 +4,7 @@ use borrow.Author.Tests.{eq-eqb, ne_eqb}
 use mathlib.Core.Path.{ap, ◌∙◌}
 use Rattle.double.specs.laws.Calls.{asks_nothing}
 use Rattle.text_date.specs.rules.Date.{from_number, date_of}
-use Rattle.text_date.specs.laws.Steps.{no-year, no-month, no-day, dated-by}
+use Rattle.text_date.specs.laws.Steps.{no_year, no_month_lem, no_day_lem, dated_by}
 use Rattle.text_date.proofs.date_number.Statement.{statement}
 use Rattle.text_date.proofs.date_number.Tie as tie
 
@@ -24,7 +24,7 @@ returns-3 c =
     let e2 = y.before in
     let e1 = e2.before.before in
     let text = e1.before.before.before.args.text.now in
-    no-year text _ 0 0 e1.if1.false e2.if2.false y.year.ensures c.if3.true
+    no_year text _ 0 0 e1.if1.false e2.if2.false y.year.ensures c.if3.true
 
 returns-4 : tie.Need-returns-4
 returns-4 c =
@@ -34,7 +34,7 @@ returns-4 c =
     let e2 = y.before in
     let e1 = e2.before.before in
     let text = e1.before.before.before.args.text.now in
-    no-month text _ _ 0 e1.if1.false e2.if2.false y.year.ensures c.before.if3.false p1.pair.ensures c.if4.true
+    no_month_lem text _ _ 0 e1.if1.false e2.if2.false y.year.ensures c.before.if3.false p1.pair.ensures c.if4.true
 
 returns-5 : tie.Need-returns-5
 returns-5 c =
@@ -44,7 +44,7 @@ returns-5 c =
     let e2 = y.before in
     let e1 = e2.before.before in
     let text = e1.before.before.before.args.text.now in
-    no-day text _ _ _ e1.if1.false e2.if2.false y.year.ensures c.before.before.if3.false p1.pair.ensures c.before.if4.false
+    no_day_lem text _ _ _ e1.if1.false e2.if2.false y.year.ensures c.before.before.if3.false p1.pair.ensures c.before.if4.false
     p2.pair2.ensures c.if5.true
 
 returns-6 : tie.Need-returns-6
@@ -58,7 +58,7 @@ returns-6 c =
     let text = e1.before.before.before.args.text.now in
     c.by-calendar.ensures
     ∙ ap from_number d.day_number.ensures
-    ∙ dated-by text _ _ _ e1.if1.false e2.if2.false y.year.ensures d.before.before.before.if3.false p1.pair.ensures
+    ∙ dated_by text _ _ _ e1.if1.false e2.if2.false y.year.ensures d.before.before.before.if3.false p1.pair.ensures
     d.before.before.if4.false p2.pair2.ensures d.before.if5.false
 
 pub date-number-spec : {M : Type 1} → statement M

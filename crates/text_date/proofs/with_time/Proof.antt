@@ -4,7 +4,7 @@ use borrow.Author.Tests.{eq-eqb, ne_eqb}
 use mathlib.Core.Path.{sym, ◌∙◌}
 use Rattle.double.specs.laws.Calls.{asks_nothing}
 use Rattle.text_date.specs.rules.Time.{with_time}
-use Rattle.text_date.specs.laws.Steps.{set, unset, clock_long, no-clock, no-fraction-form, formed}
+use Rattle.text_date.specs.laws.Steps.{set, unset, clock_long, no_clock, no_fraction_form, formed}
 use Rattle.text_date.proofs.with_time.Statement.{statement}
 use Rattle.text_date.proofs.with_time.Tie as tie
 
@@ -20,7 +20,7 @@ returns-3 : tie.Need-returns-3
 returns-3 c =
     let k = c.before in
     let t = k.before in
-    no-clock _ _ t.before.before.if1.false t.if2.false _ k.is-clock.ensures (unset _ c.if3.true)
+    no_clock _ _ t.before.before.if1.false t.if2.false _ k.is-clock.ensures (unset _ c.if3.true)
 
 is-fraction-requires : tie.Need-is-fraction-requires
 is-fraction-requires c κs = clock_long _ (sym c.before.is-clock.ensures ∙ set _ c.if3.false)
@@ -31,7 +31,7 @@ returns-4 c =
     let i = f.before in
     let k = i.before in
     let t = k.before in
-    no-fraction-form _ _ t.before.before.if1.false t.if2.false _ k.is-clock.ensures (set _ i.if3.false)
+    no_fraction_form _ _ t.before.before.if1.false t.if2.false _ k.is-clock.ensures (set _ i.if3.false)
     _ f.is-fraction.ensures (unset _ c.if4.true)
 
 clock-in-requires : tie.Need-clock-in-requires

@@ -80,9 +80,9 @@ module _ (text : List ℕ) (n : ℕ) where
   numbered number.no_month p e = absurd (differ e)
   numbered number.no_day p e = absurd (differ e)
 
-  date-taken : date_of text ≡ is n → Taken (written text) n
+  date_taken : date_of text ≡ is n → Taken (written text) n
   unfolding date_of
-  date-taken e =
+  date_taken e =
       by_tests (eqb (at text 4) minus_sign) (eqb (at text 7) minus_sign) (ltb (year_at text) missing) (ltb (pair_at text 5) 100) (ltb (pair_at text 8) 100) e
     where
       by_tests : (a b c d e : Bool)
@@ -109,18 +109,18 @@ module _ (text : List ℕ) (m n t : ℕ) (D : Taken (written text) m) (from : fi
   at_time : (k : ℕ) → k < 86400000 → ◌≡◌ {A = Reading Time} (is (on m k)) (is (on n t)) → TimeSaid text n t
   at_time k h e =
       let p = same_number e in
-      let q = same-millis e in
+      let q = same_millis e in
       record { valid = D.valid; number = sym p ∙ D.number; from = omega arith; to = omega arith; in_day = omega arith }
     where
       same_number : {k : ℕ} → ◌≡◌ {A = Reading Time} (is (on m k)) (is (on n t)) → m ≡ n
       same_number e = cc
 
-      same-millis : {k : ℕ} → ◌≡◌ {A = Reading Time} (is (on m k)) (is (on n t)) → k ≡ t
-      same-millis e = cc
+      same_millis : {k : ℕ} → ◌≡◌ {A = Reading Time} (is (on m k)) (is (on n t)) → k ≡ t
+      same_millis e = cc
 
-  clock-said : clock_in text m ≡ is (on n t) → TimeSaid text n t
+  clock_said : clock_in text m ≡ is (on n t) → TimeSaid text n t
   unfolding clock_in
-  clock-said e =
+  clock_said e =
       by_tests (ltb (pair_at text 11) 24) (ltb (pair_at text 14) 60) (ltb (pair_at text 17) 60) (ltb (fraction_of text) 1000) refl refl refl refl e
     where
       by_tests : (a b c d : Bool) → ltb (pair_at text 11) 24 ≡ a → ltb (pair_at text 14) 60 ≡ b → ltb (pair_at text 17) 60 ≡ c → ltb (fraction_of text) 1000 ≡ d
@@ -140,9 +140,9 @@ module _ (text : List ℕ) (m n t : ℕ) (D : Taken (written text) m) (from : fi
       by_tests true true true true p q r s e =
           at_time _ (in_day _ _ _ _ (ltb-true _ _ p) (ltb-true _ _ q) (ltb-true _ _ r) (ltb-true _ _ s)) e
 
-  form-said : with_time text m ≡ is (on n t) → TimeSaid text n t
+  form_said : with_time text m ≡ is (on n t) → TimeSaid text n t
   unfolding with_time
-  form-said e = by_tests (eqb (at text 10) letter_t) (eqb (at text (length text - 1)) letter_z) (is_clock text) (is_fraction text) e
+  form_said e = by_tests (eqb (at text 10) letter_t) (eqb (at text (length text - 1)) letter_z) (is_clock text) (is_fraction text) e
     where
       by_tests : (a b c d : Bool) → cond a (cond b (cond c (cond d (clock_in text m) (none NoFraction)) (none NoTime)) (none NoZ)) (none NoTime) ≡ is (on n t)
           → TimeSaid text n t
@@ -150,7 +150,7 @@ module _ (text : List ℕ) (m n t : ℕ) (D : Taken (written text) m) (from : fi
       by_tests true false c d e = absurd (differ e)
       by_tests true true false d e = absurd (differ e)
       by_tests true true true false e = absurd (differ e)
-      by_tests true true true true e = clock-said e
+      by_tests true true true true e = clock_said e
 
 -- ---- both
 
@@ -164,7 +164,7 @@ number_said text m n t D e = by_tests (ltb m first_number) (ltb last_number m) (
     by_tests true b c p q e = absurd (differ e)
     by_tests false true c p q e = absurd (differ e)
     by_tests false false true p q e = at_time text m n t D (ltb-false m first_number p) (ltb-false last_number m q) 0 (omega arith) e
-    by_tests false false false p q e = form-said text m n t D (ltb-false m first_number p) (ltb-false last_number m q) e
+    by_tests false false false p q e = form_said text m n t D (ltb-false m first_number p) (ltb-false last_number m q) e
 
 pub time_said : (text : List ℕ) (n t : ℕ) → time_rule text ≡ is (on n t) → TimeSaid text n t
 unfolding time_rule
@@ -173,7 +173,7 @@ time_said text n t e = by_tests (ltb (length text) 10) (date_of text) refl e
     by_tests : (a : Bool) (r : Reading ℕ) → date_of text ≡ r → cond a (none NoDate) (after_date text r) ≡ is (on n t) → TimeSaid text n t
     by_tests true r p e = absurd (differ e)
     by_tests false (none k) p e = absurd (differ e)
-    by_tests false (is m) p e = number_said text m n t (date-taken text m p) e
+    by_tests false (is m) p e = number_said text m n t (date_taken text m p) e
 
 -- the Julian day of it, where UT1 − UTC is 0.9 seconds in size at most
 pub record Said (text : List ℕ) (dut1 : ℤ) (x : Float) : Type 0 where

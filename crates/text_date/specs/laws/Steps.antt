@@ -35,37 +35,37 @@ use Rattle.text_date.specs.rules.Moment.{moment_rule}
 -- ---- the date
 
 module _ (text : List ℕ) (y m d : ℕ) (e4 : at text 4 ≡ minus_sign) (e7 : at text 7 ≡ minus_sign) (ey : y ≡ year_at text) where
-  pub no-year : missing ≤ y → none NoDate ≡ date_of text
+  pub no_year : missing ≤ y → none NoDate ≡ date_of text
   unfolding date_of
-  no-year h = rw (eq-eqb (at text 4) minus_sign e4, eq-eqb (at text 7) minus_sign e7, ← ey, le-ltb y missing h)
+  no_year h = rw (eq-eqb (at text 4) minus_sign e4, eq-eqb (at text 7) minus_sign e7, ← ey, le-ltb y missing h)
 
   module _ (hy : y < missing) (em : m ≡ pair_at text 5) where
-    pub no-month : 100 ≤ m → none NoMonth ≡ date_of text
+    pub no_month_lem : 100 ≤ m → none NoMonth ≡ date_of text
     unfolding date_of
-    no-month h = rw (eq-eqb (at text 4) minus_sign e4, eq-eqb (at text 7) minus_sign e7, ← ey, lt-ltb y missing hy, ← em, le-ltb m 100 h)
+    no_month_lem h = rw (eq-eqb (at text 4) minus_sign e4, eq-eqb (at text 7) minus_sign e7, ← ey, lt-ltb y missing hy, ← em, le-ltb m 100 h)
 
     module _ (hm : m < 100) (ed : d ≡ pair_at text 8) where
-      pub no-day : 100 ≤ d → none NoDay ≡ date_of text
+      pub no_day_lem : 100 ≤ d → none NoDay ≡ date_of text
       unfolding date_of
-      no-day h =
+      no_day_lem h =
           rw (eq-eqb (at text 4) minus_sign e4, eq-eqb (at text 7) minus_sign e7, ← ey, lt-ltb y missing hy, ← em, lt-ltb m 100 hm, ← ed, le-ltb d 100 h)
 
-      pub dated-by : d < 100 → from_number (number_rule (date y m d)) ≡ date_of text
+      pub dated_by : d < 100 → from_number (number_rule (date y m d)) ≡ date_of text
       unfolding date_of
-      dated-by h =
+      dated_by h =
           rw (eq-eqb (at text 4) minus_sign e4, eq-eqb (at text 7) minus_sign e7, ← ey, lt-ltb y missing hy, ← em, lt-ltb m 100 hm, ← ed, lt-ltb d 100 h)
 
 -- ---- the time
 
 module _ (text : List ℕ) (n h m s f : ℕ) (eh : h ≡ pair_at text 11) (em : m ≡ pair_at text 14) (es : s ≡ pair_at text 17) (ef : f ≡ fraction_of text) where
-  pub no-hour : 24 ≤ h → none NoHour ≡ clock_in text n
+  pub no_hour : 24 ≤ h → none NoHour ≡ clock_in text n
   unfolding clock_in
-  no-hour k = rw (← eh, le-ltb h 24 k)
+  no_hour k = rw (← eh, le-ltb h 24 k)
 
   module _ (hh : h < 24) where
-    pub no-minute : 60 ≤ m → none NoMinute ≡ clock_in text n
+    pub no_minute : 60 ≤ m → none NoMinute ≡ clock_in text n
     unfolding clock_in
-    no-minute k = rw (← eh, lt-ltb h 24 hh, ← em, le-ltb m 60 k)
+    no_minute k = rw (← eh, lt-ltb h 24 hh, ← em, le-ltb m 60 k)
 
     module _ (hm : m < 60) where
       pub no_second : 60 ≤ s → none NoSecond ≡ clock_in text n
@@ -77,9 +77,9 @@ module _ (text : List ℕ) (n h m s f : ℕ) (eh : h ≡ pair_at text 11) (em : 
         unfolding clock_in
         no_fraction k = rw (← eh, lt-ltb h 24 hh, ← em, lt-ltb m 60 hm, ← es, lt-ltb s 60 hs, ← ef, le-ltb f 1000 k)
 
-        pub timed-by : f < 1000 → is (on n (clock h m s f)) ≡ clock_in text n
+        pub timed_by : f < 1000 → is (on n (clock h m s f)) ≡ clock_in text n
         unfolding clock_in
-        timed-by k = rw (← eh, lt-ltb h 24 hh, ← em, lt-ltb m 60 hm, ← es, lt-ltb s 60 hs, ← ef, lt-ltb f 1000 k)
+        timed_by k = rw (← eh, lt-ltb h 24 hh, ← em, lt-ltb m 60 hm, ← es, lt-ltb s 60 hs, ← ef, lt-ltb f 1000 k)
 
 -- what a test of a negated flag tells of the flag
 pub set : (b : Bool) → not b ≡ false → b ≡ true
@@ -107,14 +107,14 @@ clock_long text e = by_tests (ltb (length text) 20) _ refl e
     by_tests false b p e = ltb-false (length text) 20 p
 
 module _ (text : List ℕ) (n : ℕ) (eT : at text 10 ≡ letter_t) (eZ : at text (length text - 1) ≡ letter_z) (b : Bool) (eb : b ≡ is_clock text) where
-  pub no-clock : b ≡ false → none NoTime ≡ with_time text n
+  pub no_clock : b ≡ false → none NoTime ≡ with_time text n
   unfolding with_time
-  no-clock e = rw (eq-eqb (at text 10) letter_t eT, eq-eqb (at text (length text - 1)) letter_z eZ, ← eb, e)
+  no_clock e = rw (eq-eqb (at text 10) letter_t eT, eq-eqb (at text (length text - 1)) letter_z eZ, ← eb, e)
 
   module _ (e : b ≡ true) (d : Bool) (ed : d ≡ is_fraction text) where
-    pub no-fraction-form : d ≡ false → none NoFraction ≡ with_time text n
+    pub no_fraction_form : d ≡ false → none NoFraction ≡ with_time text n
     unfolding with_time
-    no-fraction-form k = rw (eq-eqb (at text 10) letter_t eT, eq-eqb (at text (length text - 1)) letter_z eZ, ← eb, e, ← ed, k)
+    no_fraction_form k = rw (eq-eqb (at text 10) letter_t eT, eq-eqb (at text (length text - 1)) letter_z eZ, ← eb, e, ← ed, k)
 
     pub formed : d ≡ true → clock_in text n ≡ with_time text n
     unfolding with_time

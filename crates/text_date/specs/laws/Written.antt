@@ -30,7 +30,7 @@ use Rattle.text_date.specs.rules.Time.{
 }
 use Rattle.text_date.specs.rules.Moment.{moment_rule}
 use Rattle.text_date.specs.notions.Written.{last, date_text, clock_text, tenths, hundredths, thousandths, whole_seconds}
-use Rattle.text_date.specs.laws.Steps.{dated-by, timed-by, formed}
+use Rattle.text_date.specs.laws.Steps.{dated_by, timed_by, formed}
 
 digit_written : (n : ℕ) → digit_of (last n) ≡ n % 10
 unfolding digit_of
@@ -54,21 +54,21 @@ module _ (y m d : ℕ) (rest : List ℕ) where
   abbrev text : List ℕ
   text = date_text y m d rest
 
-  year-written : y < 10000 → year_at text ≡ y
+  year_written : y < 10000 → year_at text ≡ y
   unfolding year_at pair_at
-  year-written h = rw (hundreds y, two_digits_lem y, joined_both 100 (y / 100 % 100) (y % 100) (omega arith) (omega arith)) (omega arith)
+  year_written h = rw (hundreds y, two_digits_lem y, joined_both 100 (y / 100 % 100) (y % 100) (omega arith) (omega arith)) (omega arith)
 
-  month-written : m < 100 → pair_at text 5 ≡ m
+  month_written : m < 100 → pair_at text 5 ≡ m
   unfolding pair_at
-  month-written h = two_digits_lem m ∙ omega arith
+  month_written h = two_digits_lem m ∙ omega arith
 
-  day-written : d < 100 → pair_at text 8 ≡ d
+  day_written : d < 100 → pair_at text 8 ≡ d
   unfolding pair_at
-  day-written h = two_digits_lem d ∙ omega arith
+  day_written h = two_digits_lem d ∙ omega arith
 
-  pub date-written : y < 10000 → m < 100 → d < 100 → date_of text ≡ from_number (number_rule (date y m d))
-  date-written hy hm hd =
-      sym (dated-by text y m d refl refl (sym (year-written hy)) hy (sym (month-written hm)) hm (sym (day-written hd)) hd)
+  pub date_written : y < 10000 → m < 100 → d < 100 → date_of text ≡ from_number (number_rule (date y m d))
+  date_written hy hm hd =
+      sym (dated_by text y m d refl refl (sym (year_written hy)) hy (sym (month_written hm)) hm (sym (day_written hd)) hd)
 
 -- ---- the time
 
@@ -96,13 +96,13 @@ module _ (y m d : ℕ) (v : Valid (date y m d)) (from : first_number ≤ number_
   abbrev n : ℕ
   n = number_of (date y m d)
 
-  year-short : y < 10000
+  year_short : y < 10000
   unfolding number_of
-  year-short = omega (arith, to, year_least y)
+  year_short = omega (arith, to, year_least y)
 
   dated : (rest : List ℕ) → date_of (date_text y m d rest) ≡ is n
   dated rest =
-      date-written y m d rest year-short (omega (arith, (valid_month (date y m d) v).1)) (omega (arith, v.to, month_most (leap y) m))
+      date_written y m d rest year_short (omega (arith, (valid_month (date y m d) v).1)) (omega (arith, v.to, month_most (leap y) m))
       ∙ ap from_number (numbered (date y m d) n v)
 
   in_range_lem : (text : List ℕ) → with_number text n ≡ cond (eqb (length text) 10) (is (on n 0)) (with_time text n)
@@ -110,9 +110,9 @@ module _ (y m d : ℕ) (v : Valid (date y m d)) (from : first_number ≤ number_
   in_range_lem text = rw (le-ltb n first_number from, le-ltb last_number n to)
 
   -- alone it is 0h
-  pub day-read-back : time_rule (date_text y m d []) ≡ is (on n 0)
+  pub day_read_back : time_rule (date_text y m d []) ≡ is (on n 0)
   unfolding time_rule
-  day-read-back = rw (dated []) (in_range_lem (date_text y m d []))
+  day_read_back = rw (dated []) (in_range_lem (date_text y m d []))
 
   -- ---- with a time
 
@@ -120,10 +120,10 @@ module _ (y m d : ℕ) (v : Valid (date y m d)) (from : first_number ≤ number_
     abbrev both : List ℕ → List ℕ
     both rest = date_text y m d (clock_text h i s rest)
 
-    at-clock : (rest : List ℕ) (f : ℕ) → f < 1000 → f ≡ fraction_of (both rest) → is (on n (clock h i s f)) ≡ clock_in (both rest) n
+    at_clock : (rest : List ℕ) (f : ℕ) → f < 1000 → f ≡ fraction_of (both rest) → is (on n (clock h i s f)) ≡ clock_in (both rest) n
     unfolding pair_at
-    at-clock rest f hf e =
-        timed-by (both rest) n h i s f (two_back h (omega arith)) (two_back i (omega arith)) (two_back s (omega arith)) e hh hi hs hf
+    at_clock rest f hf e =
+        timed_by (both rest) n h i s f (two_back h (omega arith)) (two_back i (omega arith)) (two_back s (omega arith)) e hh hi hs hf
 
     -- behind the seconds
     module _ (rest : List ℕ) (f : ℕ) (hf : f < 1000) (e : f ≡ fraction_of (both rest)) where
@@ -132,11 +132,11 @@ module _ (y m d : ℕ) (v : Valid (date y m d)) (from : first_number ≤ number_
       unfolding time_rule
       behind z c k long enough =
           rw (enough, dated (clock_text h i s rest), in_range_lem (both rest), long)
-          (sym (at-clock rest f hf e ∙ formed (both rest) n refl z _ (sym c) refl _ (sym k) refl))
+          (sym (at_clock rest f hf e ∙ formed (both rest) n refl z _ (sym c) refl _ (sym k) refl))
 
-    pub whole-seconds-read-back : time_rule (both whole_seconds) ≡ is (on n (clock h i s 0))
+    pub whole_seconds_read_back : time_rule (both whole_seconds) ≡ is (on n (clock h i s 0))
     unfolding is_clock is_fraction fraction_of frac_byte joined digit_of
-    whole-seconds-read-back = behind whole_seconds 0 (omega arith) refl refl refl refl refl refl
+    whole_seconds_read_back = behind whole_seconds 0 (omega arith) refl refl refl refl refl refl
 
     pub tenths_read_back : (f : ℕ) → f < 10 → time_rule (both (tenths f)) ≡ is (on n (clock h i s (f * 100)))
     unfolding is_clock is_fraction fraction_of frac_byte

@@ -15,9 +15,9 @@ use Rattle.text_day.specs.rules.Day.{j2000, named_day, day_rule}
 use Rattle.text_day.specs.notions.Computed.{computed}
 
 module _ (text : List ℕ) (dut1 : ℤ) where
-  pub decimal-stays : (x : Float) → decimal_rule text ≡ decimal.is x → day_rule text dut1 ≡ is x
+  pub decimal_stays : (x : Float) → decimal_rule text ≡ decimal.is x → day_rule text dut1 ≡ is x
   unfolding day_rule
-  decimal-stays x e = rw e
+  decimal_stays x e = rw e
 
 pub j2000_is_noon : (dut1 : ℤ) → day_rule (ascii "J2000") dut1 ≡ is j2000
 unfolding computed

@@ -10,18 +10,18 @@ use Rattle.text_date.specs.rules.Moment.{moment_rule}
 use Rattle.text_day.specs.rules.Day.{j2000, named_day, day_rule}
 
 module _ (text : List ℕ) (dut1 : ℤ) where
-  pub is-j2000 : is_word text (ascii "J2000") ≡ true → is j2000 ≡ named_day text dut1
+  pub is_j2000 : is_word text (ascii "J2000") ≡ true → is j2000 ≡ named_day text dut1
   unfolding named_day
-  is-j2000 e = rw e
+  is_j2000 e = rw e
 
-  pub is-dated : is_word text (ascii "J2000") ≡ false → moment_rule text dut1 ≡ named_day text dut1
+  pub is_dated : is_word text (ascii "J2000") ≡ false → moment_rule text dut1 ≡ named_day text dut1
   unfolding named_day
-  is-dated e = rw e
+  is_dated e = rw e
 
-  pub is-decimal : (r : Decimal) (x : Float) → shown_decimal r ≡ decimal_rule text → r ≡ Is x → is x ≡ day_rule text dut1
+  pub is_decimal : (r : Decimal) (x : Float) → shown_decimal r ≡ decimal_rule text → r ≡ Is x → is x ≡ day_rule text dut1
   unfolding day_rule
-  is-decimal r x p e = rw (← p, e)
+  is_decimal r x p e = rw (← p, e)
 
-  pub is-named : (r : Decimal) → shown_decimal r ≡ decimal_rule text → r ≡ Unclear → named_day text dut1 ≡ day_rule text dut1
+  pub is_named : (r : Decimal) → shown_decimal r ≡ decimal_rule text → r ≡ Unclear → named_day text dut1 ≡ day_rule text dut1
   unfolding day_rule
-  is-named r p e = rw (← p, e)
+  is_named r p e = rw (← p, e)

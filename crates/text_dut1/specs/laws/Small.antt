@@ -35,19 +35,19 @@ module _ (z : ℤ) where
       by_test true p e = subst (λ (y : ℤ). nat_abs y ≤ 900) (same e) (omega (arith, size_of minus n, leb-true n most p))
       by_test false p e = absurd (differ e)
 
-  scan-small : (minus : Bool) (scan : Scan) → with_sign minus scan ≡ is z → nat_abs z ≤ 900
+  scan_small : (minus : Bool) (scan : Scan) → with_sign minus scan ≡ is z → nat_abs z ≤ 900
   unfolding with_sign
-  scan-small minus scan e = by_tests scan.clear scan.some e
+  scan_small minus scan e = by_tests scan.clear scan.some e
     where
       by_tests : (a b : Bool) → cond a (cond b (signed_in minus (scan.whole * scan.worth)) none) none ≡ is z → nat_abs z ≤ 900
       by_tests false b e = absurd (differ e)
       by_tests true false e = absurd (differ e)
       by_tests true true e = number_small minus (scan.whole * scan.worth) e
 
-  pub dut1-small : (text : List ℕ) → dut1_rule text ≡ is z → nat_abs z ≤ 900
+  pub dut1_small : (text : List ℕ) → dut1_rule text ≡ is z → nat_abs z ≤ 900
   unfolding dut1_rule
-  dut1-small [] e = absurd (differ e)
-  dut1-small (b ∷ text) e = by_tests (eqb b minus_sign) (eqb b plus_sign) e
+  dut1_small [] e = absurd (differ e)
+  dut1_small (b ∷ text) e = by_tests (eqb b minus_sign) (eqb b plus_sign) e
     where
       by_tests : (a c : Bool)
           → cond a
@@ -55,6 +55,6 @@ module _ (z : ℤ) where
           (cond c (with_sign false (scanned start text)) (with_sign false (scanned start (b ∷ text))))
           ≡ is z
           → nat_abs z ≤ 900
-      by_tests true c e = scan-small true (scanned start text) e
-      by_tests false true e = scan-small false (scanned start text) e
-      by_tests false false e = scan-small false (scanned start (b ∷ text)) e
+      by_tests true c e = scan_small true (scanned start text) e
+      by_tests false true e = scan_small false (scanned start text) e
+      by_tests false false e = scan_small false (scanned start (b ∷ text)) e

@@ -7,7 +7,7 @@ use Prim.Native.Nat.{◌+◌}
 use lib.ListN.{length}
 use Rattle.text_fields.specs.declared.Stop.TheVariants.{Field}
 use Rattle.text_fields.specs.rules.Fields.{before, field_of, field_end}
-use Rattle.text_fields.specs.laws.Fields.{before_short, rest, drop_before, field-end-short}
+use Rattle.text_fields.specs.laws.Fields.{before_short, rest, drop_before, field_end_short}
 use Rattle.text_fields.proofs.field_end.Statement.{statement}
 use Rattle.text_fields.proofs.field_end.Tie as tie
 
@@ -34,7 +34,7 @@ add-result : tie.Need-overflow-add-result
 add-result c =
     let text = c.before.before.before.before.args.text.now in
     let e = sum_is c in
-    let short = field-end-short text in
+    let short = field_end_short text in
     search rules
 
 returns : tie.Need-returns

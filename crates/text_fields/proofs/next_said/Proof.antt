@@ -12,7 +12,7 @@ use Rattle.text_fields.specs.rules.Lines.{lines, line_length, first_said}
 use Rattle.text_fields.specs.rules.Next.{end, next_said}
 use Rattle.text_fields.specs.laws.Fields.{rest}
 use Rattle.text_fields.specs.laws.Lines.{line_length_some, line_length_short}
-use Rattle.text_fields.specs.laws.Next.{said-short, said-part, goes_on, stops}
+use Rattle.text_fields.specs.laws.Next.{said_short, said_part, goes_on, stops}
 use Rattle.text_fields.proofs.next_said.Statement.{statement}
 use Rattle.text_fields.proofs.next_said.Tie as tie
 
@@ -47,7 +47,7 @@ module _ (c : tie.After-said-length invariant-loop decreases-loop) where
   said = rw part at c.said-length.ensures
 
   there : at + c.said-length.result ≤ length text
-  there = omega (arith, said, said-short text at (omega (arith, inside)))
+  there = omega (arith, said, said_short text at (omega (arith, inside)))
 
 add-end : tie.Need-overflow-add-end invariant-loop decreases-loop
 add-end c =
@@ -62,8 +62,8 @@ module _ (c : tie.After-line-length invariant-loop decreases-loop) where
   long : c.line-length.result ≡ line_length (drop (at before) (text before))
   long = rw (part before) at c.line-length.ensures
 
-  next-is : at before + c.line-length.result ≡ at before + line_length (drop (at before) (text before))
-  next-is = ap (λ (n : ℕ). at before + n) long
+  next_is : at before + c.line-length.result ≡ at before + line_length (drop (at before) (text before))
+  next_is = ap (λ (n : ℕ). at before + n) long
 
   some : 0 < line_length (drop (at before) (text before))
   some = line_length_some (drop (at before) (text before)) (omega (arith, inside before, length-drop (at before) (text before)))
@@ -98,7 +98,7 @@ module _ (c : tie.After-is-bare invariant-loop decreases-loop) where
 
   says : take (at first + first.said-length.result - at first) (drop (at first) (text first)) ≡ line
   says =
-      ap (λ (k : ℕ). take (at first + k - at first) (drop (at first) (text first))) (said first) ∙ said-part (text first) (at first)
+      ap (λ (k : ℕ). take (at first + k - at first) (drop (at first) (text first))) (said first) ∙ said_part (text first) (at first)
 
   bare : c.is-bare.result ≡ is_bare line
   bare = rw says at c.is-bare.ensures
@@ -109,7 +109,7 @@ returns c =
     let pass = (first k).before.before.before.loop in
     let stop = sym (bare k) ∙ not-true k.is-bare.result c.if1.true in
     record {
-      says = stops (text (first k)) (at (first k)) pass.passed (inside (first k)) _ (next-is (measured k)) _ (says k) stop ∙ pass.inv.1;
+      says = stops (text (first k)) (at (first k)) pass.passed (inside (first k)) _ (next_is (measured k)) _ (says k) stop ∙ pass.inv.1;
       part = (omega arith, there (first k));
     }
 
@@ -122,7 +122,7 @@ loop-again c =
     let pass = (first k).before.before.before.loop in
     let on = sym (bare k) ∙ not-false k.is-bare.result c.if1.false in (
       omega (arith, pass.inv.0, long (measured k), some (measured k)),
-      goes_on (text (first k)) (at (first k)) pass.passed (inside (first k)) _ (next-is (measured k)) on ∙ pass.inv.1,
+      goes_on (text (first k)) (at (first k)) pass.passed (inside (first k)) _ (next_is (measured k)) on ∙ pass.inv.1,
     )
 
 returns-2 : tie.Need-returns-2 invariant-loop decreases-loop

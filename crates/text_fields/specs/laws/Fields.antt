@@ -12,31 +12,31 @@ use Rattle.text_fields.specs.rules.Fields.{is_blank, is_stop, before, since, is_
 pub before_short : (stop : Stop) (text : List ℕ) → length (before stop text) ≤ length text
 unfolding before
 before_short stop [] = omega arith
-before_short stop (b ∷ text) = by-case (is_stop stop b) (before_short stop text)
+before_short stop (b ∷ text) = by_case (is_stop stop b) (before_short stop text)
   where
-    by-case : (t : Bool) → length (before stop text) ≤ length text → length (cond t [] (b ∷ before stop text)) ≤ suc (length text)
-    by-case true h = omega arith
-    by-case false h = omega (arith, h)
+    by_case : (t : Bool) → length (before stop text) ≤ length text → length (cond t [] (b ∷ before stop text)) ≤ suc (length text)
+    by_case true h = omega arith
+    by_case false h = omega (arith, h)
 
 pub take_before : (stop : Stop) (text : List ℕ) → take (length (before stop text)) text ≡ before stop text
 unfolding before
 take_before stop [] = refl
-take_before stop (b ∷ text) = by-case (is_stop stop b) (take_before stop text)
+take_before stop (b ∷ text) = by_case (is_stop stop b) (take_before stop text)
   where
-    by-case : (t : Bool) → take (length (before stop text)) text ≡ before stop text
+    by_case : (t : Bool) → take (length (before stop text)) text ≡ before stop text
         → take (length (cond t [] (b ∷ before stop text))) (b ∷ text) ≡ cond t [] (b ∷ before stop text)
-    by-case true h = refl
-    by-case false h = ap (λ (l : List ℕ). b ∷ l) h
+    by_case true h = refl
+    by_case false h = ap (λ (l : List ℕ). b ∷ l) h
 
 pub drop_before : (stop : Stop) (text : List ℕ) → drop (length (before stop text)) text ≡ since stop text
 unfolding before since
 drop_before stop [] = refl
-drop_before stop (b ∷ text) = by-case (is_stop stop b) (drop_before stop text)
+drop_before stop (b ∷ text) = by_case (is_stop stop b) (drop_before stop text)
   where
-    by-case : (t : Bool) → drop (length (before stop text)) text ≡ since stop text
+    by_case : (t : Bool) → drop (length (before stop text)) text ≡ since stop text
         → drop (length (cond t [] (b ∷ before stop text))) (b ∷ text) ≡ cond t (b ∷ text) (since stop text)
-    by-case true h = refl
-    by-case false h = h
+    by_case true h = refl
+    by_case false h = h
 
 -- what stands behind so many bytes, as a part of a slice
 pub rest : (text : List ℕ) (n : ℕ) → n ≤ length text → take (length text - n) (drop n text) ≡ drop n text
@@ -46,13 +46,13 @@ rest text n h =
 
 -- the first field by its places
 module _ (text : List ℕ) where
-  pub field-start-first : length (before Field text) ≤ field_end text
+  pub field_start_first : length (before Field text) ≤ field_end text
   unfolding field_end
-  field-start-first = omega arith
+  field_start_first = omega arith
 
-  pub field-end-short : field_end text ≤ length text
+  pub field_end_short : field_end text ≤ length text
   unfolding field_end field_of
-  field-end-short =
+  field_end_short =
       omega (
         arith,
         before_short Field text,
@@ -60,49 +60,49 @@ module _ (text : List ℕ) where
         ap length (sym (drop_before Field text)) ∙ length-drop (length (before Field text)) text,
       )
 
-  pub field-part : take (field_end text - length (before Field text)) (drop (length (before Field text)) text) ≡ field_of text
+  pub field_part : take (field_end text - length (before Field text)) (drop (length (before Field text)) text) ≡ field_of text
   unfolding field_end field_of
-  field-part =
+  field_part =
       let k : length (before Field text) + length (before Blank (since Field text)) - length (before Field text)
       ≡ length (before Blank (since Field text)) = omega arith in
       rw (k, drop_before Field text) (take_before Blank (since Field text))
 
-  pub drop-field : drop (field_end text) text ≡ after_field text
+  pub drop_field : drop (field_end text) text ≡ after_field text
   unfolding field_end field_of after_field
-  drop-field =
+  drop_field =
       sym (drop-drop (length (before Blank (since Field text))) (length (before Field text)) text)
       ∙ rw (drop_before Field text) (drop_before Blank (since Field text))
 
   -- behind it, as a part of a slice
-  pub behind-field : take (length text - field_end text) (drop (field_end text) text) ≡ after_field text
-  behind-field = rest text (field_end text) field-end-short ∙ drop-field
+  pub behind_field : take (length text - field_end text) (drop (field_end text) text) ≡ after_field text
+  behind_field = rest text (field_end text) field_end_short ∙ drop_field
 
 -- a text is bare where every byte comes before a field
 bare_length : (text : List ℕ) → is_bare text ≡ true → length (before Field text) ≡ length text
 unfolding before is_bare is_stop
 bare_length [] e = refl
-bare_length (b ∷ text) e = by-case (is_blank b) (bare_length text) e
+bare_length (b ∷ text) e = by_case (is_blank b) (bare_length text) e
   where
-    by-case : (t : Bool) → (is_bare text ≡ true → length (before Field text) ≡ length text) → cond t (is_bare text) false ≡ true
+    by_case : (t : Bool) → (is_bare text ≡ true → length (before Field text) ≡ length text) → cond t (is_bare text) false ≡ true
         → length (cond (not t) [] (b ∷ before Field text)) ≡ suc (length text)
-    by-case true h e = ap suc (h e)
-    by-case false h e = cc
+    by_case true h e = ap suc (h e)
+    by_case false h e = cc
 
 field_length : (text : List ℕ) → is_bare text ≡ false → length (before Field text) < length text
 unfolding before is_bare is_stop
 field_length [] e = absurd (true≢false e)
-field_length (b ∷ text) e = by-case (is_blank b) (field_length text) e
+field_length (b ∷ text) e = by_case (is_blank b) (field_length text) e
   where
-    by-case : (t : Bool) → (is_bare text ≡ false → length (before Field text) < length text) → cond t (is_bare text) false ≡ false
+    by_case : (t : Bool) → (is_bare text ≡ false → length (before Field text) < length text) → cond t (is_bare text) false ≡ false
         → length (cond (not t) [] (b ∷ before Field text)) < suc (length text)
-    by-case true h e = omega (arith, h e)
-    by-case false h e = omega arith
+    by_case true h e = omega (arith, h e)
+    by_case false h e = omega arith
 
 pub bare_by_length : (text : List ℕ) → eqb (length (before Field text)) (length text) ≡ is_bare text
-bare_by_length text = by-case (is_bare text) refl
+bare_by_length text = by_case (is_bare text) refl
   where
-    by-case : (t : Bool) → is_bare text ≡ t → eqb (length (before Field text)) (length text) ≡ t
-    by-case true e = eq-eqb _ _ (bare_length text e)
-    by-case false e =
+    by_case : (t : Bool) → is_bare text ≡ t → eqb (length (before Field text)) (length text) ≡ t
+    by_case true e = eq-eqb _ _ (bare_length text e)
+    by_case false e =
         ne_eqb (length (before Field text)) (length text)
         (λ (same : length (before Field text) ≡ length text). absurd (omega (arith, field_length text e, same)))

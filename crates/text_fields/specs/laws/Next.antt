@@ -17,15 +17,15 @@ use Rattle.text_fields.specs.laws.Lines.{first_and_rest}
 
 -- what the first line from an offset on says, by its places
 module _ (text : List ℕ) (at : ℕ) where
-  pub said-short : at ≤ length text → at + length (first_said (drop at text)) ≤ length text
+  pub said_short : at ≤ length text → at + length (first_said (drop at text)) ≤ length text
   unfolding first_said
-  said-short h =
+  said_short h =
       let line = before LineEnd (drop at text) in
       omega (arith, before_short Hash line, before_short LineEnd (drop at text), length-drop at text)
 
-  pub said-part : take (at + length (first_said (drop at text)) - at) (drop at text) ≡ first_said (drop at text)
+  pub said_part : take (at + length (first_said (drop at text)) - at) (drop at text) ≡ first_said (drop at text)
   unfolding first_said
-  said-part =
+  said_part =
       let line = before LineEnd (drop at text) in
       let said = before Hash line in
       ap (λ (k : ℕ). take k (drop at text)) (let e : at + length said - at ≡ length said = omega arith in e)

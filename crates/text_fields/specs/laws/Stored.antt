@@ -25,10 +25,10 @@ module _ {E : Type 0} (f : E → ℕ) where
   taken_at (x ∷ l) (suc k) zero d h g = refl
   taken_at (x ∷ l) (suc k) (suc i) d h g = taken_at l k i d (omega arith) (omega arith)
 
-  how-many : (l : List E) (k : ℕ) → length (map f (take k l)) ≡ min k (length l)
-  how-many l zero = omega arith
-  how-many [] (suc k) = omega arith
-  how-many (x ∷ l) (suc k) = omega (arith, how-many l k)
+  how_many_lem : (l : List E) (k : ℕ) → length (map f (take k l)) ≡ min k (length l)
+  how_many_lem l zero = omega arith
+  how_many_lem [] (suc k) = omega arith
+  how_many_lem (x ∷ l) (suc k) = omega (arith, how_many_lem l k)
 
   -- values over a slice's front are its front
   pub front : (l : List E) (old cur : List ℕ) → cur ≡ over (map f l) old → take (length l) cur ≡ map f l
@@ -37,19 +37,19 @@ module _ {E : Type 0} (f : E → ℕ) where
 -- ---- from the first sight to the last
 
 module _ {A E : Type 0} (rule : List ℕ → Reading A) (entry : A → ℕ → E) (columns : Columns E) (places : ℕ) (text line₀ star₀ first₀ second₀ : List ℕ) where
-  begin-row : (f : E → ℕ) (old : List ℕ) → places ≤ length old → RowOf (entries_in rule entry text) f places old old 0
-  begin-row f old h = start _ _ _ refl (omega (arith, how-many f (entries_in rule entry text) places))
+  begin_row : (f : E → ℕ) (old : List ℕ) → places ≤ length old → RowOf (entries_in rule entry text) f places old old 0
+  begin_row f old h = start _ _ _ refl (omega (arith, how_many_lem f (entries_in rule entry text) places))
 
-  pub none-stored : places ≡ places_of (length line₀) (length star₀) (length first₀) (length second₀)
+  pub none_stored : places ≡ places_of (length line₀) (length star₀) (length first₀) (length second₀)
       → Upto rule entry columns text places line₀ star₀ first₀ second₀ 0 0 0 line₀ star₀ first₀ second₀
-  none-stored p =
+  none_stored p =
       record {
-        walked = walk.none-walked rule entry text;
+        walked = walk.none_walked rule entry text;
         placed = omega arith;
-        lines_so_far = begin-row columns.line line₀ (omega (arith, p));
-        stars_so_far = begin-row columns.star star₀ (omega (arith, p));
-        firsts_so_far = begin-row columns.first first₀ (omega (arith, p));
-        seconds_so_far = begin-row columns.second second₀ (omega (arith, p));
+        lines_so_far = begin_row columns.line line₀ (omega (arith, p));
+        stars_so_far = begin_row columns.star star₀ (omega (arith, p));
+        firsts_so_far = begin_row columns.first first₀ (omega (arith, p));
+        seconds_so_far = begin_row columns.second second₀ (omega (arith, p));
       }
 
 module _ {A E : Type 0} {rule : List ℕ → Reading A} {entry : A → ℕ → E} {columns : Columns E} {text : List ℕ} {places : ℕ}
@@ -63,7 +63,7 @@ module _ {A E : Type 0} {rule : List ℕ → Reading A} {entry : A → ℕ → E
 
   -- every sight that finds a place is stored
   end_row : (f : E → ℕ) (old cur : List ℕ) → n ≡ min places (length es) → RowOf es f places old cur n → cur ≡ over (map f (take places es)) old
-  end_row f old cur e r = finish _ _ _ refl cur n (e ∙ sym (how-many f es places)) r
+  end_row f old cur e r = finish _ _ _ refl cur n (e ∙ sym (how_many_lem f es places)) r
 
   ends : (r : Sights) → r ≡ stored_rule rule entry places text → n ≡ min places (length es) → Leaves r
   ends r a e =
@@ -85,38 +85,38 @@ module _ {A E : Type 0} {rule : List ℕ → Reading A} {entry : A → ℕ → E
       (omega (arith, h.all_met, u.placed))
 
   -- nothing any more, or a line that cannot be read
-  pub at-no-more : end ≡ next_of rule 0 (lines (drop at text)) → Leaves (Are n)
-  at-no-more e = ended all_read (walk.no_more u.walked e)
+  pub at_no_more : end ≡ next_of rule 0 (lines (drop at text)) → Leaves (Are n)
+  at_no_more e = ended all_read (walk.no_more u.walked e)
 
-  pub at-unclear : (k : ℕ) → unclear_at k ≡ next_of rule 0 (lines (drop at text)) → Leaves (Unclear (passed + k))
-  at-unclear k e = ended (unclear_in (passed + k)) (walk.at-unclear u.walked k e)
+  pub at_unclear : (k : ℕ) → unclear_at k ≡ next_of rule 0 (lines (drop at text)) → Leaves (Unclear (passed + k))
+  at_unclear k e = ended (unclear_in (passed + k)) (walk.at_unclear u.walked k e)
 
   -- one sight more
   module _ (x : A) (k next : ℕ) (e : found x k (lines (drop next text)) ≡ next_of rule 0 (lines (drop at text))) where
-    abbrev met-now : E
-    met-now = entry x (passed + k)
+    abbrev met_now : E
+    met_now = entry x (passed + k)
 
     is_one : n < length es
     is_one = walk.is_one u.walked x k next e
 
     -- which finds no place
-    pub at-full : places ≤ n → Leaves Full
+    pub at_full : places ≤ n → Leaves Full
     unfolding stored_rule
-    at-full h =
+    at_full h =
         ends Full
         (sym (ap (λ (t : Bool). cond t Full (sights_with (length es) (ending_in rule text))) (lt-ltb places (length es) (omega (arith, is_one, u.placed)))))
         (omega (arith, is_one, u.placed))
 
-    next_row : n < places → (f : E → ℕ) (old cur : List ℕ) → RowOf es f places old cur n → RowOf es f places old (set cur n (f met-now)) (n + 1)
+    next_row : n < places → (f : E → ℕ) (old cur : List ℕ) → RowOf es f places old cur n → RowOf es f places old (set cur n (f met_now)) (n + 1)
     next_row h f old cur r =
-        store _ _ _ refl cur n (f met-now) 0 (omega (arith, how-many f es places, is_one)) r
-        (ap f (walk.is-met u.walked x k next e met-now) ∙ taken_at f es places n met-now h is_one)
+        store _ _ _ refl cur n (f met_now) 0 (omega (arith, how_many_lem f es places, is_one)) r
+        (ap f (walk.is_met u.walked x k next e met_now) ∙ taken_at f es places n met_now h is_one)
 
     -- or is stored at its place
-    pub one-stored : n < places → {line' star' first' second' : List ℕ}
+    pub one_stored : n < places → {line' star' first' second' : List ℕ}
         → EntryStored columns (entry x (passed + k)) n line star first second line' star' first' second'
         → Upto rule entry columns text places line₀ star₀ first₀ second₀ next (passed + k) (n + 1) line' star' first' second'
-    one-stored h s =
+    one_stored h s =
         record {
           walked = walk.walked_on u.walked x k next e;
           placed = omega (arith, h);
@@ -149,43 +149,43 @@ module _ {A E : Type 0} (rule : List ℕ → Reading A) (entry : A → ℕ → E
   unfolding stored_rule
   known = counted (ltb places (length all)) (ending_in rule text) refl e
 
-  pub few-sights : n ≤ places
-  few-sights = omega (arith, known.0, known.1)
+  pub few_sights : n ≤ places
+  few_sights = omega (arith, known.0, known.1)
 
   -- a slice's front is the sights' values
-  read-front : (f : E → ℕ) (old cur : List ℕ) → cur ≡ over (map f (take places all)) old → take n cur ≡ map f all
-  read-front f old cur h =
+  read_front : (f : E → ℕ) (old cur : List ℕ) → cur ≡ over (map f (take places all)) old → take n cur ≡ map f all
+  read_front f old cur h =
       ap (λ (k : ℕ). take k cur) known.0
       ∙ front f all old cur (h ∙ ap (λ (l : List E). over (map f l) old) (take_all places all known.1))
 
-  read-long : (f : E → ℕ) (old cur : List ℕ) → cur ≡ over (map f (take places all)) old → (n ≤ length cur) × (n ≡ length (take n cur))
-  read-long f old cur h =
-      let long : n ≡ length (take n cur) = omega (arith, ap length (read-front f old cur h), length-map all f, known.0) in
+  read_long : (f : E → ℕ) (old cur : List ℕ) → cur ≡ over (map f (take places all)) old → (n ≤ length cur) × (n ≡ length (take n cur))
+  read_long f old cur h =
+      let long : n ≡ length (take n cur) = omega (arith, ap length (read_front f old cur h), length-map all f, known.0) in
       (omega (arith, long, length-take n cur), long)
 
   module _ {columns : Columns E} {line star first second : List ℕ} {r : Sights} {line' star' first' second' : List ℕ}
       (s : EntriesStored rule entry columns places text line star first second r line' star' first' second') where
-    pub lines-front : take n line' ≡ map columns.line all
-    lines-front = read-front columns.line line line' s.lines_are
+    pub lines_front : take n line' ≡ map columns.line all
+    lines_front = read_front columns.line line line' s.lines_are
 
-    pub stars-front : take n star' ≡ map columns.star all
-    stars-front = read-front columns.star star star' s.stars_are
+    pub stars_front : take n star' ≡ map columns.star all
+    stars_front = read_front columns.star star star' s.stars_are
 
-    pub firsts-front : take n first' ≡ map columns.first all
-    firsts-front = read-front columns.first first first' s.firsts_are
+    pub firsts_front : take n first' ≡ map columns.first all
+    firsts_front = read_front columns.first first first' s.firsts_are
 
-    pub seconds-front : take n second' ≡ map columns.second all
-    seconds-front = read-front columns.second second second' s.seconds_are
+    pub seconds_front : take n second' ≡ map columns.second all
+    seconds_front = read_front columns.second second second' s.seconds_are
 
     -- which have a value of each sight
     pub lines_long : (n ≤ length line') × (n ≡ length (take n line'))
-    lines_long = read-long columns.line line line' s.lines_are
+    lines_long = read_long columns.line line line' s.lines_are
 
-    pub stars-long : (n ≤ length star') × (n ≡ length (take n star'))
-    stars-long = read-long columns.star star star' s.stars_are
+    pub stars_long : (n ≤ length star') × (n ≡ length (take n star'))
+    stars_long = read_long columns.star star star' s.stars_are
 
-    pub firsts-long : (n ≤ length first') × (n ≡ length (take n first'))
-    firsts-long = read-long columns.first first first' s.firsts_are
+    pub firsts_long : (n ≤ length first') × (n ≡ length (take n first'))
+    firsts_long = read_long columns.first first first' s.firsts_are
 
-    pub seconds-long : (n ≤ length second') × (n ≡ length (take n second'))
-    seconds-long = read-long columns.second second second' s.seconds_are
+    pub seconds_long : (n ≤ length second') × (n ≡ length (take n second'))
+    seconds_long = read_long columns.second second second' s.seconds_are

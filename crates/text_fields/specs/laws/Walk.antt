@@ -18,12 +18,12 @@ use Rattle.text_fields.specs.notions.Walk.{Walked, Ended}
 few_lines : (text : List ℕ) → length (lines text) ≤ length text
 unfolding lines
 few_lines [] = omega arith
-few_lines (b ∷ text) = by-case (eqb b line_end) (lines text) (few_lines text)
+few_lines (b ∷ text) = by_case (eqb b line_end) (lines text) (few_lines text)
   where
-    by-case : (t : Bool) (ls : List (List ℕ)) → length ls ≤ length text → length (cond t ([] ∷ ls) (longer b ls)) ≤ suc (length text)
-    by-case true ls h = omega (arith, h)
-    by-case false [] h = omega arith
-    by-case false (l ∷ ls) h = omega (arith, h)
+    by_case : (t : Bool) (ls : List (List ℕ)) → length ls ≤ length text → length (cond t ([] ∷ ls) (longer b ls)) ≤ suc (length text)
+    by_case true ls h = omega (arith, h)
+    by_case false [] h = omega arith
+    by_case false (l ∷ ls) h = omega (arith, h)
 
 -- so many lines more before
 abbrev moved_on : {A : Type 0} → ℕ → Found A → Found A
@@ -44,87 +44,87 @@ found_with nothing line ls behind = behind
 found_with unclear line ls behind = unclear_at line
 
 module _ {A : Type 0} (rule : List ℕ → Reading A) where
-  by-line : (passed : ℕ) (l : List ℕ) (ls : List (List ℕ))
+  by_line : (passed : ℕ) (l : List ℕ) (ls : List (List ℕ))
       → next_of rule passed (l ∷ ls) ≡ found_with (told_of rule l) (suc passed) ls (next_of rule (suc passed) ls)
   unfolding next_of next_said told_of
-  by-line passed l ls = by-case (is_bare (before Hash l))
+  by_line passed l ls = by_case (is_bare (before Hash l))
     where
-      by-reading : (r : Reading A) → found_on r (suc passed) ls ≡ found_with (told_by r) (suc passed) ls (read_by rule (next_said (suc passed) ls))
-      by-reading (is x) = refl
-      by-reading none = refl
+      by_reading : (r : Reading A) → found_on r (suc passed) ls ≡ found_with (told_by r) (suc passed) ls (read_by rule (next_said (suc passed) ls))
+      by_reading (is x) = refl
+      by_reading none = refl
 
-      by-case : (t : Bool) → read_by rule (cond t (next_said (suc passed) ls) (found (before Hash l) (suc passed) ls))
+      by_case : (t : Bool) → read_by rule (cond t (next_said (suc passed) ls) (found (before Hash l) (suc passed) ls))
           ≡ found_with (cond t nothing (told_by (rule (before Hash l)))) (suc passed) ls (read_by rule (next_said (suc passed) ls))
-      by-case true = refl
-      by-case false = by-reading (rule (before Hash l))
+      by_case true = refl
+      by_case false = by_reading (rule (before Hash l))
 
-  none-behind : (passed : ℕ) → next_of rule passed [] ≡ end
+  none_behind : (passed : ℕ) → next_of rule passed [] ≡ end
   unfolding next_of next_said
-  none-behind passed = refl
+  none_behind passed = refl
 
-  abbrev endingBehind : Found A → Ending
-  endingBehind (found x line ls) = ending_from rule line ls
-  endingBehind (unclear_at line) = unclear_in line
-  endingBehind end = all_read
+  abbrev ending_behind : Found A → Ending
+  ending_behind (found x line ls) = ending_from rule line ls
+  ending_behind (unclear_at line) = unclear_in line
+  ending_behind end = all_read
 
-  pub ending-by-next : (passed : ℕ) (ls : List (List ℕ)) → ending_from rule passed ls ≡ endingBehind (next_of rule passed ls)
+  pub ending_by_next : (passed : ℕ) (ls : List (List ℕ)) → ending_from rule passed ls ≡ ending_behind (next_of rule passed ls)
   unfolding ending_from
-  ending-by-next passed [] = ap endingBehind (sym (none-behind passed))
-  ending-by-next passed (l ∷ ls) = by-case (told_of rule l) (ending-by-next (suc passed) ls) ∙ ap endingBehind (sym (by-line passed l ls))
+  ending_by_next passed [] = ap ending_behind (sym (none_behind passed))
+  ending_by_next passed (l ∷ ls) = by_case (told_of rule l) (ending_by_next (suc passed) ls) ∙ ap ending_behind (sym (by_line passed l ls))
     where
-      by-case : (s : Told A) → ending_from rule (suc passed) ls ≡ endingBehind (next_of rule (suc passed) ls)
-          → ending_with s (suc passed) (ending_from rule (suc passed) ls) ≡ endingBehind (found_with s (suc passed) ls (next_of rule (suc passed) ls))
-      by-case (told x) e = refl
-      by-case nothing e = e
-      by-case unclear e = refl
+      by_case : (s : Told A) → ending_from rule (suc passed) ls ≡ ending_behind (next_of rule (suc passed) ls)
+          → ending_with s (suc passed) (ending_from rule (suc passed) ls) ≡ ending_behind (found_with s (suc passed) ls (next_of rule (suc passed) ls))
+      by_case (told x) e = refl
+      by_case nothing e = e
+      by_case unclear e = refl
 
-  next-counts : (passed : ℕ) (ls : List (List ℕ)) → Counted (passed + length ls) (next_of rule passed ls)
-  next-counts passed [] = rw (none-behind passed) tt
-  next-counts passed (l ∷ ls) =
+  next_counts : (passed : ℕ) (ls : List (List ℕ)) → Counted (passed + length ls) (next_of rule passed ls)
+  next_counts passed [] = rw (none_behind passed) tt
+  next_counts passed (l ∷ ls) =
       let e : suc passed + length ls ≡ passed + suc (length ls) = omega arith in
-      rw (by-line passed l ls) (by-case (told_of rule l) e (next-counts (suc passed) ls))
+      rw (by_line passed l ls) (by_case (told_of rule l) e (next_counts (suc passed) ls))
     where
-      by-case : (s : Told A) → suc passed + length ls ≡ passed + suc (length ls) → Counted (suc passed + length ls) (next_of rule (suc passed) ls)
+      by_case : (s : Told A) → suc passed + length ls ≡ passed + suc (length ls) → Counted (suc passed + length ls) (next_of rule (suc passed) ls)
           → Counted (passed + suc (length ls)) (found_with s (suc passed) ls (next_of rule (suc passed) ls))
-      by-case (told x) e h = (e, omega arith)
-      by-case nothing e h = rw e at h
-      by-case unclear e h = omega arith
+      by_case (told x) e h = (e, omega arith)
+      by_case nothing e h = rw e at h
+      by_case unclear e h = omega arith
 
-  pub lines-before : (k passed : ℕ) (ls : List (List ℕ)) → next_of rule (k + passed) ls ≡ moved_on k (next_of rule passed ls)
-  lines-before k passed [] = none-behind (k + passed) ∙ ap (moved_on k) (sym (none-behind passed))
-  lines-before k passed (l ∷ ls) =
+  pub lines_before : (k passed : ℕ) (ls : List (List ℕ)) → next_of rule (k + passed) ls ≡ moved_on k (next_of rule passed ls)
+  lines_before k passed [] = none_behind (k + passed) ∙ ap (moved_on k) (sym (none_behind passed))
+  lines_before k passed (l ∷ ls) =
       let e : k + suc passed ≡ suc (k + passed) = omega arith in
-      by-line (k + passed) l ls ∙ by-case (told_of rule l) e (lines-before k (suc passed) ls) ∙ ap (moved_on k) (sym (by-line passed l ls))
+      by_line (k + passed) l ls ∙ by_case (told_of rule l) e (lines_before k (suc passed) ls) ∙ ap (moved_on k) (sym (by_line passed l ls))
     where
-      by-case : (s : Told A) → k + suc passed ≡ suc (k + passed) → next_of rule (k + suc passed) ls ≡ moved_on k (next_of rule (suc passed) ls)
+      by_case : (s : Told A) → k + suc passed ≡ suc (k + passed) → next_of rule (k + suc passed) ls ≡ moved_on k (next_of rule (suc passed) ls)
           → found_with s (suc (k + passed)) ls (next_of rule (suc (k + passed)) ls)
           ≡ moved_on k (found_with s (suc passed) ls (next_of rule (suc passed) ls))
-      by-case (told x) e h = ap (λ (m : ℕ). found x m ls) (sym e)
-      by-case nothing e h = ap (λ (m : ℕ). next_of rule m ls) (sym e) ∙ h
-      by-case unclear e h = ap unclear_at (sym e)
+      by_case (told x) e h = ap (λ (m : ℕ). found x m ls) (sym e)
+      by_case nothing e h = ap (λ (m : ℕ). next_of rule m ls) (sym e) ∙ h
+      by_case unclear e h = ap unclear_at (sym e)
 
   module _ {E : Type 0} (entry : A → ℕ → E) where
-    abbrev entriesBehind : Found A → List E
-    entriesBehind (found x line ls) = entry x line ∷ entries_from rule entry line ls
-    entriesBehind (unclear_at line) = []
-    entriesBehind end = []
+    abbrev entries_behind : Found A → List E
+    entries_behind (found x line ls) = entry x line ∷ entries_from rule entry line ls
+    entries_behind (unclear_at line) = []
+    entries_behind end = []
 
-    pub all-by-next : (passed : ℕ) (ls : List (List ℕ)) → entries_from rule entry passed ls ≡ entriesBehind (next_of rule passed ls)
+    pub all_by_next : (passed : ℕ) (ls : List (List ℕ)) → entries_from rule entry passed ls ≡ entries_behind (next_of rule passed ls)
     unfolding entries_from
-    all-by-next passed [] = ap entriesBehind (sym (none-behind passed))
-    all-by-next passed (l ∷ ls) = by-case (told_of rule l) (all-by-next (suc passed) ls) ∙ ap entriesBehind (sym (by-line passed l ls))
+    all_by_next passed [] = ap entries_behind (sym (none_behind passed))
+    all_by_next passed (l ∷ ls) = by_case (told_of rule l) (all_by_next (suc passed) ls) ∙ ap entries_behind (sym (by_line passed l ls))
       where
-        by-case : (s : Told A) → entries_from rule entry (suc passed) ls ≡ entriesBehind (next_of rule (suc passed) ls)
+        by_case : (s : Told A) → entries_from rule entry (suc passed) ls ≡ entries_behind (next_of rule (suc passed) ls)
             → entries_with entry s (suc passed) (entries_from rule entry (suc passed) ls)
-            ≡ entriesBehind (found_with s (suc passed) ls (next_of rule (suc passed) ls))
-        by-case (told x) e = refl
-        by-case nothing e = e
-        by-case unclear e = refl
+            ≡ entries_behind (found_with s (suc passed) ls (next_of rule (suc passed) ls))
+        by_case (told x) e = refl
+        by_case nothing e = e
+        by_case unclear e = refl
 
     -- ---- from the first entry to the last
 
-    pub none-walked : (text : List ℕ) → Walked rule entry text 0 0 0
-    none-walked text = record { others = refl; ending = refl; left = omega arith; met = omega arith }
+    pub none_walked : (text : List ℕ) → Walked rule entry text 0 0 0
+    none_walked text = record { others = refl; ending = refl; left = omega arith; met = omega arith }
 
 module _ {A E : Type 0} {rule : List ℕ → Reading A} {entry : A → ℕ → E} {text : List ℕ} {at passed n : ℕ} (w : Walked rule entry text at passed n) where
   abbrev es : List E
@@ -143,59 +143,59 @@ module _ {A E : Type 0} {rule : List ℕ → Reading A} {entry : A → ℕ → E
 
   -- what comes next
   module _ (f : Found A) (e : f ≡ next_of rule 0 rest) where
-    next-is : next_of rule passed rest ≡ moved_on passed f
-    next-is =
+    next_is : next_of rule passed rest ≡ moved_on passed f
+    next_is =
         ap (λ (k : ℕ). next_of rule k rest) (let z : passed ≡ passed + 0 = omega arith in z)
-        ∙ lines-before rule passed 0 rest
+        ∙ lines_before rule passed 0 rest
         ∙ ap (moved_on passed) (sym e)
 
-    entries_next : entries_from rule entry passed rest ≡ entriesBehind rule entry (moved_on passed f)
-    entries_next = all-by-next rule entry passed rest ∙ ap (entriesBehind rule entry) next-is
+    entries_next : entries_from rule entry passed rest ≡ entries_behind rule entry (moved_on passed f)
+    entries_next = all_by_next rule entry passed rest ∙ ap (entries_behind rule entry) next_is
 
-    ending-next : ending_from rule passed rest ≡ endingBehind rule (moved_on passed f)
-    ending-next = ending-by-next rule passed rest ∙ ap (endingBehind rule) next-is
+    ending_next : ending_from rule passed rest ≡ ending_behind rule (moved_on passed f)
+    ending_next = ending_by_next rule passed rest ∙ ap (ending_behind rule) next_is
 
     counted_next : Counted (length rest) f
-    counted_next = subst (λ (k : ℕ). Counted k f) (let z : 0 + length rest ≡ length rest = omega arith in z) (rw (sym e) at (next-counts rule 0 rest))
+    counted_next = subst (λ (k : ℕ). Counted k f) (let z : 0 + length rest ≡ length rest = omega arith in z) (rw (sym e) at (next_counts rule 0 rest))
 
   -- nothing any more
   pub no_more : end ≡ next_of rule 0 rest → Ended rule entry text n all_read
-  no_more e = none_left all_read (entries_next end e) (sym (ending-next end e))
+  no_more e = none_left all_read (entries_next end e) (sym (ending_next end e))
 
   -- a line that cannot be read
   module _ (line : ℕ) (e : unclear_at line ≡ next_of rule 0 rest) where
-    pub unclear-line : line ≤ length rest
-    unclear-line = counted_next (unclear_at line) e
+    pub unclear_line_lem : line ≤ length rest
+    unclear_line_lem = counted_next (unclear_at line) e
 
-    pub at-unclear : Ended rule entry text n (unclear_in (passed + line))
-    at-unclear = none_left (unclear_in (passed + line)) (entries_next (unclear_at line) e) (sym (ending-next (unclear_at line) e))
+    pub at_unclear : Ended rule entry text n (unclear_in (passed + line))
+    at_unclear = none_left (unclear_in (passed + line)) (entries_next (unclear_at line) e) (sym (ending_next (unclear_at line) e))
 
   -- one entry more
   module _ (x : A) (line next : ℕ) (e : found x line (lines (drop next text)) ≡ next_of rule 0 rest) where
-    pub lines-read : line + length (lines (drop next text)) ≡ length rest
-    lines-read = (counted_next (found x line (lines (drop next text))) e).0
+    pub lines_read : line + length (lines (drop next text)) ≡ length rest
+    lines_read = (counted_next (found x line (lines (drop next text))) e).0
 
-    pub lines-some : 0 < line
-    lines-some = (counted_next (found x line (lines (drop next text))) e).1
+    pub lines_some : 0 < line
+    lines_some = (counted_next (found x line (lines (drop next text))) e).1
 
-    left-now : drop n es ≡ entry x (passed + line) ∷ entries_from rule entry (passed + line) (lines (drop next text))
-    left-now = sym w.others ∙ entries_next (found x line (lines (drop next text))) e
+    left_now : drop n es ≡ entry x (passed + line) ∷ entries_from rule entry (passed + line) (lines (drop next text))
+    left_now = sym w.others ∙ entries_next (found x line (lines (drop next text))) e
 
     pub is_one : n < length es
-    is_one = omega (arith, length-drop n es, ap length left-now)
+    is_one = omega (arith, length-drop n es, ap length left_now)
 
-    pub is-met : (d : E) → entry x (passed + line) ≡ get_or es n d
-    is-met d = first-same (sym left-now ∙ drop-cons es n d is_one)
+    pub is_met : (d : E) → entry x (passed + line) ≡ get_or es n d
+    is_met d = first_same (sym left_now ∙ drop-cons es n d is_one)
       where
-        first-same : {y z : E} {ys zs : List E} → y ∷ ys ≡ z ∷ zs → y ≡ z
-        first-same h = cc
+        first_same : {y z : E} {ys zs : List E} → y ∷ ys ≡ z ∷ zs → y ≡ z
+        first_same h = cc
 
     pub walked_on : Walked rule entry text next (passed + line) (n + 1)
     walked_on =
         record {
-          others = others_same (sym left-now ∙ drop-cons es n (entry x (passed + line)) is_one) ∙ ap (λ (i : ℕ). drop i es) (sym (add-one n));
-          ending = sym (ending-next (found x line (lines (drop next text))) e) ∙ w.ending;
-          left = omega (arith, w.left, lines-read);
+          others = others_same (sym left_now ∙ drop-cons es n (entry x (passed + line)) is_one) ∙ ap (λ (i : ℕ). drop i es) (sym (add-one n));
+          ending = sym (ending_next (found x line (lines (drop next text))) e) ∙ w.ending;
+          left = omega (arith, w.left, lines_read);
           met = omega (arith, is_one);
         }
       where

@@ -13,22 +13,22 @@ use Rattle.text_fields.specs.notions.Plain.{is_plain, IsWord, is_one_line}
 -- the first byte of plain ones, and the others
 plain_first : (b : ℕ) (word : List ℕ) → is_plain (b ∷ word) ≡ true → (is_blank b ≡ false) × ((eqb b hash ≡ false) × (is_plain word ≡ true))
 unfolding is_plain
-plain_first b word e = by-case (is_blank b) (eqb b hash) refl refl e
+plain_first b word e = by_case (is_blank b) (eqb b hash) refl refl e
   where
-    by-case : (s t : Bool) → is_blank b ≡ s → eqb b hash ≡ t → cond s false (cond t false (is_plain word)) ≡ true
+    by_case : (s t : Bool) → is_blank b ≡ s → eqb b hash ≡ t → cond s false (cond t false (is_plain word)) ≡ true
         → (is_blank b ≡ false) × ((eqb b hash ≡ false) × (is_plain word ≡ true))
-    by-case true t p q e = absurd (true≢false (sym e))
-    by-case false true p q e = absurd (true≢false (sym e))
-    by-case false false p q e = (p, (q, e))
+    by_case true t p q e = absurd (true≢false (sym e))
+    by_case false true p q e = absurd (true≢false (sym e))
+    by_case false false p q e = (p, (q, e))
 
 -- in front of any text
 module _ (text : List ℕ) where
-  pub no-comment : (word : List ℕ) → is_plain word ≡ true → before Hash (word ++ text) ≡ word ++ before Hash text
+  pub no_comment : (word : List ℕ) → is_plain word ≡ true → before Hash (word ++ text) ≡ word ++ before Hash text
   unfolding before is_stop
-  no-comment [] e = refl
-  no-comment (b ∷ word) e =
+  no_comment [] e = refl
+  no_comment (b ∷ word) e =
       let h = plain_first b word e in
-      ap (λ (t : Bool). cond t [] (b ∷ before Hash (word ++ text))) h.1.0 ∙ ap (λ (l : List ℕ). b ∷ l) (no-comment word h.1.1)
+      ap (λ (t : Bool). cond t [] (b ∷ before Hash (word ++ text))) h.1.0 ∙ ap (λ (l : List ℕ). b ∷ l) (no_comment word h.1.1)
 
   starts : (word : List ℕ) → IsWord word → since Field (word ++ text) ≡ word ++ text
   unfolding since is_stop
@@ -36,44 +36,44 @@ module _ (text : List ℕ) where
   starts (b ∷ word) w =
       ap (λ (t : Bool). cond (not t) (b ∷ (word ++ text)) (since Field (word ++ text))) (plain_first b word w.plain).0
 
-  pub not-bare : (word : List ℕ) → IsWord word → is_bare (word ++ text) ≡ false
+  pub not_bare : (word : List ℕ) → IsWord word → is_bare (word ++ text) ≡ false
   unfolding is_bare
-  not-bare [] w = absurd (let s = w.some in omega (arith, s))
-  not-bare (b ∷ word) w = ap (λ (t : Bool). cond t (is_bare (word ++ text)) false) (plain_first b word w.plain).0
+  not_bare [] w = absurd (let s = w.some in omega (arith, s))
+  not_bare (b ∷ word) w = ap (λ (t : Bool). cond t (is_bare (word ++ text)) false) (plain_first b word w.plain).0
 
   -- up to what stops it
-  field-before : (word : List ℕ) → is_plain word ≡ true → before Blank (word ++ text) ≡ word ++ before Blank text
+  field_before : (word : List ℕ) → is_plain word ≡ true → before Blank (word ++ text) ≡ word ++ before Blank text
   unfolding before is_stop
-  field-before [] e = refl
-  field-before (b ∷ word) e =
+  field_before [] e = refl
+  field_before (b ∷ word) e =
       let h = plain_first b word e in
-      ap (λ (t : Bool). cond t [] (b ∷ before Blank (word ++ text))) h.0 ∙ ap (λ (l : List ℕ). b ∷ l) (field-before word h.1.1)
+      ap (λ (t : Bool). cond t [] (b ∷ before Blank (word ++ text))) h.0 ∙ ap (λ (l : List ℕ). b ∷ l) (field_before word h.1.1)
 
-  field-since : (word : List ℕ) → is_plain word ≡ true → since Blank (word ++ text) ≡ since Blank text
+  field_since : (word : List ℕ) → is_plain word ≡ true → since Blank (word ++ text) ≡ since Blank text
   unfolding since is_stop
-  field-since [] e = refl
-  field-since (b ∷ word) e =
+  field_since [] e = refl
+  field_since (b ∷ word) e =
       let h = plain_first b word e in
-      ap (λ (t : Bool). cond t (b ∷ (word ++ text)) (since Blank (word ++ text))) h.0 ∙ field-since word h.1.1
+      ap (λ (t : Bool). cond t (b ∷ (word ++ text)) (since Blank (word ++ text))) h.0 ∙ field_since word h.1.1
 
 -- a word with a blank behind it, and one with nothing
 module _ (word text : List ℕ) (w : IsWord word) where
   pub field_is : field_of (word ++ (space ∷ text)) ≡ word
   unfolding field_of before is_stop is_blank
-  field_is = ap (before Blank) (starts (space ∷ text) word w) ∙ field-before (space ∷ text) word w.plain ∙ append-nil word
+  field_is = ap (before Blank) (starts (space ∷ text) word w) ∙ field_before (space ∷ text) word w.plain ∙ append-nil word
 
-  pub behind-is : after_field (word ++ (space ∷ text)) ≡ space ∷ text
+  pub behind_is : after_field (word ++ (space ∷ text)) ≡ space ∷ text
   unfolding after_field since is_stop is_blank
-  behind-is = ap (since Blank) (starts (space ∷ text) word w) ∙ field-since (space ∷ text) word w.plain
+  behind_is = ap (since Blank) (starts (space ∷ text) word w) ∙ field_since (space ∷ text) word w.plain
 
 module _ (word : List ℕ) (w : IsWord word) where
-  pub last-field-is : field_of (word ++ []) ≡ word
+  pub last_field_is : field_of (word ++ []) ≡ word
   unfolding field_of before
-  last-field-is = ap (before Blank) (starts [] word w) ∙ field-before [] word w.plain ∙ append-nil word
+  last_field_is = ap (before Blank) (starts [] word w) ∙ field_before [] word w.plain ∙ append-nil word
 
-  pub nothing-behind : after_field (word ++ []) ≡ []
+  pub nothing_behind : after_field (word ++ []) ≡ []
   unfolding after_field since
-  nothing-behind = ap (since Blank) (starts [] word w) ∙ field-since [] word w.plain
+  nothing_behind = ap (since Blank) (starts [] word w) ∙ field_since [] word w.plain
 
 -- a blank in front of a field is no part of it
 pub blank_passed : (text : List ℕ) → field_of (space ∷ text) ≡ field_of text
@@ -87,11 +87,11 @@ blank_passed_after text = refl
 -- a line in front of a text, and the last without its end
 one_line_first : (b : ℕ) (line : List ℕ) → is_one_line (b ∷ line) ≡ true → (eqb b line_end ≡ false) × (is_one_line line ≡ true)
 unfolding is_one_line
-one_line_first b line e = by-case (eqb b line_end) refl e
+one_line_first b line e = by_case (eqb b line_end) refl e
   where
-    by-case : (t : Bool) → eqb b line_end ≡ t → cond t false (is_one_line line) ≡ true → (eqb b line_end ≡ false) × (is_one_line line ≡ true)
-    by-case true p e = absurd (true≢false (sym e))
-    by-case false p e = (p, e)
+    by_case : (t : Bool) → eqb b line_end ≡ t → cond t false (is_one_line line) ≡ true → (eqb b line_end ≡ false) × (is_one_line line ≡ true)
+    by_case true p e = absurd (true≢false (sym e))
+    by_case false p e = (p, e)
 
 pub line_in_front : (line text : List ℕ) → is_one_line line ≡ true → lines (line ++ (line_end ∷ text)) ≡ line ∷ lines text
 unfolding lines

@@ -11,7 +11,7 @@ use Rattle.text_number.specs.rules.Bytes.{ascii}
 use Rattle.text_number.specs.laws.Number.{any_decimal_short}
 use Rattle.text_time.specs.laws.Clock.{one_digit_lem, two_digits_lem}
 use Rattle.text_refusal.specs.rules.Refusal.{star_words}
-use Rattle.text_refusal.specs.laws.Room.{either_short, star_words_short, with-words}
+use Rattle.text_refusal.specs.laws.Room.{either_short, star_words_short, with_words}
 use Rattle.text_heading.specs.rules.Angle.{tenths_of, circle_tenths, arc_text, pad_text, column_text, angle_text, circle_text, mark_text}
 use Rattle.text_heading.specs.rules.Place.{parts_text, coordinate_text, place_text}
 use Rattle.text_heading.specs.rules.Edition.{edition_text}
@@ -118,8 +118,8 @@ mark_words_short n = either_short 58 (eqb n 3) _ [] (omega arith) (omega arith)
 
 pub sight_refusal_short : (n : ℕ) → length (sight_refusal_text n) ≤ 179
 unfolding sight_refusal_text
-sight_refusal_short n = with-words n (sight_words n) 100 (sight_words_short n)
+sight_refusal_short n = with_words n (sight_words n) 100 (sight_words_short n)
 
 pub mark_refusal_short : (n : ℕ) → length (mark_refusal_text n) ≤ 137
 unfolding mark_refusal_text
-mark_refusal_short n = with-words n (mark_words n) 58 (mark_words_short n)
+mark_refusal_short n = with_words n (mark_words n) 58 (mark_words_short n)

@@ -37,10 +37,10 @@ angles_short asc dec =
 
 pub line_short : (number status : ℕ) (asc dec : Rad) → length (line_of number status asc dec) ≤ 100
 unfolding line_of
-line_short number status asc dec = by-case (eqb status 0)
+line_short number status asc dec = by_case (eqb status 0)
   where
-    by-case : (b : Bool) → length (decimal_text number ++ (space ∷ cond b (angles_text asc dec) (refused_text status))) ≤ 100
-    by-case true =
+    by_case : (b : Bool) → length (decimal_text number ++ (space ∷ cond b (angles_text asc dec) (refused_text status))) ≤ 100
+    by_case true =
         omega (arith, length-append (decimal_text number) (space ∷ angles_text asc dec), any_decimal_short number, angles_short asc dec)
-    by-case false =
+    by_case false =
         omega (arith, length-append (decimal_text number) (space ∷ refused_text status), any_decimal_short number, refused_short status)

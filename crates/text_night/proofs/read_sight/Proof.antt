@@ -11,7 +11,7 @@ use Rattle.text_date.specs.rules.Moment.{shown_moment}
 use Rattle.text_day.specs.rules.Day.{day_rule}
 use Rattle.text_fields.specs.rules.Fields.{field_of, after_field}
 use Rattle.text_fields.specs.rules.Walk.{told_by}
-use Rattle.text_fields.specs.laws.Fields.{field-end-short, behind-field}
+use Rattle.text_fields.specs.laws.Fields.{field_end_short, behind_field}
 use Rattle.text_night.specs.rules.Sight.{with_number, on_day, sight_rule}
 use Rattle.text_night.proofs.read_sight.Statement.{statement}
 use Rattle.text_night.proofs.read_sight.Tie as tie
@@ -31,17 +31,17 @@ module _ (c : tie.After-next-day) where
   on-day d e = ap (λ (x : Reading Float). told_by (on_day x (λ (t : Float). with_number t (after_field start.args.text.now)))) (day-is d e)
 
 sub-with-number : tie.Need-overflow-sub-with-number
-sub-with-number c = omega (arith, c.field-end.ensures, field-end-short (start c.before.before.before.before).args.text.now)
+sub-with-number c = omega (arith, c.field-end.ensures, field_end_short (start c.before.before.before.before).args.text.now)
 
 part-with-number-start : tie.Need-slice-bounds-with-number-start
-part-with-number-start c = omega (arith, c.field-end.ensures, field-end-short (start c.before.before.before.before).args.text.now)
+part-with-number-start c = omega (arith, c.field-end.ensures, field_end_short (start c.before.before.before.before).args.text.now)
 
 returns : tie.Need-returns
 returns c =
     let k = c.before.before in
     let day = k.before.before in
     let read = day.before.before in
-    rw (k.field-end.ensures, behind-field (start read).args.text.now) at c.with_number.ensures ∙ on-day read _ day.day.given.1
+    rw (k.field-end.ensures, behind_field (start read).args.text.now) at c.with_number.ensures ∙ on-day read _ day.day.given.1
 
 returns-2 : tie.Need-returns-2
 returns-2 c = on-day c.before.before _ c.enum_told.given.1

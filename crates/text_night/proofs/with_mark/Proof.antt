@@ -5,15 +5,15 @@ use native.Mathlib.Omega.{arith}
 use mathlib.Core.Path.{◌≡◌, sym, ◌∙◌}
 use Rattle.text_fields.specs.rules.Fields.{is_bare, after_field}
 use Rattle.text_night.specs.rules.Sight.{with_mark}
-use Rattle.text_fields.specs.laws.Fields.{field-end-short, behind-field}
+use Rattle.text_fields.specs.laws.Fields.{field_end_short, behind_field}
 use Rattle.text_night.proofs.with_mark.Statement.{statement}
 use Rattle.text_night.proofs.with_mark.Tie as tie
 
 sub-is-bare : tie.Need-overflow-sub-is-bare
-sub-is-bare c = omega (arith, c.field-end.ensures, field-end-short c.before.before.args.text.now)
+sub-is-bare c = omega (arith, c.field-end.ensures, field_end_short c.before.before.args.text.now)
 
 part-is-bare-start : tie.Need-slice-bounds-is-bare-start
-part-is-bare-start c = omega (arith, c.field-end.ensures, field-end-short c.before.before.args.text.now)
+part-is-bare-start c = omega (arith, c.field-end.ensures, field_end_short c.before.before.args.text.now)
 
 part-is-bare-end : tie.Need-slice-bounds-is-bare-end
 part-is-bare-end c = search rules
@@ -21,7 +21,7 @@ part-is-bare-end c = search rules
 -- whether anything follows the field
 module _ (c : tie.After-is-bare) where
   follows : c.is-bare.result ≡ is_bare (after_field c.before.before.before.before.args.text.now)
-  follows = rw (c.before.before.field-end.ensures, behind-field c.before.before.before.before.args.text.now) at c.is-bare.ensures
+  follows = rw (c.before.before.field-end.ensures, behind_field c.before.before.before.before.args.text.now) at c.is-bare.ensures
 
 returns : tie.Need-returns
 unfolding with_mark

@@ -48,15 +48,15 @@ number_words_short n =
 
 -- with such words and the line's end
 module _ (n : ℕ) (words : List ℕ) where
-  pub with-words : (k : ℕ) → length words ≤ k → length (number_words n ++ (words ++ (line_end ∷ []))) ≤ 79 + k
-  with-words k h =
+  pub with_words : (k : ℕ) → length words ≤ k → length (number_words n ++ (words ++ (line_end ∷ []))) ≤ 79 + k
+  with_words k h =
       let end : List ℕ = line_end ∷ [] in
       omega (arith, length-append (number_words n) (words ++ end), length-append words end, number_words_short n)
 
 pub refusal_short : (n : ℕ) → length (refusal_text n) ≤ 123
 unfolding refusal_text
-refusal_short n = with-words n (star_words n) 44 (star_words_short n)
+refusal_short n = with_words n (star_words n) 44 (star_words_short n)
 
 pub plan_refusal_short : (n : ℕ) → length (plan_refusal_text n) ≤ 155
 unfolding plan_refusal_text
-plan_refusal_short n = with-words n (observer_words n) 76 (observer_words_short n)
+plan_refusal_short n = with_words n (observer_words n) 76 (observer_words_short n)

@@ -1,6 +1,6 @@
 -- `text_residuals::put_row` meets its contract.
 use Rattle.double.specs.laws.Calls.{asks_nothing}
-use Rattle.lent.specs.laws.Writing.{after, same, length-kept}
+use Rattle.lent.specs.laws.Writing.{after, same, length_kept}
 use Rattle.text_residuals.specs.rules.Figures.{row_text}
 use Rattle.text_residuals.proofs.Cases.{as_read}
 use Rattle.text_residuals.proofs.put_row.Statement.{statement}
@@ -14,7 +14,7 @@ same_length c =
     let c3 = c4.before.before.before.before.before in
     let c2 = c3.before.before.before.before.before in
     let c1 = c2.before.before.before.before.before in
-    length-kept
+    length_kept
     (after c1.put-whole-then.ensures (after c2.put-whole-then2.ensures (after c3.put-whole-then3.ensures (after c4.put-whole-then4.ensures (after c5.put-whole-then5.ensures c6.put-whole-then6.ensures)))))
 
 returns : tie.Need-returns

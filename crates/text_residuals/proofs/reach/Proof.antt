@@ -5,7 +5,7 @@ use mir.Syntax.{w64}
 use mir.Val.{SFits, to_z, of_z}
 use mir.Facts.{to_z-of_z}
 use Rattle.signed.specs.rules.Signed.{reach}
-use Rattle.text_residuals.proofs.Cases.{size_above, above, fits-flipped, casts-flipped, reach-flipped}
+use Rattle.text_residuals.proofs.Cases.{size_above, above, fits_flipped, casts_flipped, reach_flipped}
 use Rattle.text_residuals.proofs.reach.Statement.{statement}
 use Rattle.text_residuals.proofs.reach.Tie as tie
 
@@ -18,16 +18,16 @@ module _ (c : tie.Start) where
   fits = rw (to_z-of_z c.ranges.z) c.ranges.z
 
 sub-result : tie.Need-overflow-sub-result
-sub-result c = fits-flipped _ (fits c.before) c.if1.true
+sub-result c = fits_flipped _ (fits c.before) c.if1.true
 
 cast-result : tie.Need-overflow-cast-result
-cast-result c = casts-flipped _ (fits c.before) c.if1.true
+cast-result c = casts_flipped _ (fits c.before) c.if1.true
 
 cast-result-2 : tie.Need-overflow-cast-result-2
 cast-result-2 c = above _ (fits c.before) c.if1.false
 
 returns : tie.Need-returns
-returns c = reach-flipped _ (fits c.before) c.if1.true ∙ ap reach (to_z-of_z c.before.ranges.z)
+returns c = reach_flipped _ (fits c.before) c.if1.true ∙ ap reach (to_z-of_z c.before.ranges.z)
 
 returns-2 : tie.Need-returns-2
 returns-2 c = sym (size_above (as_read c.before) c.if1.false) ∙ ap reach (to_z-of_z c.before.ranges.z)

@@ -98,11 +98,11 @@ taken_short s line star =
 
 any_taken_short : (s : Sheet) (line star : ℕ) → length (any_taken_text s line star) ≤ 180
 unfolding any_taken_text
-any_taken_short s line star = by-case (eqb (nat_abs s.count) 0)
+any_taken_short s line star = by_case (eqb (nat_abs s.count) 0)
   where
-    by-case : (t : Bool) → length (cond t [] (taken_text s line star)) ≤ 180
-    by-case true = omega arith
-    by-case false = taken_short s line star
+    by_case : (t : Bool) → length (cond t [] (taken_text s line star)) ≤ 180
+    by_case true = omega arith
+    by_case false = taken_short s line star
 
 coordinate_short : (s : Sheet) (line star : ℕ) → length (coordinate_text s line star) ≤ 264
 unfolding coordinate_text

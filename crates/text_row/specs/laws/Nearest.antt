@@ -44,15 +44,15 @@ module _ (x : Rad) (F : Finite x.0) where
   in_turn_lem =
       bounded binary64 zero turn (known (limited_radians x.0 F) ⊠ con degrees_of_radian ⊠ con milliseconds_of_degree) tt
 
-  whole-at-most : whole_part in_turn ≤ 86400000
-  whole-at-most =
+  whole_at_most : whole_part in_turn ≤ 86400000
+  whole_at_most =
       le_trans (whole_part_mono in_turn turn in_turn_lem.finite in_turn_lem.end (unfold round in tt) in_turn_lem.to)
       (unfold round to_unsigned in lit≤ tt)
 
   -- where it bears a minus sign it is −0, which `minus_zero_is_none` shows
-  pub milliseconds-nearest : Plus in_turn → IsNearest (nearest_whole in_turn) in_turn
-  milliseconds-nearest p =
-      let h = whole-at-most in
+  pub milliseconds_nearest : Plus in_turn → IsNearest (nearest_whole in_turn) in_turn
+  milliseconds_nearest p =
+      let h = whole_at_most in
       nearest_true in_turn (mul-fits binary64 _ _) in_turn_lem.finite p (omega arith)
 
 pub minus_zero_is_none : hours_text (rad (neg zero)) ≡ ascii "00:00:00.000"
@@ -72,23 +72,23 @@ abbrev many : Float
 many = decimal 1400000000 0
 
 module _ (x : Rad) (near : size x.0 ≼ farthest) where
-  abbrev inArc : Float
-  inArc = hundredths (to_degrees x)
+  abbrev in_arc : Float
+  in_arc = hundredths (to_degrees x)
 
-  in-arc : Between (neg many) many inArc
+  in_arc_lem : Between (neg many) many in_arc
   unfolding is_finite le neg mul of_bits round
-  in-arc =
+  in_arc_lem =
       bounded binary64 (neg many) many (known (size→between farthest x.0 tt near) ⊠ con degrees_of_radian ⊠ con hundredths_of_degree) tt
 
-  finite-arc : Finite (size inArc)
-  finite-arc = rw (finite_size inArc) in-arc.finite
+  finite_arc : Finite (size in_arc)
+  finite_arc = rw (finite_size in_arc) in_arc_lem.finite
 
-  arc-at-most : whole_part (size inArc) ≤ 1400000000
-  arc-at-most =
-      le_trans (whole_part_mono (size inArc) many finite-arc in-arc.end (unfold round in tt) (between→size many inArc in-arc))
+  arc_at_most : whole_part (size in_arc) ≤ 1400000000
+  arc_at_most =
+      le_trans (whole_part_mono (size in_arc) many finite_arc in_arc_lem.end (unfold round in tt) (between→size many in_arc in_arc_lem))
       (unfold round to_unsigned in lit≤ tt)
 
-  pub hundredths-nearest : IsNearest (nearest_whole (size inArc)) (size inArc)
-  hundredths-nearest =
-      let h = arc-at-most in
-      nearest_true (size inArc) (size_fits inArc (mul-fits binary64 _ _)) finite-arc (plus_size inArc in-arc.finite) (omega arith)
+  pub hundredths_nearest : IsNearest (nearest_whole (size in_arc)) (size in_arc)
+  hundredths_nearest =
+      let h = arc_at_most in
+      nearest_true (size in_arc) (size_fits in_arc (mul-fits binary64 _ _)) finite_arc (plus_size in_arc in_arc_lem.finite) (omega arith)

@@ -9,7 +9,7 @@ use Rattle.double.specs.laws.Calls.{asks_nothing}
 use Rattle.list.specs.rules.Stars.{count_of, stars, kept}
 use Rattle.list_edit.specs.laws.Gather.{fewer_kept}
 use Rattle.text_sheet.specs.rules.Sheet.{goods}
-use Rattle.text_sheet.specs.laws.Sheet.{kept-all, count-more, goods-more, goods_most}
+use Rattle.text_sheet.specs.laws.Sheet.{kept_all, count_more, goods_more, goods_most}
 use Rattle.text_sheet.proofs.counts.Statement.{statement}
 use Rattle.text_sheet.proofs.counts.Tie as tie
 
@@ -59,17 +59,17 @@ loop-again c =
     let all =
     ap (λ (n : ℕ). n + c.before.one_kept.result) inv.1.1.0.1
     ∙ ap (λ (n : ℕ). length (kept (take loop.i (stars s))) + n) c.before.one_kept.ensures
-    ∙ count-more s loop.i (index turn) star.result star.ensures in
+    ∙ count_more s loop.i (index turn) star.result star.ensures in
     let good =
     ap (λ (n : ℕ). n + c.one-good.result) inv.1.1.1.1
     ∙ ap (λ (n : ℕ). goods (kept (take loop.i (stars s))) + n) c.one-good.ensures
-    ∙ goods-more s loop.i (index turn) star.result star.ensures in
+    ∙ goods_more s loop.i (index turn) star.result star.ensures in
     (omega arith, (inv.1.0, ((omega (arith, one_more c.before), all), (omega (arith, one-good-more c), good))))
 
 returns : tie.Need-returns invariant-loop decreases-loop
 returns c =
     let loop = c.before.loop in
-    let whole = kept-all c.before.before.before.before.args.bytes.now loop.i (omega arith) in
+    let whole = kept_all c.before.before.before.before.args.bytes.now loop.i (omega arith) in
     (loop.invariant.1.1.0.1 ∙ ap length whole, loop.invariant.1.1.1.1 ∙ ap goods whole)
 
 pub counts-spec : {M : Type 1} → statement M

@@ -8,16 +8,16 @@ use Rattle.list.specs.rules.Record.{in_range}
 use Rattle.list.specs.rules.Stars.{kept}
 use Rattle.list.specs.declared.Star.{Star}
 use Rattle.text_sheet.specs.rules.Sheet.{goods}
-use Rattle.text_sheet.specs.laws.Sheet.{one-stays, one-goes}
+use Rattle.text_sheet.specs.laws.Sheet.{one_stays, one_goes}
 use Rattle.text_sheet.proofs.one_good.Statement.{statement}
 use Rattle.text_sheet.proofs.one_good.Tie as tie
 
 -- of a star that is kept
 good-or-bad : (r : Star) (b : Bool) → (r.number ≡ 0 → ⊥) → in_range r ≡ b → cond b 1 0 ≡ goods (kept (r ∷ []))
-good-or-bad r b h e = sym (ap goods (one-stays r h) ∙ add-zero (cond (in_range r) 1 0) ∙ ap (λ (t : Bool). cond t 1 0) e)
+good-or-bad r b h e = sym (ap goods (one_stays r h) ∙ add-zero (cond (in_range r) 1 0) ∙ ap (λ (t : Bool). cond t 1 0) e)
 
 returns : tie.Need-returns
-returns c = sym (ap goods (one-goes _ c.if1.true))
+returns c = sym (ap goods (one_goes _ c.if1.true))
 
 returns-2 : tie.Need-returns-2
 returns-2 c = good-or-bad _ true c.before.before.if1.false (sym c.before.in_range_lem.ensures ∙ c.if2.true)

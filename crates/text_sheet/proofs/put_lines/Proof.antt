@@ -6,10 +6,10 @@ use native.Mathlib.Omega.{arith}
 use lib.ListN.{take}
 use Rattle.double.specs.laws.Calls.{asks_nothing}
 use Rattle.lent.specs.rules.Writing.{Wrote}
-use Rattle.lent.specs.laws.Writing.{after, same, nothing, length-kept}
+use Rattle.lent.specs.laws.Writing.{after, same, nothing, length_kept}
 use Rattle.list.specs.rules.Stars.{count_of, stars, kept}
 use Rattle.text_sheet.specs.rules.Sheet.{lines}
-use Rattle.text_sheet.specs.laws.Sheet.{kept-all, lines_more}
+use Rattle.text_sheet.specs.laws.Sheet.{kept_all, lines_more}
 use Rattle.text_sheet.proofs.put_lines.Statement.{statement}
 use Rattle.text_sheet.proofs.put_lines.Tie as tie
 
@@ -39,10 +39,10 @@ loop-again c =
 returns : tie.Need-returns invariant-loop decreases-loop
 returns c =
     let loop = c.before.loop in
-    same (ap (lines _) (kept-all _ loop.i (omega (arith, loop.invariant)))) loop.invariant.1.1
+    same (ap (lines _) (kept_all _ loop.i (omega (arith, loop.invariant)))) loop.invariant.1.1
 
 pub put-lines-spec : {M : Type 1} → statement M
 put-lines-spec =
     tie.close
     (tie.spec invariant-loop decreases-loop asks_nothing asks_nothing loop-holds asks_nothing asks_nothing (λ c. search rules)
-    (λ c. search rules) loop-again (λ c. length-kept c.before.loop.invariant.1.1) returns)
+    (λ c. search rules) loop-again (λ c. length_kept c.before.loop.invariant.1.1) returns)

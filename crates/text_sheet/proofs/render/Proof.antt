@@ -11,7 +11,7 @@ use borrow.Author.Tests.{lt-ltb, le-ltb}
 use Rattle.double.specs.laws.Calls.{asks_nothing}
 use Rattle.quantity.specs.rules.Answer.{answered}
 use Rattle.lent.specs.rules.Writing.{Wrote}
-use Rattle.lent.specs.laws.Writing.{whole, length-kept}
+use Rattle.lent.specs.laws.Writing.{whole, length_kept}
 use Rattle.text_sheet.specs.rules.Sheet.{sheet_of}
 use Rattle.text_sheet.specs.rules.Render.{room}
 use Rattle.text_sheet.specs.laws.Room.{has_room_lem}
@@ -41,7 +41,7 @@ returns-2 c =
     let w = c.before.before.put-sheet.ensures in
     let fits : length (sheet_of rates s) ≤ length a.out.now = omega (arith, has_room_lem rates s (λ i. (test.before.before.shared-slice-known.given i).fits), test.if1.false) in
     let no = le-ltb (length a.out.now) room test.if1.false in
-    (simp no (ap answered (all rates s _ _ _ w fits)), (simp no (over rates s _ _ _ w fits), omega (arith, all rates s _ _ _ w fits, length-kept w)))
+    (simp no (ap answered (all rates s _ _ _ w fits)), (simp no (over rates s _ _ _ w fits), omega (arith, all rates s _ _ _ w fits, length_kept w)))
 
 pub render-spec : {M : Type 1} → statement M
 render-spec = tie.close (tie.spec returns asks_nothing same_length returns-2)

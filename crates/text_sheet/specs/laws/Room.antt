@@ -7,7 +7,7 @@ use Rattle.std.proofs.Math.ListN.{length, length-append}
 use Rattle.signed.specs.rules.Signed.{HasWord}
 use Rattle.list.specs.rules.Record.{in_range, Fitting}
 use Rattle.list.specs.rules.Stars.{most_stars, is_list, stars, is_kept, kept, AllFitting, Bytes}
-use Rattle.list.specs.laws.Stars.{few, length-stars}
+use Rattle.list.specs.laws.Stars.{few, length_stars}
 use Rattle.list.specs.declared.Star.{Star}
 use Rattle.list_edit.specs.laws.Gather.{fewer_kept}
 use Rattle.list_edit.specs.laws.Fitting.{list_fits}
@@ -39,12 +39,12 @@ rates_short true r f =
 
 pub line_short : (rates : Bool) (r : Star) → Fitting r → length (line rates r) ≤ 64
 unfolding line
-line_short rates r f = by-case (in_range r) (decimal_short r.number f.number) (place_short r f) (rates_short rates r f)
+line_short rates r f = by_case (in_range r) (decimal_short r.number f.number) (place_short r f) (rates_short rates r f)
   where
-    by-case : (b : Bool) → length (decimal_text r.number) ≤ 10 → length (place_text r) ≤ 23 → length (rates_text rates r) ≤ 24
+    by_case : (b : Bool) → length (decimal_text r.number) ≤ 10 → length (place_text r) ≤ 23 → length (rates_text rates r) ≤ 24
         → length (decimal_text r.number ++ cond b (place_text r ++ (rates_text rates r ++ ok_end)) bad_end) ≤ 64
-    by-case true n a t = simp length-append (omega arith)
-    by-case false n a t = simp length-append (omega arith)
+    by_case true n a t = simp length-append (omega arith)
+    by_case false n a t = simp length-append (omega arith)
 
 heading_short : (n : ℕ) → n < 4294967296 → length (heading n) ≤ 20
 unfolding heading
@@ -57,12 +57,12 @@ footing_short g b h k = let d = decimal_short g h in let e = decimal_short b k i
 module _ (rates : Bool) where
   lines_short : (rs : List Star) → AllFitting rs → length (lines rates (kept rs)) ≤ 64 * length (kept rs)
   lines_short [] f = omega arith
-  lines_short (r ∷ rs) f = by-case (is_kept r) (lines_short rs f.1)
+  lines_short (r ∷ rs) f = by_case (is_kept r) (lines_short rs f.1)
     where
-      by-case : (b : Bool) → length (lines rates (kept rs)) ≤ 64 * length (kept rs)
+      by_case : (b : Bool) → length (lines rates (kept rs)) ≤ 64 * length (kept rs)
           → length (lines rates (cond b (r ∷ kept rs) (kept rs))) ≤ 64 * length (cond b (r ∷ kept rs) (kept rs))
-      by-case true h = omega (arith, length-append (line rates r) (lines rates (kept rs)), line_short rates r f.0)
-      by-case false h = h
+      by_case true h = omega (arith, length-append (line rates r) (lines rates (kept rs)), line_short rates r f.0)
+      by_case false h = h
 
   sheet_short : (rs : List Star) → AllFitting rs → length rs ≤ most_stars → length (sheet_in rates (kept rs)) ≤ room
   unfolding sheet_in
@@ -76,8 +76,8 @@ module _ (rates : Bool) where
 
   pub has_room : (s : List ℕ) → Bytes s → length (sheet_of rates s) ≤ room
   unfolding sheet_of
-  has_room s y = by-case (is_list s) refl
+  has_room s y = by_case (is_list s) refl
     where
-      by-case : (b : Bool) → is_list s ≡ b → length (cond b (sheet_in rates (kept (stars s))) (refused_text 8)) ≤ room
-      by-case true t = sheet_short (stars s) (list_fits s y t) (omega (arith, length-stars s, few s t))
-      by-case false t = omega (arith, refused_short 8)
+      by_case : (b : Bool) → is_list s ≡ b → length (cond b (sheet_in rates (kept (stars s))) (refused_text 8)) ≤ room
+      by_case true t = sheet_short (stars s) (list_fits s y t) (omega (arith, length_stars s, few s t))
+      by_case false t = omega (arith, refused_short 8)

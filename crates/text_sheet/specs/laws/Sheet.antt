@@ -4,12 +4,12 @@ use Rattle.std.proofs.Common.{sym, ap, ◌∙◌, append_assoc, add_assoc, zero-
 use Rattle.lent.specs.laws.Flags.{at_most_one}
 use Rattle.list.specs.rules.Record.{in_range}
 use Rattle.list.specs.rules.Stars.{count_of, stars, kept, nth, Bytes}
-use Rattle.list.specs.laws.Stars.{all-stars, one_more}
+use Rattle.list.specs.laws.Stars.{all_stars, one_more}
 use Rattle.list.specs.declared.Star.{Star}
 use Rattle.list_edit.specs.rules.Edit.{gather_rule, Edit}
 use Rattle.list_edit.specs.laws.Gather.{kept_join}
 use Rattle.list_edit.specs.laws.Fitting.{list_by_length}
-use Rattle.list_edit.specs.laws.Calls.{gather-keeps, gather-as-long}
+use Rattle.list_edit.specs.laws.Calls.{gather_keeps, gather_as_long}
 use Rattle.list_edit.specs.declared.Edited.TheVariants.{Done}
 use Rattle.text_number.specs.rules.Refused.{refused_text}
 use Rattle.text_sheet.specs.rules.Sheet.{line, lines, goods, sheet_in, sheet_of}
@@ -17,11 +17,11 @@ use Rattle.text_sheet.specs.rules.Sheet.{line, lines, goods, sheet_in, sheet_of}
 -- ---- one star: kept, or not
 
 module _ (r : Star) where
-  pub one-stays : (r.number ≡ 0 → ⊥) → kept (r ∷ []) ≡ r ∷ []
-  one-stays h = rw (ne_eqb r.number 0 h)
+  pub one_stays : (r.number ≡ 0 → ⊥) → kept (r ∷ []) ≡ r ∷ []
+  one_stays h = rw (ne_eqb r.number 0 h)
 
-  pub one-goes : r.number ≡ 0 → kept (r ∷ []) ≡ []
-  one-goes h = rw (eq-eqb r.number 0 h)
+  pub one_goes : r.number ≡ 0 → kept (r ∷ []) ≡ []
+  one_goes h = rw (eq-eqb r.number 0 h)
 
 -- ---- star by star
 
@@ -36,8 +36,8 @@ goods_join (r ∷ a) b =
     ap (λ (n : ℕ). cond (in_range r) 1 0 + n) (goods_join a b) ∙ sym (add_assoc (cond (in_range r) 1 0) (goods a) (goods b))
 
 module _ (s : List ℕ) (i : ℕ) where
-  pub kept-all : i ≡ count_of s → kept (take i (stars s)) ≡ kept (stars s)
-  kept-all e = ap kept (all-stars s i e)
+  pub kept_all : i ≡ count_of s → kept (take i (stars s)) ≡ kept (stars s)
+  kept_all e = ap kept (all_stars s i e)
 
   module _ (h : i < count_of s) (r : Star) (e : r ≡ nth s i) where
     kept_more : kept (take (i + 1) (stars s)) ≡ kept (take i (stars s)) ++ kept (r ∷ [])
@@ -50,11 +50,11 @@ module _ (s : List ℕ) (i : ℕ) where
         → lines rates (kept (take i (stars s))) ++ lines rates (kept (r ∷ [])) ≡ lines rates (kept (take (i + 1) (stars s)))
     lines_more rates = sym (ap (lines rates) kept_more ∙ lines_join rates (kept (take i (stars s))) (kept (r ∷ [])))
 
-    pub count-more : length (kept (take i (stars s))) + length (kept (r ∷ [])) ≡ length (kept (take (i + 1) (stars s)))
-    count-more = sym (ap length kept_more ∙ length-append (kept (take i (stars s))) (kept (r ∷ [])))
+    pub count_more : length (kept (take i (stars s))) + length (kept (r ∷ [])) ≡ length (kept (take (i + 1) (stars s)))
+    count_more = sym (ap length kept_more ∙ length-append (kept (take i (stars s))) (kept (r ∷ [])))
 
-    pub goods-more : goods (kept (take i (stars s))) + goods (kept (r ∷ [])) ≡ goods (kept (take (i + 1) (stars s)))
-    goods-more = sym (ap goods kept_more ∙ goods_join (kept (take i (stars s))) (kept (r ∷ [])))
+    pub goods_more : goods (kept (take i (stars s))) + goods (kept (r ∷ [])) ≡ goods (kept (take (i + 1) (stars s)))
+    goods_more = sym (ap goods kept_more ∙ goods_join (kept (take i (stars s))) (kept (r ∷ [])))
 
 -- no more are good than there are
 pub goods_most : (rs : List Star) → goods rs ≤ length rs
@@ -67,4 +67,4 @@ pub sheet_after_gather : (rates : Bool) (s : List ℕ) → Bytes s → (new : Li
     → sheet_of rates new ≡ sheet_of rates s
 unfolding sheet_of
 sheet_after_gather rates s y new p =
-    λ i. cond (list_by_length new s (gather-as-long s y new p) i) (sheet_in rates (gather-keeps s y new p i)) (refused_text 8)
+    λ i. cond (list_by_length new s (gather_as_long s y new p) i) (sheet_in rates (gather_keeps s y new p i)) (refused_text 8)

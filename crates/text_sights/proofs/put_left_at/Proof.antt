@@ -11,14 +11,14 @@ use Rattle.text_sights.proofs.put_left_at.Tie as tie
 returns : tie.Need-returns
 unfolding left_at
 returns c =
-    same (rw (eq-eqb _ 0 (sym c.before.before.status-at.ensures ∙ c.before.if1.true))) (nothing _ _ _ c.within.ensures)
+    same (rw (eq-eqb _ 0 (sym c.before.before.status_at.ensures ∙ c.before.if1.true))) (nothing _ _ _ c.within.ensures)
 
 returns-2 : tie.Need-returns-2
 unfolding left_at
 returns-2 c =
     let at-put = c.before.before in
     let else = at-put.before.before.before.before in
-    let status = else.before.status-at.ensures in
+    let status = else.before.status_at.ensures in
     same (rw (ne_eqb _ 0 (λ e. else.if1.false (status ∙ e))))
     (rw (status, at-put.before.star_at_lem.ensures, at-put.before.before.number_at.ensures) at at-put.put-left.ensures)
 

@@ -14,7 +14,7 @@ returns c =
     let at-put = c.before.before in
     let then = at-put.before.before in
     let at-star = then.before in
-    let status = at-star.before.before.status-at.ensures in
+    let status = at-star.before.before.status_at.ensures in
     same (rw (ne_eqb _ 0 (λ e. then.if1.true (status ∙ e))))
     (rw (status, at-star.star_at_lem.ensures, at-star.before.number_at.ensures) at at-put.put-refused-sight.ensures)
 
@@ -26,7 +26,7 @@ returns-2 c =
     let at-asc = at-dec.before in
     let else = at-asc.before in
     let at-star = else.before in
-    let status = at-star.before.before.status-at.ensures in
+    let status = at-star.before.before.status_at.ensures in
     same (rw (eq-eqb _ 0 (sym status ∙ else.if1.false)))
     (rw (at-dec.residual-at2.ensures, at-asc.residual-at.ensures, at-star.star_at_lem.ensures, at-star.before.number_at.ensures)
     at at-put.put-sight.ensures)

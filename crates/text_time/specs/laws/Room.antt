@@ -14,11 +14,11 @@ use Rattle.text_time.specs.laws.Clock.{two_digits_lem}
 
 any_two_short : (n : ℕ) → length (two_digits n) ≤ 21
 unfolding two_digits
-any_two_short n = by-case (ltb n 10)
+any_two_short n = by_case (ltb n 10)
   where
-    by-case : (b : Bool) → length (cond b (digit0 ∷ decimal_text n) (decimal_text n)) ≤ 21
-    by-case true = omega (arith, any_decimal_short n)
-    by-case false = omega (arith, any_decimal_short n)
+    by_case : (b : Bool) → length (cond b (digit0 ∷ decimal_text n) (decimal_text n)) ≤ 21
+    by_case true = omega (arith, any_decimal_short n)
+    by_case false = omega (arith, any_decimal_short n)
 
 pub clock_short : (n : ℕ) → length (clock_text n) ≤ 27
 unfolding clock_text
@@ -43,20 +43,20 @@ time_short x end =
 
 pub why_short : (n : ℕ) → length (why_text n) ≤ 29
 unfolding why_text
-why_short n = by-case (eqb n 15) (eqb n 16)
+why_short n = by_case (eqb n 15) (eqb n 16)
   where
-    by-case : (a b : Bool) → length (cond a (ascii "never rises\n") (cond b (ascii "never sets\n") (refused_text n))) ≤ 29
-    by-case true b = omega arith
-    by-case false true = omega arith
-    by-case false false = refused_short n
+    by_case : (a b : Bool) → length (cond a (ascii "never rises\n") (cond b (ascii "never sets\n") (refused_text n))) ≤ 29
+    by_case true b = omega arith
+    by_case false true = omega arith
+    by_case false false = refused_short n
 
 pub again_short : (x : Float) → length (again_text x) ≤ 34
 unfolding again_text
-again_short x = by-case (lt x one)
+again_short x = by_case (lt x one)
   where
-    by-case : (b : Bool) → length (cond b (ascii " again " ++ time_text x) []) ≤ 34
-    by-case true = omega (arith, length-append (ascii " again ") (time_text x), clock_short (seconds_of x))
-    by-case false = omega arith
+    by_case : (b : Bool) → length (cond b (ascii " again " ++ time_text x) []) ≤ 34
+    by_case true = omega (arith, length-append (ascii " again ") (time_text x), clock_short (seconds_of x))
+    by_case false = omega arith
 
 outcome_short : (a : Answer Triple) (again : Float) → length (outcome_text a again) ≤ 118
 unfolding times_text

@@ -19,16 +19,16 @@ module _ (x : Float) (day : Between zero one x) where
   unfolding is_finite le mul add of_bits round
   sum_between = bounded binary64 half (over 172801 2) (known day ⊠ con seconds_of_day ⊞ con half) tt
 
-  pub seconds-at-most : seconds_of x ≤ 86400
-  seconds-at-most =
+  pub seconds_at_most : seconds_of x ≤ 86400
+  seconds_at_most =
       let s = sum_between in
       le_trans
       (whole_part_mono (x ⊗ seconds_of_day ⊕ half) (over 172801 2) s.finite s.end (unfold round in tt) s.to)
       (unfold round to_unsigned in lit≤ tt)
 
-  pub seconds-true : IsWholePart (seconds_of x) (x ⊗ seconds_of_day ⊕ half)
-  seconds-true =
+  pub seconds_true : IsWholePart (seconds_of x) (x ⊗ seconds_of_day ⊕ half)
+  seconds_true =
       let s = sum_between in
-      let h = seconds-at-most in
+      let h = seconds_at_most in
       whole_part_true (x ⊗ seconds_of_day ⊕ half) s.finite
       (plus_of_positive half (x ⊗ seconds_of_day ⊕ half) (unfold of_bits in tt) s.from) (omega arith)

@@ -20,29 +20,29 @@ only_itself (x ∷ text) [] e = cc
 
 -- another length, and another byte
 pub other_length : (text word : List ℕ) → length text ≢ length word → is_word text word ≡ false
-other_length text word h = by-case (is_word text word) refl
+other_length text word h = by_case (is_word text word) refl
   where
-    by-case : (b : Bool) → is_word text word ≡ b → is_word text word ≡ false
-    by-case true e = absurd (h (ap length (only_itself text word e)))
-    by-case false e = e
+    by_case : (b : Bool) → is_word text word ≡ b → is_word text word ≡ false
+    by_case true e = absurd (h (ap length (only_itself text word e)))
+    by_case false e = e
 
 pub other_byte : (text word : List ℕ) (i : ℕ) → get_or text i 0 ≢ get_or word i 0 → is_word text word ≡ false
-other_byte text word i h = by-case (is_word text word) refl
+other_byte text word i h = by_case (is_word text word) refl
   where
-    by-case : (b : Bool) → is_word text word ≡ b → is_word text word ≡ false
-    by-case true e = absurd (h (ap (λ (l : List ℕ). get_or l i 0) (only_itself text word e)))
-    by-case false e = e
+    by_case : (b : Bool) → is_word text word ≡ b → is_word text word ≡ false
+    by_case true e = absurd (h (ap (λ (l : List ℕ). get_or l i 0) (only_itself text word e)))
+    by_case false e = e
 
 -- the bytes below i, and byte i
 pub one_more : (text word : List ℕ) (i : ℕ) → ((k : ℕ) → k < i → get_or text k 0 ≡ get_or word k 0) → get_or text i 0 ≡ get_or word i 0
     → (k : ℕ) → k < i + 1 → get_or text k 0 ≡ get_or word k 0
-one_more text word i h e k below = by-case (eqb k i) refl
+one_more text word i h e k below = by_case (eqb k i) refl
   where
-    by-case : (b : Bool) → eqb k i ≡ b → get_or text k 0 ≡ get_or word k 0
-    by-case true same =
+    by_case : (b : Bool) → eqb k i ≡ b → get_or text k 0 ≡ get_or word k 0
+    by_case true same =
         let at = eqb-true k i same in
         ap (λ (n : ℕ). get_or text n 0) at ∙ e ∙ ap (λ (n : ℕ). get_or word n 0) (sym at)
-    by-case false other = h k (omega (arith, eqb-false k i other))
+    by_case false other = h k (omega (arith, eqb-false k i other))
 
 -- every byte, of as many
 pub every_byte : (text word : List ℕ) → length text ≡ length word

@@ -52,14 +52,14 @@ not_below : (z p n e : ℕ) → 0 < z → 0 * e + n * z ≤ p * z + 0 * e → n 
 not_below z p n e s h = le_of_mul-le-mul_right (omega arith) s
 
 module _ (f : Float) (day : Between zero one f) where
-  pub clock-within-the-day : Between zero one (clock_of f)
+  pub clock_within_the_day : Between zero one (clock_of f)
   unfolding is_finite le neg div of_bits round
-  clock-within-the-day = bounded binary64 zero one (known day ⧄ con sidereal_days) tt
+  clock_within_the_day = bounded binary64 zero one (known day ⧄ con sidereal_days) tt
 
   -- not after the fraction less 3 m 56 s, the difference rounded once
-  pub clock-near-the-fraction : (f ⊖ lead) ≼ clock_of f
+  pub clock_near_the_fraction : (f ⊖ lead) ≼ clock_of f
   unfolding is_finite of_bits round
-  clock-near-the-fraction =
+  clock_near_the_fraction =
       rounds_mono binary64 (f ⊖ lead) (clock_of f) _ _ _ _ _ _ (mul-pos (den_pos f) (den_pos lead)) (mul-pos (lit≤ tt) (den_pos f))
       (sub_rounds binary64 f lead day.finite tt) (div_rounds binary64 f sidereal_days day.finite tt)
       (near (plus_part f) (minus_part f) (den f) (plus_part lead) (den lead) (num sidereal_days) (den sidereal_days)

@@ -16,7 +16,7 @@ use Rattle.quantity.specs.rules.Angle.{rad, HALF}
 use Rattle.quantity.specs.rules.Answer.{Answer, answered, refused, Triple, then, taken_from}
 use Rattle.quantity.specs.laws.Steps.{same_number, refused_not_answered}
 use Rattle.elementary_arc.specs.rules.Arcsine.{arcsine_in}
-use Rattle.elementary_arc.specs.laws.Arcsine.{arcsine-refuses-seven}
+use Rattle.elementary_arc.specs.laws.Arcsine.{arcsine_refuses_seven}
 use Rattle.transit.specs.rules.Arc.{arc_cosine, arc_in}
 use Rattle.transit.specs.rules.RiseCulmSet.{culmination_of, fractions, rise_culm_set_in, rise_culm_set_refusal, rise_culm_set_rule}
 use Rattle.transit.specs.notions.Computed.{computed}
@@ -37,7 +37,7 @@ arcsine_refuses : (x : Float) (n : ℕ) → arcsine_in x ≡ refused n → n ≤
 unfolding computed is_finite
 arcsine_refuses nan n e = let q : 1 ≡ n = same_number e in omega arith
 arcsine_refuses (inf s) n e = let q : 7 ≡ n = same_number e in omega arith
-arcsine_refuses (fin s m d) n e = let q = (arcsine-refuses-seven (fin s m d) tt n e).0 in omega arith
+arcsine_refuses (fin s m d) n e = let q = (arcsine_refuses_seven (fin s m d) tt n e).0 in omega arith
 
 -- ---- the work, of the two tests, the arcsine and the culmination
 
@@ -65,11 +65,11 @@ module _ (p : EqPoint) (sidereal : Rad) (site : GeographPoint) (alt : Rad) (none
       tests_only (lt one quotient) (lt quotient (neg one)) (arcsine_in quotient) (culmination_of (rad p.asc) sidereal (rad site.long))
       (arcsine_refuses quotient) n (rw none at e)
 
-  pub never-rises : rise_culm_set_rule p sidereal site alt ≡ refused 15 ↔ T (lt one quotient)
+  pub never_rises : rise_culm_set_rule p sidereal site alt ≡ refused 15 ↔ T (lt one quotient)
   unfolding rise_culm_set_in arc_in then
-  never-rises = (λ e. (only 15 e).0 refl, λ h. rw (none, is_true (lt one quotient) h))
+  never_rises = (λ e. (only 15 e).0 refl, λ h. rw (none, is_true (lt one quotient) h))
 
-  pub never-sets : rise_culm_set_rule p sidereal site alt ≡ refused 16 ↔ T (lt quotient (neg one))
+  pub never_sets : rise_culm_set_rule p sidereal site alt ≡ refused 16 ↔ T (lt quotient (neg one))
   unfolding rise_culm_set_in arc_in then
-  never-sets =
+  never_sets =
       (λ e. (only 16 e).1 refl, λ h. rw (none, is_false (lt one quotient) (not_above quotient h), is_true (lt quotient (neg one)) h))

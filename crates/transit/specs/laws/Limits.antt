@@ -24,16 +24,16 @@ arc_of_minus_one = refl
 
 module _ (p : EqPoint) (sidereal : Rad) (site : GeographPoint) (alt : Rad) (none : rise_culm_set_refusal p sidereal site alt ≡ 0) where
   -- rise, culmination and set fall together
-  pub quotient-of-one-answered : arc_cosine (rad p.dec) (rad site.lat) alt ≡ one
+  pub quotient_of_one_answered : arc_cosine (rad p.dec) (rad site.lat) alt ≡ one
       → rise_culm_set_rule p sidereal site alt ≡ fractions (culmination_of (rad p.asc) sidereal (rad site.long)) (rad zero)
   unfolding rise_culm_set_in then
-  quotient-of-one-answered q = rw (none, q, arc_of_one)
+  quotient_of_one_answered q = rw (none, q, arc_of_one)
 
   -- rise and set are half a day from the culmination
-  pub quotient-of-minus-one-answered : arc_cosine (rad p.dec) (rad site.lat) alt ≡ neg one
+  pub quotient_of_minus_one_answered : arc_cosine (rad p.dec) (rad site.lat) alt ≡ neg one
       → rise_culm_set_rule p sidereal site alt ≡ fractions (culmination_of (rad p.asc) sidereal (rad site.long)) (rad PI)
   unfolding rise_culm_set_in then
-  quotient-of-minus-one-answered q = rw (none, q, arc_of_minus_one)
+  quotient_of_minus_one_answered q = rw (none, q, arc_of_minus_one)
 
 -- −2^−60
 pub tiny_folded_to_one : within_a_day (neg (bits 0x3c30000000000000)) ≡ one

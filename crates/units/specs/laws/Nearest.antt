@@ -97,8 +97,8 @@ module _ (m : ℕ) (e : ℤ) (F : T (fits binary64 (fin false m e))) (w r : ℕ)
   difference =
       omega (arith, ap (λ (x : ℕ). x * den W) left, ap (λ (x : ℕ). x * down e) whole.some, ap (λ (x : ℕ). x * down e) whole.none)
 
-  rest-parts : Parts rest r (down e)
-  rest-parts = by_left r refl
+  rest_parts : Parts rest r (down e)
+  rest_parts = by_left r refl
     where
       some : (k : ℕ) → r ≡ suc k → (s : Bool) (top : ℕ) → rest ≡ round binary64 s top (down e * den W) → Signed s above below top
           → Parts rest r (down e)
@@ -131,8 +131,8 @@ module _ (n w d r : ℕ) (left : n ≡ w * d + r) (few : r < d) where
   raised : d ≤ 2 * r → (2 * ((w + 1) * d) ≤ 2 * n + d) × (2 * n < 2 * ((w + 1) * d) + d)
   raised h = (omega arith, omega arith)
 
-  rounds-down : 2 * r < d → (2 * (w * d) ≤ 2 * n + d) × (2 * n < 2 * (w * d) + d)
-  rounds-down h = (omega arith, omega arith)
+  rounds_down : 2 * r < d → (2 * (w * d) ≤ 2 * n + d) × (2 * n < 2 * (w * d) + d)
+  rounds_down h = (omega arith, omega arith)
 
 not_both : (b : Bool) → T (not b) → T b → ⊥
 not_both true t u = t
@@ -148,7 +148,7 @@ nearest_true (fin false m e) F p q h =
     (by_test (λ (n : ℕ). IsNearest n y) (le half rest-of-y) (w + 1) w
     (λ t. let k = raised (m * up e) w d r left few (half_under rest-of-y r d (down_pos e) parts t) in
     record { finite = tt; plus = tt; under = k.0; over = k.1 })
-    (λ t. let k = rounds-down (m * up e) w d r left few (lt_of_not-le (λ (g : d ≤ 2 * r). not_both (le half rest-of-y) t (half_over rest-of-y r d (down_pos e) parts g))) in
+    (λ t. let k = rounds_down (m * up e) w d r left few (lt_of_not-le (λ (g : d ≤ 2 * r). not_both (le half rest-of-y) t (half_over rest-of-y r d (down_pos e) parts g))) in
     record { finite = tt; plus = tt; under = k.0; over = k.1 }))
   where
     y : Float
@@ -176,4 +176,4 @@ nearest_true (fin false m e) F p q h =
     few = omega (arith, part.under, part.over)
 
     parts : Parts rest-of-y r d
-    parts = rest-parts m e F w r left few (from_whole w) (parts_of_value (from_whole w) w 1 (from_whole_exact w (omega arith)))
+    parts = rest_parts m e F w r left few (from_whole w) (parts_of_value (from_whole w) w 1 (from_whole_exact w (omega arith)))

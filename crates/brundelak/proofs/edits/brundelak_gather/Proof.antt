@@ -1,7 +1,7 @@
 -- `brundelak::edits::brundelak_gather` meets its contract.
 use borrow.Author.Rules.{rules}
 use Rattle.double.specs.laws.Calls.{asks_nothing}
-use Rattle.brundelak.specs.laws.Edits.{edited-handed, not-edited-handed}
+use Rattle.brundelak.specs.laws.Edits.{edited_handed, not_edited_handed}
 use Rattle.brundelak.proofs.edits.brundelak_gather.Statement.{statement}
 use Rattle.brundelak.proofs.edits.brundelak_gather.Tie as tie
 
@@ -15,13 +15,13 @@ same_length : tie.Need-same-length
 same_length c = search rules
 
 returns : tie.Need-returns
-returns c = edited-handed c.before.before.before.before.gather.ensures c.enum_told.given.1
+returns c = edited_handed c.before.before.before.before.gather.ensures c.enum_told.given.1
 
 same-length-2 : tie.Need-same-length-2
 same-length-2 c = search rules
 
 returns-2 : tie.Need-returns-2
-returns-2 c = not-edited-handed c.before.before.before.before.before.gather.ensures c.before.n.given.1
+returns-2 c = not_edited_handed c.before.before.before.before.before.gather.ensures c.before.n.given.1
 
 pub brundelak-gather-spec : {M : Type 1} → statement M
 brundelak-gather-spec = tie.close (tie.spec asks_nothing enum_told enum-known-n same_length returns same-length-2 returns-2)

@@ -2,12 +2,12 @@
 use mathlib.Core.Path.{sym, subst}
 use lib.Dec.{T}
 use Rattle.double.specs.laws.Calls.{asks_nothing}
-use Rattle.domain.specs.laws.Conversions.{deg-frm-dms-call}
+use Rattle.domain.specs.laws.Conversions.{deg_frm_dms_call}
 use Rattle.domain.proofs.angle.deg_frm_dms.Statement.{statement}
 use Rattle.domain.proofs.angle.deg_frm_dms.Tie as tie
 
 returns : tie.Need-returns
-returns c = (c.deg-frm-dms.ensures, deg-frm-dms-call _ (subst T (sym c.before.well-formed.0.1) tt) c.deg-frm-dms.result c.deg-frm-dms.ensures)
+returns c = (c.deg-frm-dms.ensures, deg_frm_dms_call _ (subst T (sym c.before.well-formed.0.1) tt) c.deg-frm-dms.result c.deg-frm-dms.ensures)
 
 pub deg-frm-dms-spec : {M : Type 1} → statement M
 deg-frm-dms-spec = tie.close (tie.spec asks_nothing returns)

@@ -8,8 +8,8 @@ use Rattle.list_tally.specs.laws.Tally.{count_below, stored_raises}
 use Rattle.list_tally.proofs.Tally.raise.Statement.{statement}
 use Rattle.list_tally.proofs.Tally.raise.Tie as tie
 
-index : (c : tie.After-count-of) → c.count-of.result < counts_in_all
-index c = omega (arith, c.count-of.ensures, count_below c.before.args.status)
+index : (c : tie.After-count-of) → c.count_of_lem.result < counts_in_all
+index c = omega (arith, c.count_of_lem.ensures, count_below c.before.args.status)
 
 mul-n : tie.Need-overflow-mul-n
 mul-n c = omega (arith, index c)
@@ -26,7 +26,7 @@ element-write-tally c = search (rules, index c.before.before.before)
 returns : tie.Need-returns
 returns c =
     let counted = c.before.before.before in
-    rw (c.count-after.ensures, c.before.refusal-at.ensures, counted.count-of.ensures)
+    rw (c.count-after.ensures, c.before.refusal-at.ensures, counted.count_of_lem.ensures)
     (stored_raises counted.before.args.self counted.before.args.status)
 
 pub raise-spec : {M : Type 1} → statement M
