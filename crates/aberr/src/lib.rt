@@ -1,5 +1,7 @@
 // Aberration (section 4), of the Sun and of a star. Angles are in radians. Promised: bit for bit the Rust's formulas over the velocity of
 // aberr_table, or the refusal.
+#![tactic(auto)]
+
 ghost use Rattle.std.specs.Prelude.{◌≡◌};
 ghost use Rattle.quantity.specs.rules.Answer.{shown_two, shown_radians};
 ghost use Rattle.aberr.specs.rules.Sun.{sol_aberr_of, sol_aberr_rule};

@@ -1,5 +1,7 @@
 // A row of aberration's table (section 4): its argument from the eleven of a day, and its terms of the three sums. Angles are in radians.
 // Promised: the operations of the Rust's blocks, their grouping kept where a row is marked.
+#![tactic(auto)]
+
 ghost use Rattle.std.specs.Prelude.{◌≡◌};
 ghost use Rattle.aberr_args.specs.rules.Arguments.{arguments_of};
 ghost use Rattle.aberr_args.specs.rules.Row.{angle_of, multipliers_of, x_terms, y_terms, z_terms, times, plus, argument_of, grouped, term, with_term};
@@ -13,7 +15,7 @@ use quantity::Rad;
 
 // The century t, and at it the eleven arguments: the longitudes of Venus to Neptune (l2 to l8) and of the Moon (l1),
 // and the Moon's D, M' and F.
-#[derive(Drop)]
+#[derive(Clone, Copy)]
 pub struct Arguments {
     pub t: f64,
     pub l2: Rad,
@@ -53,7 +55,7 @@ pub fn arguments_at(t: f64) -> Arguments
 
 // How often which angle enters the argument, up to three times; the mark; which row of the table holds the parts in T, by its index, or 0
 // for none; and for x, y and z the coefficients of sine and cosine.
-#[derive(Drop)]
+#[derive(Clone, Copy)]
 pub struct Row(
     pub i8,
     pub u8,
@@ -91,7 +93,7 @@ fn angle_of(g: Arguments, n: u8) -> Rad
 }
 
 // How often the angles of a row enter its argument; bracketed, the first times their difference.
-#[derive(Drop)]
+#[derive(Clone, Copy)]
 pub struct Multipliers {
     pub bracketed: bool,
     pub first: f64,
@@ -101,7 +103,7 @@ pub struct Multipliers {
 
 // What a row adds to one sum: the coefficients of sine and cosine, moving with their parts in T; bracketed, one coefficient times a sum or a
 // difference of the two.
-#[derive(Drop)]
+#[derive(Clone, Copy)]
 pub struct Terms {
     pub bracketed: bool,
     pub moving: bool,
@@ -208,7 +210,7 @@ fn argument(x: Row, g: Arguments) -> Rad
 // ---- the sums
 
 // The Earth's velocity along the axes of J2000, in 10^-8 AU a day.
-#[derive(Drop)]
+#[derive(Clone, Copy)]
 pub struct Velocity {
     pub x: f64,
     pub y: f64,

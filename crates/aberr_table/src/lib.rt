@@ -1,5 +1,7 @@
 // The table of aberration (section 4; Ron and Vondrák; Meeus, chapter 23): 36 rows in source order, and behind them the parts in T of
 // three. Promised: the Earth's velocity, the rows' sums, bit for bit that of the Rust's blocks on every day.
+#![tactic(auto)]
+
 ghost use Rattle.std.specs.Prelude.{◌≡◌, T};
 ghost use Rattle.aberr_table.specs.rules.Table.{table, named, walk};
 ghost use Rattle.aberr_table.specs.rules.Velocity.{rows, summed, none, velocity_of};

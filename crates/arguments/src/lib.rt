@@ -1,117 +1,195 @@
-// What a program's arguments say, and what is said of those that say nothing. A missing argument, and one of more than 64 bytes, is read as
-// an empty one, which is no day, no number and no word. Nothing can be promised of what a system hands in: what is proved is that each call
-// is safe, and ends.
+// What a program's arguments say, and what is said of those that say nothing; and how a program reads its input and writes. A missing
+// argument, and one of more than 64 bytes, is read as an empty one, which is no day, no number and no word. Nothing can be promised of what a
+// system hands in: what is proved is that each call is safe, and ends. What fails to be read or written ends no program: it is read as the
+// input's end, and said where it is the answer.
+#![tactic(auto)]
+
+ghost use Rattle.std.specs.Prelude.{◌≤◌, length};
+
 use edition::Edition;
+use std::env::FillError;
+use std::io::Read;
+use std::rt::Env;
 use text_date::{Moment, Reason};
 use text_degrees::ReadDegrees;
 use text_dut1::Dut1;
 use text_whole::{Signed, Unsigned};
 
 // An edition, or that the text names none.
-#[derive(Drop)]
+#[derive(Clone, Copy)]
 pub enum Named {
     Is(Edition),
     Unclear,
 }
 
 // Two days, or that one of them is none.
-#[derive(Drop)]
+#[derive(Clone, Copy)]
 pub enum Days {
     Are(f64, f64),
     Unclear,
 }
 
-// ---- what is said
+// ---- what is read
 
-// Writes the text, or says that it could not.
-pub fn write(text: &[u8]) {
-    if !io::write_all(1, text) {
-        io::write_all(2, b"not written in full\n");
+// Reads until the slice is full, the input ends or a read fails, and answers how many bytes it put at the slice's start.
+pub fn read(from: &mut impl Read, input: &mut [u8]) -> usize
+    ensures { result ≤ length input.new }
+{
+    let mut done = 0;
+    while done < input.len() {
+        let n = read_more(from, &mut input[done..]);
+        if n == 0 {
+            break;
+        }
+        done += n;
+    }
+    done
+}
+
+// What one read puts at the slice's start: nothing where it fails.
+fn read_more(from: &mut impl Read, input: &mut [u8]) -> usize
+    ensures { result ≤ length input.new }
+{
+    match from.read(input) {
+        Ok(n) => n,
+        Err(_) => 0,
     }
 }
 
-// A number in decimal, on a descriptor.
-pub fn say_number(to: i32, n: u64) {
+// Reads descriptor 3 until the slice is full, the input ends or a read fails: nothing where it is not open. std reaches no descriptor by its
+// number, and opening its name anew would wait on a pipe that nobody writes to any more.
+pub fn read_third(input: &mut [u8]) -> usize
+    ensures { result ≤ length input.new }
+{
+    io::read_full(3, input)
+}
+
+// ---- what is said
+
+// Writes the text as far as it can be written.
+pub fn say(to: &impl Print, text: &[u8]) {
+    let _ = to.write_all(text);
+}
+
+// Writes the text, or says that it could not.
+pub fn write(out: &impl Print, err: &impl Print, text: &[u8]) {
+    if out.write_all(text).is_err() {
+        say(err, b"not written in full\n");
+    }
+}
+
+// A number in decimal.
+pub fn say_number(to: &impl Print, n: u64) {
     let mut text = [0u8; 20];
     let k = text_number::put_decimal(&mut text, 0, n);
-    io::write_all(to, &text[..k]);
+    say(to, &text[..k]);
 }
 
 // The line of a refusal, likewise.
-pub fn refuse(to: i32, n: u8) {
+pub fn refuse(to: &impl Print, n: u8) {
     let mut line = [0u8; 16];
     let k = text_number::put_refused(&mut line, 0, n);
-    io::write_all(to, &line[..k]);
+    say(to, &line[..k]);
 }
 
 // Says which argument, i, is not a day, and why.
-fn no_day(name: &[u8], i: usize, reason: Reason) {
+fn no_day(rt: &impl Env, err: &impl Print, name: &[u8], i: usize, reason: Reason) {
     let mut text = [0u8; 64];
-    let n = os::arg(i, &mut text);
+    let n = put_argument(rt, &mut text, i);
     let mut out = [0u8; 256];
     let k = text_day::put_complaint(&mut out, name, &text[..n], reason);
-    io::write_all(2, &out[..k]);
+    say(err, &out[..k]);
 }
 
 // ---- what an argument says
 
-// Whether argument i is the word.
-pub fn is_argument(i: usize, word: &[u8]) -> bool {
+// Puts argument i at the slice's start, and answers its length: 0 where it is missing or longer than the slice.
+fn put_argument(rt: &impl Env, text: &mut [u8], i: usize) -> usize
+    ensures { result ≤ length text.new }
+{
+    match rt.arg(i, text) {
+        Ok(n) => n,
+        Err(_) => 0,
+    }
+}
+
+// Whether there is an argument i: 0 is the program's name.
+fn has_argument(rt: &impl Env, i: usize) -> bool {
     let mut text = [0u8; 64];
-    let n = os::arg(i, &mut text);
+    match rt.arg(i, &mut text) {
+        Ok(_) => true,
+        Err(FillError::TooLong) => true,
+        Err(FillError::NotPresent) => false,
+    }
+}
+
+// How many arguments there are, the program's name among them.
+pub fn count(rt: &impl Env) -> usize {
+    for i in 0..usize::MAX {
+        if !has_argument(rt, i) {
+            return i;
+        }
+    }
+    usize::MAX
+}
+
+// Whether argument i is the word.
+pub fn is_argument(rt: &impl Env, i: usize, word: &[u8]) -> bool {
+    let mut text = [0u8; 64];
+    let n = put_argument(rt, &mut text, i);
     text_word::is_word(&text[..n], word)
 }
 
 // The number that argument i says.
-pub fn unsigned_of(i: usize) -> Unsigned {
+pub fn unsigned_of(rt: &impl Env, i: usize) -> Unsigned {
     let mut text = [0u8; 64];
-    let n = os::arg(i, &mut text);
+    let n = put_argument(rt, &mut text, i);
     text_whole::read_unsigned(&text[..n])
 }
 
 // The number with a sign that argument i says.
-pub fn signed_of(i: usize) -> Signed {
+pub fn signed_of(rt: &impl Env, i: usize) -> Signed {
     let mut text = [0u8; 64];
-    let n = os::arg(i, &mut text);
+    let n = put_argument(rt, &mut text, i);
     text_whole::read_signed(&text[..n])
 }
 
 // The milliseconds that argument i says.
-fn milliseconds_of(i: usize) -> Dut1 {
+fn milliseconds_of(rt: &impl Env, i: usize) -> Dut1 {
     let mut text = [0u8; 64];
-    let n = os::arg(i, &mut text);
+    let n = put_argument(rt, &mut text, i);
     text_dut1::read(&text[..n])
 }
 
 // The angle that argument i says.
-fn angle_of(i: usize) -> ReadDegrees {
+fn angle_of(rt: &impl Env, i: usize) -> ReadDegrees {
     let mut text = [0u8; 64];
-    let n = os::arg(i, &mut text);
+    let n = put_argument(rt, &mut text, i);
     text_degrees::read(&text[..n])
 }
 
 // The day that argument i says, where UT1 is so many milliseconds ahead of UTC.
-fn moment_of(i: usize, dut1: i32) -> Moment {
+fn moment_of(rt: &impl Env, i: usize, dut1: i32) -> Moment {
     let mut text = [0u8; 64];
-    let n = os::arg(i, &mut text);
+    let n = put_argument(rt, &mut text, i);
     text_day::read(&text[..n], dut1)
 }
 
 // The edition that argument i says.
-fn named_of(i: usize) -> Named {
-    if os::arg_count() <= i {
+fn named_of(rt: &impl Env, i: usize) -> Named {
+    if !has_argument(rt, i) {
         return Named::Is(Edition::Crate);
     }
-    if is_argument(i, b"published") {
+    if is_argument(rt, i, b"published") {
         return Named::Is(Edition::Published);
     }
     Named::Unclear
 }
 
 // Whether argument i is a date, and so UTC: then a day that UT1 - UTC moves.
-pub fn is_date(i: usize) -> bool {
-    match moment_of(i, 0) {
-        Moment::Is(x) => match moment_of(i, 900) {
+pub fn is_date(rt: &impl Env, i: usize) -> bool {
+    match moment_of(rt, i, 0) {
+        Moment::Is(x) => match moment_of(rt, i, 900) {
             Moment::Is(y) => x < y,
             Moment::Not(_) => false,
         },
@@ -122,12 +200,12 @@ pub fn is_date(i: usize) -> bool {
 // ---- the same, where it is said of an argument that it is none, by its name
 
 // UT1 - UTC in milliseconds, behind `--dut1`.
-pub fn dut1_of(i: usize) -> Dut1 {
-    match milliseconds_of(i) {
+pub fn dut1_of(rt: &impl Env, err: &impl Print, i: usize) -> Dut1 {
+    match milliseconds_of(rt, i) {
         Dut1::Is(n) => Dut1::Is(n),
         Dut1::Unclear => {
-            io::write_all(
-                2,
+            say(
+                err,
                 b"--dut1: UT1 - UTC in seconds, at most 0.9 in size and three digits behind the point\n",
             );
             Dut1::Unclear
@@ -136,13 +214,13 @@ pub fn dut1_of(i: usize) -> Dut1 {
 }
 
 // An angle in degrees.
-pub fn degrees_of(i: usize, name: &[u8]) -> ReadDegrees {
-    match angle_of(i) {
+pub fn degrees_of(rt: &impl Env, err: &impl Print, i: usize, name: &[u8]) -> ReadDegrees {
+    match angle_of(rt, i) {
         ReadDegrees::Are(angle) => ReadDegrees::Are(angle),
         ReadDegrees::Unclear => {
-            io::write_all(2, name);
-            io::write_all(
-                2,
+            say(err, name);
+            say(
+                err,
                 b": degrees are digits with at most one point, no more than 2^53 without it, and a sign where wanted\n",
             );
             ReadDegrees::Unclear
@@ -151,34 +229,41 @@ pub fn degrees_of(i: usize, name: &[u8]) -> ReadDegrees {
 }
 
 // A day, where UT1 is so many milliseconds ahead of UTC.
-pub fn day_of(i: usize, name: &[u8], dut1: i32) -> Moment {
-    match moment_of(i, dut1) {
+pub fn day_of(rt: &impl Env, err: &impl Print, i: usize, name: &[u8], dut1: i32) -> Moment {
+    match moment_of(rt, i, dut1) {
         Moment::Is(day) => Moment::Is(day),
         Moment::Not(reason) => {
-            no_day(name, i, reason);
+            no_day(rt, err, name, i, reason);
             Moment::Not(reason)
         }
     }
 }
 
 // The day of a list's places, and another by its name, which alone is moved by UT1 - UTC.
-pub fn days_of(first: usize, second: usize, name: &[u8], dut1: i32) -> Days {
-    let Moment::Is(day1) = day_of(first, b"JD1", 0) else {
+pub fn days_of(
+    rt: &impl Env,
+    err: &impl Print,
+    first: usize,
+    second: usize,
+    name: &[u8],
+    dut1: i32,
+) -> Days {
+    let Moment::Is(day1) = day_of(rt, err, first, b"JD1", 0) else {
         return Days::Unclear;
     };
-    let Moment::Is(day2) = day_of(second, name, dut1) else {
+    let Moment::Is(day2) = day_of(rt, err, second, name, dut1) else {
         return Days::Unclear;
     };
     Days::Are(day1, day2)
 }
 
 // An edition: the crate's where there is no argument i.
-pub fn edition_of(i: usize, name: &[u8]) -> Named {
-    match named_of(i) {
+pub fn edition_of(rt: &impl Env, err: &impl Print, i: usize, name: &[u8]) -> Named {
+    match named_of(rt, i) {
         Named::Is(edition) => Named::Is(edition),
         Named::Unclear => {
-            io::write_all(2, name);
-            io::write_all(2, b": the edition is published, or not named\n");
+            say(err, name);
+            say(err, b": the edition is published, or not named\n");
             Named::Unclear
         }
     }

@@ -1,5 +1,7 @@
 // Refraction at the sight (document 02, request (vii); Meeus, chapter 16). Altitudes are in degrees, refraction in minutes of arc.
 // Promised: both rules bit for bit, or 1 or 3; a sight is never raised, and a plan never lowered.
+#![tactic(auto)]
+
 ghost use Rattle.std.specs.Prelude.{◌≡◌};
 ghost use Rattle.quantity.specs.rules.Answer.{shown_degrees};
 ghost use Rattle.atmos.specs.rules.Arcminutes.{shown_arcminutes, degrees_of};
@@ -11,11 +13,11 @@ use helpers::angle;
 use quantity::{Deg, Degrees};
 
 // An angle in minutes of arc. Nothing but a sixtieth makes degrees of it.
-#[derive(Drop)]
+#[derive(Clone, Copy)]
 pub struct Arcmin(pub f64);
 
 // An angle in minutes of arc, or a refusal.
-#[derive(Drop)]
+#[derive(Clone, Copy)]
 pub enum Arcminutes {
     Are(Arcmin),
     Refused(u8),

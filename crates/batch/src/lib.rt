@@ -1,8 +1,10 @@
 // The batch (section 7): every star's status and the bits of its two angles into memory that the caller lends, and the tally of the
 // statuses. Promised: each star has the chain's answer at its shifted place, and what a call leaves alone it leaves bit for bit, a NaN's too.
+#![tactic(auto)]
+
 ghost use Rattle.std.specs.Prelude.{◌≡◌};
 ghost use Rattle.batch.specs.rules.Star.{two_stars_under};
-ghost use Rattle.batch.specs.rules.Batch.{Batch as Batch-as-Batch};
+ghost use Rattle.batch.specs.rules.Batch.{Batch};
 
 use chain::Night;
 use edition::Edition;
@@ -49,7 +51,7 @@ pub fn batch(
     asc: &mut [u64],
     dec: &mut [u64],
 ) -> Tallied
-    ensures { Batch-as-Batch edition bytes.now day1 day2 status.old asc.old dec.old result
+    ensures { Batch edition bytes.now day1 day2 status.old asc.old dec.old result
         status.new asc.new dec.new }
 {
     let refusal = star_store::store_refusal(bytes, day1, day2, status.len(), asc.len(), dec.len());

@@ -1,6 +1,8 @@
 // The C boundary: every entry point under the name brundelak_ and its own. Each answers its status, 0 or the refusal number, and writes
 // each float of its answer through a reference of its own; a refused call leaves what is lent unchanged. It adds no rule.
 // What a caller sees is said in the rules of `brundelak_handed` and in specs/rules; include/brundelak.h declares it all.
+#![tactic(auto)]
+
 pub mod functions; // section 2
 pub mod angles; // section 3
 pub mod frames; // changes of frame

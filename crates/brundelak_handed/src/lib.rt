@@ -1,5 +1,7 @@
 // An answer handed to a C caller. Promised: its status, and the bits of its floats where it has them; a refusal leaves what is lent
 // unchanged, bit for bit.
+#![tactic(auto)]
+
 ghost use Rattle.std.specs.Prelude.{◌≡◌};
 ghost use Rattle.quantity.specs.rules.Answer.{shown, shown_two, shown_three, shown_degrees, shown_radians, shown_point};
 ghost use Rattle.root.specs.rules.Bits.{shown_bits};

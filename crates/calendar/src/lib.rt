@@ -1,13 +1,15 @@
 // The Gregorian calendar: a date's day number, the whole number that is the Julian day at its noon, and the Julian day of a time of it.
 // Promised: the days counted, by the lengths of months and years, or which of month and day there is not; the milliseconds over those of
 // a day, by one division.
+#![tactic(auto)]
+
 ghost use Rattle.std.specs.Prelude.{◌≡◌, ◌-◌, ◌≤◌};
 ghost use Rattle.calendar.specs.rules.Date.{leap, month_length, days_before, days_before_year, Valid};
 ghost use Rattle.calendar.specs.rules.Julian.{millis_of, julian_of};
 ghost use Rattle.calendar.specs.rules.Number.{number_of, shown_number, number_rule};
 
 // A year, a month from 1 on and a day from 1 on.
-#[derive(Drop)]
+#[derive(Clone, Copy)]
 pub struct Date {
     pub year: u16,
     pub month: u8,
@@ -15,7 +17,7 @@ pub struct Date {
 }
 
 // A day number, or that there is no such month, or that the month has no such day.
-#[derive(Drop)]
+#[derive(Clone, Copy)]
 pub enum Number {
     Is(u32),
     NoMonth,

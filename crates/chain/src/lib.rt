@@ -1,6 +1,8 @@
 // The chain (section 7): a star's place from one day to another by precession, nutation and aberration. Angles are in radians. Promised:
 // the steps' rules one after the other, bit for bit, alone or two stars at once, or the first refusal. What the two days fix is a night,
 // worked out once for a whole list.
+#![tactic(auto)]
+
 ghost use Rattle.std.specs.Prelude.{◌≡◌};
 ghost use Rattle.quantity.specs.rules.Answer.{shown_two};
 ghost use Rattle.precess_angles.specs.rules.Days.{place_refusal};
@@ -47,7 +49,7 @@ pub fn true_obliquity(mean: Rad, nut_in_oblq: Rad) -> Rad
 
 // All that two days fix: precession, nutation, the sine and cosine of the true obliquity, the Earth's velocity, and the refusal of
 // the three angles that nutation goes by, 0 where there is none.
-#[derive(Drop)]
+#[derive(Clone, Copy)]
 pub struct Night {
     pub precession: EqPrecession,
     pub nutation: Nutations,

@@ -1,5 +1,7 @@
 // Ecliptic coordinates (section 4; document 02, request (ix)). All angles are in radians. Promised: bit for bit the Rust's formulas,
 // longitude and latitude in one point, or the refusal that is met first.
+#![tactic(auto)]
+
 ghost use Rattle.std.specs.Prelude.{◌≡◌};
 ghost use Rattle.quantity.specs.rules.Answer.{shown_two, shown_radians};
 ghost use Rattle.coords_ecl.specs.rules.Arguments.{frame_refusal, steep_frame_refusal};
@@ -9,7 +11,7 @@ ghost use Rattle.coords_ecl.specs.rules.Ecliptic.{ecl_frm_eq_in, ecl_frm_eq_rule
 use quantity::{EclPoint, Rad, Radians, Two};
 
 // An ecliptic point, or a refusal.
-#[derive(Drop)]
+#[derive(Clone, Copy)]
 pub enum Ecliptic {
     Is(EclPoint),
     Refused(u8),

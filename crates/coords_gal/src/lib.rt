@@ -1,5 +1,7 @@
 // Galactic coordinates (section 4): the part of the crate's coords that only they need. All angles are in radians. Promised: bit for bit
 // the Rust's formulas, or the refusal.
+#![tactic(auto)]
+
 ghost use Rattle.std.specs.Prelude.{◌≡◌};
 ghost use Rattle.quantity.specs.rules.Answer.{shown_radians};
 ghost use Rattle.coords_gal.specs.rules.Arguments.{gal_refusal, steep_gal_refusal};

@@ -1,30 +1,34 @@
 // Prints a day: its Julian day with all its digits, and sidereal time at Greenwich on it. The argument is a Julian day, J2000 or a date;
 // before it may stand `--dut1` and UT1 - UTC in seconds, which are added to a date.
+#![tactic(auto)]
+
+use std::rt::Env;
 use text_date::Moment;
 use text_dut1::Dut1;
 
 // The text of a day, which may say that UT1 is taken for UTC.
-fn print(day: f64, utc: bool) {
+fn print(rt: &impl Print, err: &impl Print, day: f64, utc: bool) {
     let mut out = [0u8; report_day::ROOM];
     let k = report_day::put_day(&mut out, day, utc);
-    arguments::write(&out[..k]);
+    arguments::write(rt, err, &out[..k]);
 }
 
 // The day of argument i.
-fn print_day(i: usize, dut1: i32, utc: bool) {
-    let Moment::Is(day) = arguments::day_of(i, b"DATE", dut1) else {
+fn print_day(rt: &(impl Env + Print), err: &impl Print, i: usize, dut1: i32, utc: bool) {
+    let Moment::Is(day) = arguments::day_of(rt, err, i, b"DATE", dut1) else {
         return;
     };
-    print(day, utc);
+    print(rt, err, day, utc);
 }
 
-fn main() {
-    if arguments::is_argument(1, b"--dut1") {
-        let Dut1::Is(dut1) = arguments::dut1_of(2) else {
+fn main(rt: HostRuntime) {
+    let err = rt.stderr();
+    if arguments::is_argument(&rt, 1, b"--dut1") {
+        let Dut1::Is(dut1) = arguments::dut1_of(&rt, &err, 2) else {
             return;
         };
-        print_day(3, dut1, false);
+        print_day(&rt, &err, 3, dut1, false);
         return;
     }
-    print_day(1, 0, arguments::is_date(1));
+    print_day(&rt, &err, 1, 0, arguments::is_date(&rt, 1));
 }

@@ -1,6 +1,8 @@
 // Edits the star list on standard input, and prints it. Arguments: `strike` and numbers of stars; or `add`, how many empty places are laid
 // behind the list first, and a star: its number, right ascension and declination, and both yearly changes; or `gather`, and `--cut` where
 // the empty places are left off. Where a number cannot be read, or anything is refused, nothing is printed.
+#![tactic(auto)]
+
 ghost use Rattle.std.specs.Prelude.{◌≡◌, cond, ◌*◌, ◌≤◌, length};
 ghost use Rattle.list.specs.rules.Record.{width};
 ghost use Rattle.list.specs.rules.Stars.{stars};
@@ -9,10 +11,11 @@ ghost use Rattle.list_edit.specs.rules.Edit.{add_rule, with_room, Edit};
 
 use list::Star;
 use list_edit::Edited;
+use std::rt::Env;
 use text_whole::{Signed, Unsigned};
 
 // A star, or the first argument that is no number.
-#[derive(Drop)]
+#[derive(Clone, Copy)]
 enum Given {
     Is(Star),
     Unclear(usize),
@@ -21,49 +24,49 @@ enum Given {
 // ---- what is said
 
 // That argument i is no number.
-fn complain(i: usize) {
-    io::write_all(2, b"argument ");
-    arguments::say_number(2, i as u64);
-    io::write_all(2, b": no whole number of 32 bits\n");
+fn complain(err: &impl Print, i: usize) {
+    arguments::say(err, b"argument ");
+    arguments::say_number(err, i as u64);
+    arguments::say(err, b": no whole number of 32 bits\n");
 }
 
 // The line of a refusal: of which star, where the call has several.
-fn refuse(n: u8, several: bool, number: u32) {
+fn refuse(err: &impl Print, n: u8, several: bool, number: u32) {
     if !several {
-        arguments::refuse(2, n);
+        arguments::refuse(err, n);
         return;
     }
-    io::write_all(2, b"refused ");
-    arguments::say_number(2, n as u64);
-    io::write_all(2, b": number ");
-    arguments::say_number(2, number as u64);
-    io::write_all(2, b"\n");
+    arguments::say(err, b"refused ");
+    arguments::say_number(err, n as u64);
+    arguments::say(err, b": number ");
+    arguments::say_number(err, number as u64);
+    arguments::say(err, b"\n");
 }
 
 // ---- strike
 
 // The star struck whose number argument i says, and whether it was.
-fn strike_one(bytes: &mut [u8], i: usize, several: bool) -> bool {
-    let Unsigned::Is(number) = arguments::unsigned_of(i) else {
-        complain(i);
+fn strike_one(rt: &impl Env, err: &impl Print, bytes: &mut [u8], i: usize, several: bool) -> bool {
+    let Unsigned::Is(number) = arguments::unsigned_of(rt, i) else {
+        complain(err, i);
         return false;
     };
     match list_edit::strike(bytes, number) {
         Edited::Done => true,
         Edited::Refused(n) => {
-            refuse(n, several, number);
+            refuse(err, n, several, number);
             false
         }
     }
 }
 
 // The stars struck whose numbers the arguments from the second on say, and whether all were.
-fn strike_all(bytes: &mut [u8]) -> bool {
-    let n = os::arg_count();
+fn strike_all(rt: &impl Env, err: &impl Print, bytes: &mut [u8]) -> bool {
+    let n = arguments::count(rt);
     let several = n > 3;
     let mut i = 2;
     while i < n {
-        if !strike_one(bytes, i, several) {
+        if !strike_one(rt, err, bytes, i, several) {
             return false;
         }
         i += 1;
@@ -72,33 +75,33 @@ fn strike_all(bytes: &mut [u8]) -> bool {
 }
 
 // The list without the stars.
-fn strike(bytes: &mut [u8]) {
+fn strike(rt: &(impl Env + Print), err: &impl Print, bytes: &mut [u8]) {
     if !list::is_list(bytes) {
-        arguments::refuse(2, 8);
+        arguments::refuse(err, 8);
         return;
     }
-    if strike_all(bytes) {
-        arguments::write(bytes);
+    if strike_all(rt, err, bytes) {
+        arguments::write(rt, err, bytes);
     }
 }
 
 // ---- add
 
 // The star that the arguments from the third on say.
-fn star_of() -> Given {
-    let Unsigned::Is(number) = arguments::unsigned_of(3) else {
+fn star_of(rt: &impl Env) -> Given {
+    let Unsigned::Is(number) = arguments::unsigned_of(rt, 3) else {
         return Given::Unclear(3);
     };
-    let Unsigned::Is(asc) = arguments::unsigned_of(4) else {
+    let Unsigned::Is(asc) = arguments::unsigned_of(rt, 4) else {
         return Given::Unclear(4);
     };
-    let Signed::Is(dec) = arguments::signed_of(5) else {
+    let Signed::Is(dec) = arguments::signed_of(rt, 5) else {
         return Given::Unclear(5);
     };
-    let Signed::Is(asc_rate) = arguments::signed_of(6) else {
+    let Signed::Is(asc_rate) = arguments::signed_of(rt, 6) else {
         return Given::Unclear(6);
     };
-    let Signed::Is(dec_rate) = arguments::signed_of(7) else {
+    let Signed::Is(dec_rate) = arguments::signed_of(rt, 7) else {
         return Given::Unclear(7);
     };
     Given::Is(Star {
@@ -120,39 +123,39 @@ fn add_with_room(bytes: &mut [u8], n: usize, star: Star) -> Edited
 }
 
 // The list of the first n bytes, and room behind it to the end, with the star.
-fn add_star(bytes: &mut [u8], n: usize, star: Star) {
+fn add_star(rt: &impl Print, err: &impl Print, bytes: &mut [u8], n: usize, star: Star) {
     match add_with_room(bytes, n, star) {
         Edited::Done => {
-            arguments::write(bytes);
+            arguments::write(rt, err, bytes);
         }
         Edited::Refused(k) => {
-            arguments::refuse(2, k);
+            arguments::refuse(err, k);
         }
     }
 }
 
 // The same with so many places of room. In a slice longer than the longest list what has no room is none.
-fn add_in(bytes: &mut [u8], n: usize, room: u32, star: Star) {
+fn add_in(rt: &impl Print, err: &impl Print, bytes: &mut [u8], n: usize, room: u32, star: Star) {
     let size = room as usize * list::WIDTH;
     if !lent::has_room(bytes.len(), n, size) {
-        arguments::refuse(2, 8);
+        arguments::refuse(err, 8);
         return;
     }
-    add_star(&mut bytes[..n + size], n, star);
+    add_star(rt, err, &mut bytes[..n + size], n, star);
 }
 
 // The same with the room and the star that the arguments say.
-fn add(bytes: &mut [u8], n: usize) {
-    let Unsigned::Is(room) = arguments::unsigned_of(2) else {
-        complain(2);
+fn add(rt: &(impl Env + Print), err: &impl Print, bytes: &mut [u8], n: usize) {
+    let Unsigned::Is(room) = arguments::unsigned_of(rt, 2) else {
+        complain(err, 2);
         return;
     };
-    match star_of() {
+    match star_of(rt) {
         Given::Is(star) => {
-            add_in(bytes, n, room, star);
+            add_in(rt, err, bytes, n, room, star);
         }
         Given::Unclear(i) => {
-            complain(i);
+            complain(err, i);
         }
     }
 }
@@ -170,28 +173,34 @@ fn printed(bytes: &[u8], cut: bool) -> usize
 }
 
 // The list gathered.
-fn gather(bytes: &mut [u8], cut: bool) {
+fn gather(rt: &impl Print, err: &impl Print, bytes: &mut [u8], cut: bool) {
     match list_edit::gather(bytes) {
         Edited::Done => {
             let k = printed(bytes, cut);
-            arguments::write(&bytes[..k]);
+            arguments::write(rt, err, &bytes[..k]);
         }
         Edited::Refused(k) => {
-            arguments::refuse(2, k);
+            arguments::refuse(err, k);
         }
     }
 }
 
-fn main() {
+fn main(rt: HostRuntime) {
+    let err = rt.stderr();
     let mut input = [0u8; list::READ];
-    let n = io::read_full(0, &mut input);
-    if arguments::is_argument(1, b"strike") {
-        strike(&mut input[..n]);
+    let n = arguments::read(&mut rt.reader(), &mut input);
+    if arguments::is_argument(&rt, 1, b"strike") {
+        strike(&rt, &err, &mut input[..n]);
         return;
     }
-    if arguments::is_argument(1, b"add") {
-        add(&mut input, n);
+    if arguments::is_argument(&rt, 1, b"add") {
+        add(&rt, &err, &mut input, n);
         return;
     }
-    gather(&mut input[..n], arguments::is_argument(2, b"--cut"));
+    gather(
+        &rt,
+        &err,
+        &mut input[..n],
+        arguments::is_argument(&rt, 2, b"--cut"),
+    );
 }

@@ -1,10 +1,12 @@
 // The two editions of the rules that the Rust crate has otherwise than Meeus. Promised: what differs is the one or the other, as the
 // caller names it; no third can be named.
+#![tactic(auto)]
+
 ghost use Rattle.std.specs.Prelude.{◌≡◌};
 ghost use Rattle.edition.specs.rules.Edition.{by_edition};
 
 // The crate's rules, by which past files reproduce, or Meeus's as he published them.
-#[derive(Drop)]
+#[derive(Clone, Copy)]
 pub enum Edition {
     Crate,
     Published,

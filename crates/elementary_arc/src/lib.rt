@@ -1,5 +1,7 @@
 // Arctangent and arcsine (section 2). Promised: the paper's operations, each rounded once and in the order written, on every double; two
 // side by side have each what they have alone. Refused are 14 by the arctangent, 7 by the arcsine, and 1 where they are called alone.
+#![tactic(auto)]
+
 ghost use Rattle.std.specs.Prelude.{◌≡◌};
 ghost use Rattle.quantity.specs.rules.Answer.{shown_radians};
 ghost use Rattle.root.specs.rules.Root.{root_of};
@@ -167,7 +169,7 @@ fn base_from(y: f64, x: f64, v: f64, a: f64) -> f64
 }
 
 // Two angles side by side.
-#[derive(Drop)]
+#[derive(Clone, Copy)]
 pub struct Arctangents {
     pub first: Rad,
     pub second: Rad,

@@ -1,6 +1,8 @@
 // The true heading of a star, from its record, the day of its place, the day of the sight and the observer's place; and that of a mark
 // beside it. A heading is in degrees from north, clockwise. Promised: the rules of the batch, of sidereal time and of coords, one after the
 // other, bit for bit, and the turn from south to north, or the first refusal. Every heading is from 0 to below 360.
+#![tactic(auto)]
+
 ghost use Rattle.std.specs.Prelude.{◌≡◌};
 ghost use Rattle.quantity.specs.rules.Answer.{shown_two, shown_three, shown_degrees};
 ghost use Rattle.chain.specs.rules.Obliquity.{mean_obliquity_of};

@@ -1,6 +1,8 @@
 // The mean of a night's headings of one mark, on either side of north: no mean of raw numbers, but of the residuals from a
 // reference, the first sight with which more than half of all agree. Promised: the written operations on every double, the sheet that is
 // defined over the whole list, and a refusal where no sight is a reference; spread and the mean's error by our root, from whole numbers.
+#![tactic(auto)]
+
 ghost use Rattle.std.specs.Prelude.{◌-◌, ◌≤◌, ◌≡◌, pos, ◌-ℤ◌, length};
 ghost use Rattle.std.specs.Float.{binary64};
 ghost use Rattle.std.specs.Float.Ieee.{of_int};
@@ -22,7 +24,7 @@ use quantity::Deg;
 use residual_sheet::{Residual, Running, Sheet};
 
 // The mean in degrees, and the sheet of the residuals from the reference; or a refusal.
-#[derive(Drop)]
+#[derive(Clone, Copy)]
 pub enum Mean {
     Is(Deg, Sheet),
     Refused(u8),

@@ -1,4 +1,6 @@
 // The figure of the Earth (Meeus, chapter 11), the third of the helpers (section 3). Promised: the paper's operations on every double.
+#![tactic(auto)]
+
 ghost use Rattle.std.specs.Prelude.{◌≡◌};
 ghost use Rattle.quantity.specs.rules.Answer.{shown_two};
 ghost use Rattle.helpers_earth.specs.rules.Earth.{rho_at, rho_in, rho_refusal, rho_sin_cos_phi_rule};
@@ -6,7 +8,7 @@ ghost use Rattle.helpers_earth.specs.rules.Earth.{rho_at, rho_in, rho_refusal, r
 use elementary::Folded;
 use quantity::{Rad, Radians, Two};
 
-#[derive(Drop)]
+#[derive(Clone, Copy)]
 pub struct Earth {}
 
 impl Earth {

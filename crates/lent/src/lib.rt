@@ -1,10 +1,12 @@
 // Bytes written into a lent slice. Promised: a text stands from its offset on as far as it finds room, all else stays, and no call asks
 // anything; or it is put whole or not at all.
+#![tactic(auto)]
+
 ghost use Rattle.std.specs.Prelude.{◌+◌, min, ◌≡◌, [], ◌∷◌, leb};
 ghost use Rattle.lent.specs.rules.Writing.{Wrote};
 
 // The offset after what was written, or a refusal.
-#[derive(Drop)]
+#[derive(Clone, Copy)]
 pub enum Written {
     To(usize),
     Refused(u8),

@@ -1,6 +1,8 @@
 // The stored list (section 7): record, reader, writer and find. Promised: every byte string is read, star i being its record whatever it
 // holds, and a star in range is written so that it reads back; number 0 is an empty place, which reader and find pass over. Above the
 // record all speaks of a list of stars.
+#![tactic(auto)]
+
 ghost use Rattle.std.specs.Prelude.{◌≡◌, ◌+◌, ◌≤◌, length, drop};
 ghost use Rattle.lent.specs.rules.Writing.{Wrote};
 ghost use Rattle.lent.specs.rules.Put.{Put};
@@ -13,7 +15,7 @@ ghost use Rattle.list.specs.rules.Find.{shown_found, index_of, find_rule};
 use lent::Written;
 
 // A star's record: its number, its right ascension and declination in milliarcseconds, and the yearly change of each.
-#[derive(Drop)]
+#[derive(Clone, Copy)]
 pub struct Star {
     pub number: u32,
     pub asc: u32,
@@ -23,7 +25,7 @@ pub struct Star {
 }
 
 // What the reader shows: a star and the offset after it, that none is left, or a refusal.
-#[derive(Drop)]
+#[derive(Clone, Copy)]
 pub enum Stored {
     Next(Star, usize),
     End,
@@ -31,7 +33,7 @@ pub enum Stored {
 }
 
 // A found star and its index, or a refusal.
-#[derive(Drop)]
+#[derive(Clone, Copy)]
 pub enum Found {
     At(usize, Star),
     Refused(u8),

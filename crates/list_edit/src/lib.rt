@@ -1,6 +1,8 @@
 // A stored list that is edited where it stands, in memory that a caller lends (request (xi)): a star struck off it, one added, and those
 // that are kept brought forward. Number 0 is an empty place, whatever stands behind it. Promised: the whole of the bytes after a call; one
 // that is refused leaves every byte.
+#![tactic(auto)]
+
 ghost use Rattle.std.specs.Prelude.{◌-◌, [], ◌∷◌, length, replicate};
 ghost use Rattle.lent.specs.rules.Writing.{Wrote};
 ghost use Rattle.list.specs.rules.Stars.{stars, kept, list_bytes};
@@ -9,7 +11,7 @@ ghost use Rattle.list_edit.specs.rules.Edit.{strike_rule, add_rule, gather_rule,
 use list::Star;
 
 // That the list was edited, or a refusal.
-#[derive(Drop)]
+#[derive(Clone, Copy)]
 pub enum Edited {
     Done,
     Refused(u8),

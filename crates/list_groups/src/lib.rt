@@ -1,5 +1,7 @@
 // Numbers of up to 32 bits in groups of seven bits, and the fold of signed numbers (request (i)). Promised: a number is read where it
 // stands in its shortest spelling and refused by 12 or 13 elsewhere, at the byte that shows it; what is written reads back.
+#![tactic(auto)]
+
 ghost use Rattle.std.specs.Prelude.{◌≡◌, length};
 ghost use Rattle.lent.specs.rules.Writing.{Wrote};
 ghost use Rattle.list_groups.specs.rules.Groups.{groups};
@@ -8,7 +10,7 @@ ghost use Rattle.list_groups.specs.rules.Fold.{folded, unfolded};
 ghost use Rattle.list_groups.specs.rules.Read.{shown_read};
 
 // A number and the offset after it, or a refusal.
-#[derive(Drop)]
+#[derive(Clone, Copy)]
 pub enum Read {
     Number(u32, usize),
     Refused(u8),

@@ -1,6 +1,8 @@
 // The moves between a stored list and a radio list (requests (i), (x)), from bytes to bytes. Promised: any bytes are moved or refused, the
 // first refusal met; a list in range moves there and back to the same bytes, and nothing is written before all is known. What is written
 // begins with byte 3; a radio list that begins with byte 2 moves as one whose stars do not change.
+#![tactic(auto)]
+
 ghost use Rattle.std.specs.Prelude.{◌≡◌, true, drop};
 ghost use Rattle.lent.specs.rules.Writing.{Wrote};
 ghost use Rattle.lent.specs.rules.Put.{shown_written, Put};

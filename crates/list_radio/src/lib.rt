@@ -1,6 +1,8 @@
 // Lists over the radio link (requests (i), (x)): reader and writer. Promised: any bytes are read or refused, the first refusal met; head
 // and star are put into a slice, or refused with nothing written. A list that begins with byte 2 is read, as one whose stars stand still,
 // and never written.
+#![tactic(auto)]
+
 ghost use Rattle.std.specs.Prelude.{◌≡◌, [], ◌∷◌, length, drop};
 ghost use Rattle.quantity.specs.rules.Answer.{with};
 ghost use Rattle.lent.specs.rules.Writing.{Wrote};
@@ -18,35 +20,35 @@ use list::Star;
 use list_groups::Read;
 
 // How many stars and the offset of the first, or a refusal.
-#[derive(Drop)]
+#[derive(Clone, Copy)]
 pub enum Opened {
     Stars(u32, usize),
     Refused(u8),
 }
 
 // A star's first three numbers and the offset after them, or a refusal.
-#[derive(Drop)]
+#[derive(Clone, Copy)]
 enum Place {
     Numbers(u32, u32, u32, usize),
     Refused(u8),
 }
 
 // Its last two and the offset after them, or a refusal.
-#[derive(Drop)]
+#[derive(Clone, Copy)]
 enum Rates {
     Numbers(u32, u32, usize),
     Refused(u8),
 }
 
 // A star and the offset after it, or a refusal.
-#[derive(Drop)]
+#[derive(Clone, Copy)]
 pub enum Received {
     Star(Star, usize),
     Refused(u8),
 }
 
 // How many stars an accepted list has, or a refusal.
-#[derive(Drop)]
+#[derive(Clone, Copy)]
 pub enum Accepted {
     Stars(u32),
     Refused(u8),

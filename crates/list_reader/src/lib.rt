@@ -1,11 +1,13 @@
 // The list reader (section 7): the caller's bytes together with an offset in them. Promised: what the rule of the crate `list` shows there,
 // until none is left.
+#![tactic(auto)]
+
 ghost use Rattle.std.specs.Prelude.{◌≡◌};
 ghost use Rattle.list.specs.rules.Reader.{shown_stored, read_rule};
 
 use list::Stored;
 
-#[derive(Drop)]
+#[derive(Clone, Copy)]
 pub struct Reader<'a> {
     pub bytes: &'a [u8],
     pub offset: usize,

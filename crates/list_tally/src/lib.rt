@@ -1,5 +1,7 @@
 // The tally (sections 5 and 7). Promised: one count is raised by one, or nothing and the refusal; at the end each count is that of the
 // statuses.
+#![tactic(auto)]
+
 ghost use Rattle.std.specs.Prelude.{◌≡◌};
 ghost use Rattle.list_tally.specs.rules.Tally.{count_of, refusal_at, count_after, empty, raise_rule};
 
@@ -10,13 +12,13 @@ pub const HIGHEST_STATUS: u8 = 19;
 pub const FULLEST: u32 = 60000;
 
 // A count for each number that the table may come to have.
-#[derive(Drop)]
+#[derive(Clone, Copy)]
 pub struct Tally {
     pub counts: [u32; 20],
 }
 
 // A tally beside the refusal number, where 0 is none.
-#[derive(Drop)]
+#[derive(Clone, Copy)]
 pub struct Raised {
     pub tally: Tally,
     pub refusal: u8,

@@ -1,5 +1,7 @@
 // The moves between the record of before, of 12 bytes, and the record of 20 (request (x)), from bytes to bytes. Promised: a list in range
 // moves up and back to the same bytes; one with a yearly change that is not zero never moves down; nothing is written before all is known.
+#![tactic(auto)]
+
 ghost use Rattle.std.specs.Prelude.{◌≡◌, ◌+◌, ◌≤◌, length, get_or};
 ghost use Rattle.lent.specs.rules.Writing.{Wrote};
 ghost use Rattle.lent.specs.rules.Put.{Put};

@@ -1,138 +1,141 @@
 // Cases of the stored list, its sheet and the tally, a line each: lengths round a record and the longest list, offsets up to
 // the largest usize, records in and out of range, numbers that stand twice or nowhere, empty places, and a full count of a tally.
 // What a line holds stands above the function that prints it.
+#![tactic(auto)]
+
 use list::{Found, Star, Stored};
 use list_tally::Tally;
+use std::io::Stdout;
 use text_sheet::Sheet;
 
-fn next(n: u64) {
-    io::write_all(1, b" ");
-    io::print_decimal(1, n);
+fn next(to: Stdout, n: u64) {
+    let _ = to.write_all(b" ");
+    let _ = to.print(n);
 }
 
-fn next_signed(z: i32) {
+fn next_signed(to: Stdout, z: i32) {
     if signed::negative(z) {
-        io::write_all(1, b" -");
+        let _ = to.write_all(b" -");
     } else {
-        io::write_all(1, b" ");
+        let _ = to.write_all(b" ");
     }
-    io::print_decimal(1, signed::size(z) as u64);
+    let _ = to.print(signed::size(z) as u64);
 }
 
-fn refusal(n: u8) {
-    io::write_all(1, b" refused");
-    next(n as u64);
+fn refusal(to: Stdout, n: u8) {
+    let _ = to.write_all(b" refused");
+    next(to, n as u64);
 }
 
-fn end() {
-    io::write_all(1, b"\n");
+fn end(to: Stdout) {
+    let _ = to.write_all(b"\n");
 }
 
 // A length, how many places it has, and 1 where it is that of a list.
-fn length_case(buffer: &[u8], n: usize) {
+fn length_case(to: Stdout, buffer: &[u8], n: usize) {
     if n <= buffer.len() {
         let bytes = &buffer[..n];
-        io::print_decimal(1, n as u64);
-        next(list::count(bytes) as u64);
-        next(list::is_list(bytes) as u64);
-        end();
+        let _ = to.print(n as u64);
+        next(to, list::count(bytes) as u64);
+        next(to, list::is_list(bytes) as u64);
+        end(to);
     }
 }
 
 // An offset, the first star that is kept from there on, and the offset after it; the offset alone where none is left.
-fn offset_case(bytes: &[u8], offset: usize) {
-    io::print_decimal(1, offset as u64);
+fn offset_case(to: Stdout, bytes: &[u8], offset: usize) {
+    let _ = to.print(offset as u64);
     match list_reader::stored_at(bytes, offset) {
         Stored::Next(star, after) => {
-            next(star.number as u64);
-            next(star.asc as u64);
-            next_signed(star.dec);
-            next_signed(star.asc_rate);
-            next_signed(star.dec_rate);
-            next(after as u64);
+            next(to, star.number as u64);
+            next(to, star.asc as u64);
+            next_signed(to, star.dec);
+            next_signed(to, star.asc_rate);
+            next_signed(to, star.dec_rate);
+            next(to, after as u64);
         }
         Stored::End => {}
-        Stored::Refused(n) => refusal(n),
+        Stored::Refused(n) => refusal(to, n),
     }
-    end();
+    end(to);
 }
 
 // A number, the index of its first star, and that star's other fields.
-fn find_case(bytes: &[u8], sought: u32) {
-    io::print_decimal(1, sought as u64);
+fn find_case(to: Stdout, bytes: &[u8], sought: u32) {
+    let _ = to.print(sought as u64);
     match list::find(bytes, sought) {
         Found::At(i, star) => {
-            next(i as u64);
-            next(star.asc as u64);
-            next_signed(star.dec);
-            next_signed(star.asc_rate);
-            next_signed(star.dec_rate);
+            next(to, i as u64);
+            next(to, star.asc as u64);
+            next_signed(to, star.dec);
+            next_signed(to, star.asc_rate);
+            next_signed(to, star.dec_rate);
         }
-        Found::Refused(n) => refusal(n),
+        Found::Refused(n) => refusal(to, n),
     }
-    end();
+    end(to);
 }
 
 // The sheet itself, with yearly changes or without.
-fn sheet_case(bytes: &[u8], rates: bool, out: &mut [u8]) {
+fn sheet_case(to: Stdout, bytes: &[u8], rates: bool, out: &mut [u8]) {
     match text_sheet::render(bytes, rates, out) {
         Sheet::Bytes(k) => {
-            io::write_all(1, &out[..k]);
+            let _ = to.write_all(&out[..k]);
         }
-        Sheet::Refused(n) => refusal(n),
+        Sheet::Refused(n) => refusal(to, n),
     }
 }
 
 // The length of the slice, and that of the sheet in it.
-fn size_case(bytes: &[u8], out: &mut [u8]) {
-    io::print_decimal(1, out.len() as u64);
+fn size_case(to: Stdout, bytes: &[u8], out: &mut [u8]) {
+    let _ = to.print(out.len() as u64);
     match text_sheet::render(bytes, true, out) {
-        Sheet::Bytes(k) => next(k as u64),
-        Sheet::Refused(n) => refusal(n),
+        Sheet::Bytes(k) => next(to, k as u64),
+        Sheet::Refused(n) => refusal(to, n),
     }
-    end();
+    end(to);
 }
 
-fn lengths(buffer: &[u8]) {
-    length_case(buffer, 0);
-    length_case(buffer, 1);
-    length_case(buffer, 12);
-    length_case(buffer, 19);
-    length_case(buffer, 20);
-    length_case(buffer, 21);
-    length_case(buffer, 40);
-    length_case(buffer, 59980);
-    length_case(buffer, 59999);
-    length_case(buffer, 60000);
-    length_case(buffer, 60001);
-    length_case(buffer, 60020);
+fn lengths(to: Stdout, buffer: &[u8]) {
+    length_case(to, buffer, 0);
+    length_case(to, buffer, 1);
+    length_case(to, buffer, 12);
+    length_case(to, buffer, 19);
+    length_case(to, buffer, 20);
+    length_case(to, buffer, 21);
+    length_case(to, buffer, 40);
+    length_case(to, buffer, 59980);
+    length_case(to, buffer, 59999);
+    length_case(to, buffer, 60000);
+    length_case(to, buffer, 60001);
+    length_case(to, buffer, 60020);
 }
 
-fn offsets(bytes: &[u8]) {
-    offset_case(bytes, 0);
-    offset_case(bytes, 1);
-    offset_case(bytes, 12);
-    offset_case(bytes, 20);
-    offset_case(bytes, 120);
-    offset_case(bytes, 220);
-    offset_case(bytes, 240);
-    offset_case(bytes, 241);
-    offset_case(bytes, 260);
-    offset_case(bytes, 18446744073709551600);
-    offset_case(bytes, 18446744073709551615);
+fn offsets(to: Stdout, bytes: &[u8]) {
+    offset_case(to, bytes, 0);
+    offset_case(to, bytes, 1);
+    offset_case(to, bytes, 12);
+    offset_case(to, bytes, 20);
+    offset_case(to, bytes, 120);
+    offset_case(to, bytes, 220);
+    offset_case(to, bytes, 240);
+    offset_case(to, bytes, 241);
+    offset_case(to, bytes, 260);
+    offset_case(to, bytes, 18446744073709551600);
+    offset_case(to, bytes, 18446744073709551615);
 }
 
-fn finds(bytes: &[u8]) {
-    find_case(bytes, 0);
-    find_case(bytes, 1);
-    find_case(bytes, 2);
-    find_case(bytes, 3);
-    find_case(bytes, 4);
-    find_case(bytes, 5);
-    find_case(bytes, 6);
-    find_case(bytes, 7);
-    find_case(bytes, 8);
-    find_case(bytes, 4294967295);
+fn finds(to: Stdout, bytes: &[u8]) {
+    find_case(to, bytes, 0);
+    find_case(to, bytes, 1);
+    find_case(to, bytes, 2);
+    find_case(to, bytes, 3);
+    find_case(to, bytes, 4);
+    find_case(to, bytes, 5);
+    find_case(to, bytes, 6);
+    find_case(to, bytes, 7);
+    find_case(to, bytes, 8);
+    find_case(to, bytes, 4294967295);
 }
 
 // A star's record from the offset on.
@@ -175,70 +178,71 @@ fn records_after(bytes: &mut [u8]) {
 }
 
 // A status, the refusal, and the counts of 0 and of 10 after it.
-fn raise_case(tally: Tally, status: u8) -> Tally {
-    io::print_decimal(1, status as u64);
+fn raise_case(to: Stdout, tally: Tally, status: u8) -> Tally {
+    let _ = to.print(status as u64);
     let raised = tally.raise(status);
-    next(raised.refusal as u64);
+    next(to, raised.refusal as u64);
     let now = raised.tally;
-    next(now.counts[0] as u64);
-    next(now.counts[10] as u64);
-    end();
+    next(to, now.counts[0] as u64);
+    next(to, now.counts[10] as u64);
+    end(to);
     now
 }
 
-fn tallies() {
-    let a = raise_case(Tally::new(), 0);
-    let b = raise_case(a, 10);
-    let c = raise_case(b, 20);
-    raise_case(c, 255);
+fn tallies(to: Stdout) {
+    let a = raise_case(to, Tally::new(), 0);
+    let b = raise_case(to, a, 10);
+    let c = raise_case(to, b, 20);
+    raise_case(to, c, 255);
     let mut counts = [0; 20];
     counts[10] = 60000;
-    let d = raise_case(Tally { counts }, 10);
-    let e = raise_case(d, 19);
-    raise_case(e, 0);
+    let d = raise_case(to, Tally { counts }, 10);
+    let e = raise_case(to, d, 19);
+    raise_case(to, e, 0);
 }
 
-fn sheets(bytes: &[u8], out: &mut [u8]) {
-    sheet_case(bytes, false, out);
-    sheet_case(bytes, true, out);
-    sheet_case(b"", false, out);
-    sheet_case(b"a damaged star list!", false, out);
-    sheet_case(b"damaged list", false, out);
+fn sheets(to: Stdout, bytes: &[u8], out: &mut [u8]) {
+    sheet_case(to, bytes, false, out);
+    sheet_case(to, bytes, true, out);
+    sheet_case(to, b"", false, out);
+    sheet_case(to, b"a damaged star list!", false, out);
+    sheet_case(to, b"damaged list", false, out);
 }
 
 // So of the first n bytes, and in the first n of the slice.
-fn prefix_case(buffer: &[u8], n: usize, out: &mut [u8]) {
+fn prefix_case(to: Stdout, buffer: &[u8], n: usize, out: &mut [u8]) {
     if n <= buffer.len() {
         let bytes = &buffer[..n];
-        size_case(bytes, out);
+        size_case(to, bytes, out);
     }
 }
 
-fn room_case(bytes: &[u8], out: &mut [u8], n: usize) {
+fn room_case(to: Stdout, bytes: &[u8], out: &mut [u8], n: usize) {
     if n <= out.len() {
-        size_case(bytes, &mut out[..n]);
+        size_case(to, bytes, &mut out[..n]);
     }
 }
 
 // The arrays are lent once: what each call needs to know of their lengths would be proved again.
-fn cases(bytes: &[u8], buffer: &[u8], out: &mut [u8]) {
-    lengths(buffer);
-    offsets(bytes);
-    offset_case(b"not a list!", 0);
-    finds(bytes);
-    find_case(b"not a list!", 1);
-    find_case(b"", 0);
-    sheets(bytes, out);
-    prefix_case(buffer, 60000, out);
-    prefix_case(buffer, 60020, out);
-    room_case(bytes, out, 192059);
+fn cases(to: Stdout, bytes: &[u8], buffer: &[u8], out: &mut [u8]) {
+    lengths(to, buffer);
+    offsets(to, bytes);
+    offset_case(to, b"not a list!", 0);
+    finds(to, bytes);
+    find_case(to, b"not a list!", 1);
+    find_case(to, b"", 0);
+    sheets(to, bytes, out);
+    prefix_case(to, buffer, 60000, out);
+    prefix_case(to, buffer, 60020, out);
+    room_case(to, bytes, out, 192059);
 }
 
-fn main() {
+fn main(rt: HostRuntime) {
+    let to = rt.stdout();
     let mut bytes = [0u8; 240];
     records(&mut bytes);
     let buffer = [1u8; 60020];
     let mut out = [0u8; text_sheet::ROOM];
-    cases(&bytes, &buffer, &mut out);
-    tallies();
+    cases(to, &bytes, &buffer, &mut out);
+    tallies(to);
 }

@@ -2,6 +2,8 @@
 // descriptor 3. Arguments: the day of the list's places; then, in degrees, the observer's longitude, west positive, and latitude; then the
 // edition, the crate's where there is none. Before them may stand `--dut1` and UT1 - UTC in seconds, which are added to the dates of the
 // sights.
+#![tactic(auto)]
+
 ghost use Rattle.std.specs.Prelude.{◌≤◌, ◌≡◌};
 ghost use Rattle.report_night.specs.rules.Report.{length_of};
 
@@ -9,6 +11,7 @@ use arguments::Named;
 use edition::Edition;
 use report_marks::Pad;
 use report_night::Told;
+use std::rt::Env;
 use text_date::Moment;
 use text_degrees::ReadDegrees;
 use text_dut1::Dut1;
@@ -19,18 +22,18 @@ const READ: usize = 300001;
 // ---- what is said
 
 // Says which line cannot be read.
-fn no_sight(line: usize) {
-    io::write_all(2, b"SIGHTS, line ");
-    arguments::say_number(2, line as u64);
-    io::write_all(
-        2,
+fn no_sight(err: &impl Print, line: usize) {
+    arguments::say(err, b"SIGHTS, line ");
+    arguments::say_number(err, line as u64);
+    arguments::say(
+        err,
         b": not a time, a star's number and two readings in decimal degrees\n",
     );
 }
 
 // Says that the text of sights is too long.
-fn too_long() {
-    io::write_all(2, b"SIGHTS has more than 300000 bytes\n");
+fn too_long(err: &impl Print) {
+    arguments::say(err, b"SIGHTS has more than 300000 bytes\n");
 }
 
 // ---- the night
@@ -46,64 +49,81 @@ fn length_of(told: Told) -> usize
 }
 
 // Why there is no text.
-fn explain(told: Told) {
+fn explain(err: &impl Print, told: Told) {
     match told {
         Told::Text(_) => {}
         Told::Unclear(line) => {
-            no_sight(line);
+            no_sight(err, line);
         }
     }
 }
 
 // The text of a night, or why there is none.
-fn print_night<'a>(edition: Edition, pad: Pad, bytes: &'a [u8], text: &'a [u8], dut1: i32) {
+fn print_night<'a>(
+    rt: &impl Print,
+    err: &impl Print,
+    edition: Edition,
+    pad: Pad,
+    bytes: &'a [u8],
+    text: &'a [u8],
+    dut1: i32,
+) {
     let mut out = [0u8; report_night::ROOM];
     let told = report_night::put_night(&mut out, edition, pad, bytes, text, dut1);
     let k = length_of(told);
-    arguments::write(&out[..k]);
-    explain(told);
+    arguments::write(rt, err, &out[..k]);
+    explain(err, told);
 }
 
 // With the sights on their descriptor.
-fn with_sights(edition: Edition, pad: Pad, dut1: i32, bytes: &[u8]) {
+fn with_sights(
+    rt: &impl Print,
+    err: &impl Print,
+    edition: Edition,
+    pad: Pad,
+    dut1: i32,
+    bytes: &[u8],
+) {
     let mut text = [0u8; READ];
-    let n = io::read_full(3, &mut text);
+    let n = arguments::read_third(&mut text);
     if n == READ {
-        too_long();
+        too_long(err);
         return;
     }
-    print_night(edition, pad, bytes, &text[..n], dut1);
+    print_night(rt, err, edition, pad, bytes, &text[..n], dut1);
 }
 
 // With the list on standard input.
-fn print(edition: Edition, pad: Pad, dut1: i32) {
+fn print(rt: &(impl Input + Print), err: &impl Print, edition: Edition, pad: Pad, dut1: i32) {
     let mut input = [0u8; list::READ];
-    let n = io::read_full(0, &mut input);
-    with_sights(edition, pad, dut1, &input[..n]);
+    let n = arguments::read(&mut rt.reader(), &mut input);
+    with_sights(rt, err, edition, pad, dut1, &input[..n]);
 }
 
 // With all read but the edition, which argument i names.
-fn on_place(i: usize, pad: Pad, dut1: i32) {
-    let Named::Is(edition) = arguments::edition_of(i, b"the last argument") else {
+fn on_place(rt: &(impl Env + Input + Print), err: &impl Print, i: usize, pad: Pad, dut1: i32) {
+    let Named::Is(edition) = arguments::edition_of(rt, err, i, b"the last argument") else {
         return;
     };
-    print(edition, pad, dut1);
+    print(rt, err, edition, pad, dut1);
 }
 
 // With what stands before the day read: where UT1 - UTC is not given, UT1 is taken for UTC.
-fn read_pad(before: usize, utc: bool, dut1: i32)
+fn read_pad(rt: &(impl Env + Input + Print), err: &impl Print, before: usize, utc: bool, dut1: i32)
     requires { before ≤ 2 }
 {
-    let Moment::Is(day1) = arguments::day_of(before + 1, b"JD1", 0) else {
+    let Moment::Is(day1) = arguments::day_of(rt, err, before + 1, b"JD1", 0) else {
         return;
     };
-    let ReadDegrees::Are(long) = arguments::degrees_of(before + 2, b"LONGITUDE") else {
+    let ReadDegrees::Are(long) = arguments::degrees_of(rt, err, before + 2, b"LONGITUDE") else {
         return;
     };
-    let ReadDegrees::Are(lat) = arguments::degrees_of(before + 3, b"LATITUDE") else {
+    let ReadDegrees::Are(lat) = arguments::degrees_of(rt, err, before + 3, b"LATITUDE") else {
         return;
     };
     on_place(
+        rt,
+        err,
         before + 4,
         Pad {
             day1,
@@ -115,13 +135,14 @@ fn read_pad(before: usize, utc: bool, dut1: i32)
     );
 }
 
-fn main() {
-    if arguments::is_argument(1, b"--dut1") {
-        let Dut1::Is(dut1) = arguments::dut1_of(2) else {
+fn main(rt: HostRuntime) {
+    let err = rt.stderr();
+    if arguments::is_argument(&rt, 1, b"--dut1") {
+        let Dut1::Is(dut1) = arguments::dut1_of(&rt, &err, 2) else {
             return;
         };
-        read_pad(2, false, dut1);
+        read_pad(&rt, &err, 2, false, dut1);
         return;
     }
-    read_pad(0, true, 0);
+    read_pad(&rt, &err, 0, true, 0);
 }

@@ -1,5 +1,7 @@
 // Nutation (section 4), on a day and at a point. Angles are in radians. Promised: bit for bit the Rust's formulas over the sums of
 // nutation_table, or the refusal.
+#![tactic(auto)]
+
 ghost use Rattle.std.specs.Prelude.{◌≡◌};
 ghost use Rattle.quantity.specs.rules.Answer.{shown_two};
 ghost use Rattle.nutation.specs.rules.Day.{nutation_rule};

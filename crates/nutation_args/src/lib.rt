@@ -1,5 +1,7 @@
 // One row of nutation (section 4): its argument from the five angles of a day, and its shares. Angles are in radians. Promised: the
 // Rust's operations on every double.
+#![tactic(auto)]
+
 ghost use Rattle.std.specs.Prelude.{◌≡◌};
 ghost use Rattle.nutation_args.specs.rules.Arguments.{moon_m1, sun_m, moon_d, moon_f, moon_node, in_turn, moon_from, moon_of};
 ghost use Rattle.nutation_args.specs.rules.Sum.{argument_of, long_share, oblq_share, with_row, converted};
@@ -8,7 +10,7 @@ use helpers::angle;
 use quantity::{Deg, Rad};
 
 // How often D, M, M', F and Ω enter the argument; the coefficients of longitude and of obliquity, each with its slow part.
-#[derive(Drop)]
+#[derive(Clone, Copy)]
 pub struct Row(
     pub i32,
     pub i32,
@@ -22,7 +24,7 @@ pub struct Row(
 );
 
 // The century t, and at it the five arguments, each folded into one turn of degrees first.
-#[derive(Drop)]
+#[derive(Clone, Copy)]
 pub struct Moon {
     pub t: f64,
     pub d: Rad,
@@ -33,14 +35,14 @@ pub struct Moon {
 }
 
 // The sums over rows in longitude and in obliquity, as the table has them.
-#[derive(Drop)]
+#[derive(Clone, Copy)]
 pub struct Sums {
     pub long: Deg,
     pub oblq: Deg,
 }
 
 // Nutation in longitude and in obliquity.
-#[derive(Drop)]
+#[derive(Clone, Copy)]
 pub struct Nutations {
     pub long: Rad,
     pub oblq: Rad,

@@ -1,5 +1,7 @@
 // A ceiling on nutation (document 02, xii): the sums over its table with each sine and cosine 1 and each coefficient its size. Promised:
 // the rule, bit for bit, on every day; the crate `domain` has that no component of nutation exceeds it.
+#![tactic(auto)]
+
 ghost use Rattle.std.specs.Prelude.{◌≡◌};
 ghost use Rattle.quantity.specs.rules.Answer.{shown_two};
 ghost use Rattle.nutation_args.specs.rules.Sum.{none};

@@ -1,4 +1,6 @@
 // The table of nutation (section 4): 63 rows of nine whole numbers. Promised: their sums in table order, bit for bit, on every day.
+#![tactic(auto)]
+
 ghost use Rattle.std.specs.Prelude.{◌≡◌};
 ghost use Rattle.nutation_table.specs.rules.Rows.{table, row_of, rows_of, rows};
 ghost use Rattle.nutation_args.specs.rules.Sum.{none, summed};

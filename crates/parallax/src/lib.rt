@@ -1,5 +1,7 @@
 // Parallax (section 4). Angles are in radians, distances in AU, heights in metres. Promised: bit for bit the Rust's formulas, or the
 // refusal. Topocentric ecliptic coordinates stand in parallax_ecl.
+#![tactic(auto)]
+
 ghost use Rattle.std.specs.Prelude.{◌≡◌};
 ghost use Rattle.quantity.specs.rules.Answer.{shown_radians, shown_point};
 ghost use Rattle.parallax.specs.rules.Horizontal.{sun_parallax, eq_hz_parallax_in, eq_hz_parallax_rule};
@@ -42,7 +44,7 @@ pub fn eq_hz_parallax(dist_to_earth: f64) -> Radians
 // ---- the observer
 
 // The observer's place from the Earth's centre, and the sine of the parallax.
-#[derive(Drop)]
+#[derive(Clone, Copy)]
 pub struct Centre {
     pub rho_sin: f64,
     pub rho_cos: f64,

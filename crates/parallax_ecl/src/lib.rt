@@ -1,5 +1,7 @@
 // Topocentric ecliptic coordinates (section 4). Angles are in radians, heights in metres. Promised: bit for bit the Rust's formulas or,
 // in the published edition, Meeus's latitude; or the refusal.
+#![tactic(auto)]
+
 ghost use Rattle.std.specs.Prelude.{◌≡◌};
 ghost use Rattle.quantity.specs.rules.Answer.{shown_radians, shown_three};
 ghost use Rattle.parallax_ecl.specs.rules.Ecliptic.{nearby, long_top, upward, lat_of_crate, lat_published, lat_top, semidiameter_in, ecliptic_from};

@@ -2,16 +2,21 @@
 // the observer's longitude, west positive, and latitude, and the standard altitude; then the edition, the crate's where there is none. Where
 // `--table` stands before them it is a table for people; behind that `--sidereal` and degrees are the sidereal time at Greenwich on that day
 // from an almanac, which is worked out else.
+#![tactic(auto)]
+
 ghost use Rattle.std.specs.Prelude.{◌≤◌};
 
 use arguments::{Days, Named};
 use edition::Edition;
 use quantity::Deg;
+use std::rt::Env;
 use text_answers::Style;
 use text_degrees::ReadDegrees;
 
 // The plan of a list at its day's own sidereal time.
 fn print_plan(
+    rt: &impl Print,
+    err: &impl Print,
     table: bool,
     edition: Edition,
     bytes: &[u8],
@@ -23,18 +28,28 @@ fn print_plan(
 ) {
     let mut out = [0u8; report::ROOM];
     let k = report::put_plan(&mut out, table, edition, bytes, day1, day2, long, lat, alt);
-    arguments::write(&out[..k]);
+    arguments::write(rt, err, &out[..k]);
 }
 
 // The plan of a list for an observer.
-fn print_list(style: Style, edition: Edition, bytes: &[u8], day1: f64, day2: f64) {
+fn print_list(
+    rt: &impl Print,
+    err: &impl Print,
+    style: Style,
+    edition: Edition,
+    bytes: &[u8],
+    day1: f64,
+    day2: f64,
+) {
     let mut out = [0u8; report::ROOM];
     let k = report::put_report(&mut out, style, edition, bytes, day1, day2);
-    arguments::write(&out[..k]);
+    arguments::write(rt, err, &out[..k]);
 }
 
 // The plan of a list with a sidereal time, where one is given, or without.
 fn print_either(
+    rt: &impl Print,
+    err: &impl Print,
     table: bool,
     given: ReadDegrees,
     edition: Edition,
@@ -48,16 +63,26 @@ fn print_either(
     match given {
         ReadDegrees::Are(sidereal) => {
             let o = transit::observer_in_degrees(sidereal, long, lat, alt);
-            print_list(report::plan_style(table, o), edition, bytes, day1, day2);
+            print_list(
+                rt,
+                err,
+                report::plan_style(table, o),
+                edition,
+                bytes,
+                day1,
+                day2,
+            );
         }
         ReadDegrees::Unclear => {
-            print_plan(table, edition, bytes, day1, day2, long, lat, alt);
+            print_plan(rt, err, table, edition, bytes, day1, day2, long, lat, alt);
         }
     }
 }
 
 // The list on standard input, with all else read.
 fn print(
+    rt: &(impl Input + Print),
+    err: &impl Print,
     table: bool,
     given: ReadDegrees,
     edition: Edition,
@@ -68,8 +93,10 @@ fn print(
     alt: Deg,
 ) {
     let mut input = [0u8; list::READ];
-    let n = io::read_full(0, &mut input);
+    let n = arguments::read(&mut rt.reader(), &mut input);
     print_either(
+        rt,
+        err,
         table,
         given,
         edition,
@@ -103,45 +130,62 @@ fn sidereal_at(table: bool) -> usize
 }
 
 // With the days and the edition read, and a sidereal time where one is given.
-fn on_days(table: bool, before: usize, given: ReadDegrees, edition: Edition, day1: f64, day2: f64)
+fn on_days(
+    rt: &(impl Env + Input + Print),
+    err: &impl Print,
+    table: bool,
+    before: usize,
+    given: ReadDegrees,
+    edition: Edition,
+    day1: f64,
+    day2: f64,
+)
     requires { before ≤ 3 }
 {
-    let ReadDegrees::Are(long) = arguments::degrees_of(before + 3, b"LONGITUDE") else {
+    let ReadDegrees::Are(long) = arguments::degrees_of(rt, err, before + 3, b"LONGITUDE") else {
         return;
     };
-    let ReadDegrees::Are(lat) = arguments::degrees_of(before + 4, b"LATITUDE") else {
+    let ReadDegrees::Are(lat) = arguments::degrees_of(rt, err, before + 4, b"LATITUDE") else {
         return;
     };
-    let ReadDegrees::Are(alt) = arguments::degrees_of(before + 5, b"ALTITUDE") else {
+    let ReadDegrees::Are(alt) = arguments::degrees_of(rt, err, before + 5, b"ALTITUDE") else {
         return;
     };
-    print(table, given, edition, day1, day2, long, lat, alt);
+    print(rt, err, table, given, edition, day1, day2, long, lat, alt);
 }
 
 // With what stands before the days read.
-fn read_days(table: bool, before: usize, given: ReadDegrees)
+fn read_days(
+    rt: &(impl Env + Input + Print),
+    err: &impl Print,
+    table: bool,
+    before: usize,
+    given: ReadDegrees,
+)
     requires { before ≤ 3 }
 {
-    let Days::Are(day1, day2) = arguments::days_of(before + 1, before + 2, b"DATE", 0) else {
+    let Days::Are(day1, day2) = arguments::days_of(rt, err, before + 1, before + 2, b"DATE", 0)
+    else {
         return;
     };
-    let Named::Is(edition) = arguments::edition_of(before + 6, b"after ALTITUDE") else {
+    let Named::Is(edition) = arguments::edition_of(rt, err, before + 6, b"after ALTITUDE") else {
         return;
     };
-    on_days(table, before, given, edition, day1, day2);
+    on_days(rt, err, table, before, given, edition, day1, day2);
 }
 
-fn main() {
-    let table = arguments::is_argument(1, b"--table");
+fn main(rt: HostRuntime) {
+    let err = rt.stderr();
+    let table = arguments::is_argument(&rt, 1, b"--table");
     let at = sidereal_at(table);
-    let almanac = arguments::is_argument(at - 1, b"--sidereal");
+    let almanac = arguments::is_argument(&rt, at - 1, b"--sidereal");
     let before = before_days(table, almanac);
     if !almanac {
-        read_days(table, before, ReadDegrees::Unclear);
+        read_days(&rt, &err, table, before, ReadDegrees::Unclear);
         return;
     }
-    let ReadDegrees::Are(sidereal) = arguments::degrees_of(at, b"SIDEREAL") else {
+    let ReadDegrees::Are(sidereal) = arguments::degrees_of(&rt, &err, at, b"SIDEREAL") else {
         return;
     };
-    read_days(table, before, ReadDegrees::Are(sidereal));
+    read_days(&rt, &err, table, before, ReadDegrees::Are(sidereal));
 }

@@ -1,6 +1,8 @@
 // Precession of equatorial places (section 4): annual, and from one day to another by the angles of precess_angles. Angles are in
 // radians. Promised: bit for bit the Rust's formulas in the crate's edition and Meeus's in the published one, alone or two places at
 // once, or the refusal. Precession of the ecliptic, its places and orbits, stands in precess_ecl.
+#![tactic(auto)]
+
 ghost use Rattle.std.specs.Prelude.{◌≡◌};
 ghost use Rattle.quantity.specs.rules.Answer.{shown_two};
 ghost use Rattle.precess.specs.rules.Annual.{annual_m, annual_n, annual_at, annual_in, annual_refusal, annual_precess_rule};
@@ -73,7 +75,7 @@ pub fn annual_precess(asc: Rad, dec: Rad, day: f64) -> Two
 // ---- equatorial coordinates (Meeus 21.4)
 
 // What the arcs of a place are taken of: its right ascension is the arctangent of (up, across), its declination the arcsine of height.
-#[derive(Drop)]
+#[derive(Clone, Copy)]
 struct Arcs {
     up: f64,
     across: f64,

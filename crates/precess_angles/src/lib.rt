@@ -1,5 +1,7 @@
 // What two days fix for precession (section 4): the span between them, their refusals, and the angles by edition. Angles are in radians.
 // Promised: bit for bit the crate's angles, or Meeus's, on every day.
+#![tactic(auto)]
+
 ghost use Rattle.std.specs.Prelude.{◌≡◌};
 ghost use Rattle.precess_angles.specs.rules.Days.{span_of, days_refusal, place_refusal};
 ghost use Rattle.precess_angles.specs.rules.Equatorial.{eq_xi, eq_zeta, eq_theta, eq_angles_of, precession_by, eq_precession_of};
@@ -41,7 +43,7 @@ pub fn place_refusal(long: Rad, lat: Rad, day1: f64, day2: f64) -> u8
 // ---- equatorial precession (Meeus 21.2 and 21.3; the crate's edition has two signs otherwise)
 
 // The three angles that two days fix.
-#[derive(Drop)]
+#[derive(Clone, Copy)]
 pub struct EqAngles {
     pub xi: Rad,
     pub zeta: Rad,
@@ -49,7 +51,7 @@ pub struct EqAngles {
 }
 
 // What places are precessed by: two angles, and the sine and cosine of the third.
-#[derive(Drop)]
+#[derive(Clone, Copy)]
 pub struct EqPrecession {
     pub xi: Rad,
     pub zeta: Rad,

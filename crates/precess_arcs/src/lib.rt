@@ -1,5 +1,7 @@
 // The two arcs of a place, of two places side by side: right ascension by the arctangent of (up, across), declination by the arcsine of
 // height. Promised: each place has the arcs and the refusal that it has alone. Precession and rotation take theirs here.
+#![tactic(auto)]
+
 ghost use Rattle.std.specs.Prelude.{◌≡◌};
 ghost use Rattle.precess_arcs.specs.rules.Arcs.{arcs_refusal, arcs_two};
 
@@ -18,7 +20,7 @@ pub fn arcs_refusal(up: f64, across: f64, height: f64) -> u8
 }
 
 // The arcs of two places, in radians.
-#[derive(Drop)]
+#[derive(Clone, Copy)]
 pub struct TwoArcs {
     pub first_asc: f64,
     pub second_asc: f64,

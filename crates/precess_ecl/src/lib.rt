@@ -1,5 +1,7 @@
 // Precession of the ecliptic (section 4): its places, and the elements of an orbit. Angles are in radians. Promised: bit for bit the
 // Rust's formulas, or the refusal; 14 is never met.
+#![tactic(auto)]
+
 ghost use Rattle.std.specs.Prelude.{◌≡◌};
 ghost use Rattle.quantity.specs.rules.Answer.{shown_two, shown_three, shown_radians};
 ghost use Rattle.precess_ecl.specs.rules.Ecliptic.{ecl_nu, ecl_pi, ecl_rho, ecl_precession_by, ecl_precession_of};
@@ -14,7 +16,7 @@ use quantity::{Deg, One, Rad, Radians, Three, Two};
 // ---- ecliptic coordinates (Meeus 21.5 to 21.7)
 
 // What two days fix of ecliptic precession: nu with its sine and cosine, Pi and rho.
-#[derive(Drop)]
+#[derive(Clone, Copy)]
 pub struct EclPrecession {
     pub nu: Rad,
     pub sine: f64,
@@ -130,7 +132,7 @@ pub fn precess_ecl_coords(old_long: Rad, old_lat: Rad, day1: f64, day2: f64) -> 
 // ---- orbital elements (Meeus, chapter 24)
 
 // A and B of the crate: the new inclination's sine along and across the old node.
-#[derive(Drop)]
+#[derive(Clone, Copy)]
 struct Leaned {
     a: f64,
     b: f64,

@@ -1,6 +1,8 @@
 // Moves the star list on standard input from one form to another: where the argument is `unpack` the radio form becomes a stored list,
 // where it is `up` a list of records of 12 bytes one of 20, where it is `down` a list of 20 one of 12, and else a stored list its radio
 // form. What is refused has its line on standard error.
+#![tactic(auto)]
+
 ghost use Rattle.std.specs.Prelude.{cond};
 ghost use Rattle.lent.specs.rules.Put.{Put};
 ghost use Rattle.list_widths.specs.rules.Widths.{to_wide, to_narrow};
@@ -29,19 +31,20 @@ fn put_moved(out: &mut [u8], up: bool, down: bool, unpack: bool, bytes: &[u8]) -
     }
 }
 
-fn main() {
-    let up = arguments::is_argument(1, b"up");
-    let down = arguments::is_argument(1, b"down");
-    let unpack = arguments::is_argument(1, b"unpack");
+fn main(rt: HostRuntime) {
+    let err = rt.stderr();
+    let up = arguments::is_argument(&rt, 1, b"up");
+    let down = arguments::is_argument(&rt, 1, b"down");
+    let unpack = arguments::is_argument(&rt, 1, b"unpack");
     let mut input = [0u8; list_radio::READ];
-    let n = io::read_full(0, &mut input);
+    let n = arguments::read(&mut rt.reader(), &mut input);
     let mut out = [0u8; ROOM];
     match put_moved(&mut out, up, down, unpack, &input[..n]) {
         Written::To(k) => {
-            arguments::write(&out[..k]);
+            arguments::write(&rt, &err, &out[..k]);
         }
         Written::Refused(k) => {
-            arguments::refuse(2, k);
+            arguments::refuse(&err, k);
         }
     }
 }

@@ -1,5 +1,7 @@
 // The exact remainder of two doubles, with the first one's sign (section 3). Promised: that of IEEE 754's account, of any two doubles, by
 // whole numbers alone.
+#![tactic(auto)]
+
 ghost use Rattle.std.specs.Prelude.{◌≡◌, ◌*◌, ◌%◌, ◌^◌, ◌≤◌, ◌<◌};
 ghost use Rattle.double.specs.rules.Operations.{bits};
 ghost use Rattle.double.specs.rules.Count.{count};

@@ -1,5 +1,7 @@
 // A list reduced from one day to another, and its text in a style: what `reduce` and `plan` print; and one under the rotation of two days,
 // which `rotate` prints. Promised: every byte, of every list and every two days, in the room that it names.
+#![tactic(auto)]
+
 ghost use Rattle.std.specs.Prelude.{◌≡◌};
 ghost use Rattle.lent.specs.rules.Writing.{Wrote};
 ghost use Rattle.report.specs.rules.Report.{report_of, plan_style, plan_of, rotated_of};

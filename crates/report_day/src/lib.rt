@@ -1,5 +1,7 @@
 // A day, and its text: what `day` prints. The Julian day with all its digits, and sidereal time at Greenwich on it, mean and apparent.
 // Promised: every byte of it, of every day; the digits are the double's own, and each sidereal time is rounded once.
+#![tactic(auto)]
+
 ghost use Rattle.std.specs.Prelude.{◌≡◌};
 ghost use Rattle.lent.specs.rules.Writing.{Wrote};
 ghost use Rattle.report_day.specs.rules.Digits.{parts_of, digit_of, left_of, count_after, digits_text, exact_text};

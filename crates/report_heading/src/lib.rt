@@ -1,5 +1,7 @@
 // A sight, and its text: what `sight` prints. The observer's place as it was understood, a star's heading, azimuth and altitude, and a
 // mark's heading where a circle was read. Promised: every byte of it, of every list; each angle is rounded once.
+#![tactic(auto)]
+
 ghost use Rattle.std.specs.Prelude.{◌≡◌};
 ghost use Rattle.quantity.specs.rules.Answer.{shown_three, shown_degrees};
 ghost use Rattle.list.specs.rules.Find.{shown_found};
@@ -13,7 +15,7 @@ use list::{Found, Star};
 use quantity::{Deg, Degrees, Three};
 
 // What a circle reads at the star and at the mark, or that it was not read.
-#[derive(Drop)]
+#[derive(Clone, Copy)]
 pub enum Readings {
     None,
     At(Deg, Deg),
@@ -21,7 +23,7 @@ pub enum Readings {
 
 // What a sight is given by, besides a list: the star's number, the day of the list's places, the day of the sight, the observer's
 // longitude, west positive, and latitude; and whether UT1 is taken for UTC.
-#[derive(Drop)]
+#[derive(Clone, Copy)]
 pub struct Sight {
     pub number: u32,
     pub day1: f64,

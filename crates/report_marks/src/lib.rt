@@ -1,5 +1,7 @@
 // What each sight of a night gives for one mark: its star is looked up in a list, the star's heading worked out, and the mark's from it and
 // two readings. Promised: the heading or its refusal, by its kind, of any sight, and of all sights of a text, into slices.
+#![tactic(auto)]
+
 ghost use Rattle.std.specs.Prelude.{◌<◌, ◌≡◌, length};
 ghost use Rattle.quantity.specs.rules.Answer.{shown_three, shown_degrees};
 ghost use Rattle.text_fields.specs.rules.Stored.{places_of, EntriesStored};
@@ -17,7 +19,7 @@ use text_night::Next;
 
 // What all sights share: the day of the list's places, the observer's longitude, west positive, and latitude; and whether UT1 is taken for
 // UTC.
-#[derive(Drop)]
+#[derive(Clone, Copy)]
 pub struct Pad {
     pub day1: f64,
     pub long: Deg,
@@ -26,7 +28,7 @@ pub struct Pad {
 }
 
 // What a sight came to: the mark's heading; the refusal of the star's; or that of the mark's from it.
-#[derive(Drop)]
+#[derive(Clone, Copy)]
 enum Marked {
     Is(Deg),
     SightRefused(u8),

@@ -1,5 +1,7 @@
 // The text of a night's sights of one mark, which are lent by their lines, stars, statuses and bits: their mean where more than half agree
 // with one of them, the first refused sight where there is one. Promised: every byte of it.
+#![tactic(auto)]
+
 ghost use Rattle.std.specs.Prelude.{◌≡◌};
 ghost use Rattle.lent.specs.rules.Writing.{Wrote};
 ghost use Rattle.report_mean.specs.rules.Refused.{refusal_text, refused_text, refused_at, first_refused};

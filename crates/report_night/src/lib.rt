@@ -1,5 +1,7 @@
 // A night's sights of one mark: what `night` prints. Promised: of every list and every text of sights all bytes of the answer, or the line
 // that cannot be read.
+#![tactic(auto)]
+
 ghost use Rattle.report_night.specs.rules.Report.{Reported, report_of};
 
 use edition::Edition;
@@ -8,7 +10,7 @@ use report_marks::Pad;
 use text_fields::Sights;
 
 // How long the text is; or the line that cannot be read.
-#[derive(Drop)]
+#[derive(Clone, Copy)]
 pub enum Told {
     Text(usize),
     Unclear(usize),

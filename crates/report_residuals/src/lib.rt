@@ -1,5 +1,7 @@
 // A night's residuals and their text: a list reduced from one day to another, a text of measured places, and what each leaves of the
 // other. Promised: of every list, every two days and every text all bytes of the answer, or why there is none.
+#![tactic(auto)]
+
 ghost use Rattle.std.specs.Prelude.{◌≤◌, ◌≡◌, length};
 ghost use Rattle.lent.specs.rules.Writing.{Wrote};
 ghost use Rattle.list.specs.rules.Stars.{most_stars};
@@ -14,7 +16,7 @@ use residual_sheet::{Sheet, Sheets};
 use text_fields::Sights;
 
 // What is written: the sheet for people with who is left out of it; the figures alone; each sight; or who is left out alone.
-#[derive(Drop)]
+#[derive(Clone, Copy)]
 pub enum Style {
     People,
     Figures,
@@ -24,7 +26,7 @@ pub enum Style {
 
 // How long the text is; or the refusal of the list and its days; the line that cannot be read; more sights than a list has stars; the
 // refusal of the sheet, as 3 for a measured angle past 64 radians.
-#[derive(Drop)]
+#[derive(Clone, Copy)]
 pub enum Told {
     Text(usize),
     ListRefused(u8),
@@ -34,7 +36,7 @@ pub enum Told {
 }
 
 // What the star of a sight came to: its status, and the bits of its angles.
-#[derive(Drop)]
+#[derive(Clone, Copy)]
 pub struct Came {
     pub status: u8,
     pub asc: u64,

@@ -2,6 +2,8 @@
 // sum, the exact sum of squares, the largest size with its first place, and how many were set aside. Promised: of a residual the written
 // operations on every double, of sizes up to 64.0 the nearest whole number of milliarcseconds, halves away from zero, and which residuals
 // are set aside; the sheet is the one that is defined over the whole list.
+#![tactic(auto)]
+
 ghost use Rattle.std.specs.Prelude.{◌≤◌, max, ◌≡◌, length};
 ghost use Rattle.double.specs.rules.Operations.{bits};
 ghost use Rattle.quantity.specs.rules.Angle.{rad};
@@ -17,14 +19,14 @@ use list::MOST_STARS;
 use quantity::{PI, Rad};
 
 // A whole number of milliarcseconds by its size, and whether a minus sign stands before it, as it never does before 0.
-#[derive(Drop)]
+#[derive(Clone, Copy)]
 pub struct Residual {
     pub minus: bool,
     pub size: u64,
 }
 
 // The six figures of a coordinate. A place is an index in the slices; largest and place are 0 and 0 where nothing is taken in.
-#[derive(Drop)]
+#[derive(Clone, Copy)]
 pub struct Sheet {
     pub count: i64,
     pub sum: i64,
@@ -35,14 +37,14 @@ pub struct Sheet {
 }
 
 // The sheet of right ascension and that of declination, or a refusal.
-#[derive(Drop)]
+#[derive(Clone, Copy)]
 pub enum Sheets {
     Are(Sheet, Sheet),
     Refused(u8),
 }
 
 // The figures as they grow: the sum in two parts, of what is not below zero and of what is.
-#[derive(Drop)]
+#[derive(Clone, Copy)]
 pub struct Running {
     pub count: u64,
     pub above: u64,

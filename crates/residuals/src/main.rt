@@ -1,12 +1,15 @@
 // Prints what a night's measured places leave of the star list on standard input, reduced from the day of the first argument to that of
 // the second, in the edition that the third names: the crate's where there is none. The measured places are a text on descriptor 3. Where
 // `--figures`, `--sights` or `--left` stands before the days, it is the figures, each sight, or who is left out; else a sheet for people.
+#![tactic(auto)]
+
 ghost use Rattle.std.specs.Prelude.{◌≤◌, ◌≡◌};
 ghost use Rattle.report_residuals.specs.rules.Text.{length_of};
 
 use arguments::{Days, Named};
 use edition::Edition;
 use report_residuals::{Style, Told};
+use std::rt::Env;
 
 // Bytes to read where measured places are expected, one more than a text may have.
 const READ: usize = 600001;
@@ -14,14 +17,14 @@ const READ: usize = 600001;
 // ---- what the arguments say
 
 // The style that the first argument asks for.
-fn style_of() -> Style {
-    if arguments::is_argument(1, b"--figures") {
+fn style_of(rt: &impl Env) -> Style {
+    if arguments::is_argument(rt, 1, b"--figures") {
         return Style::Figures;
     }
-    if arguments::is_argument(1, b"--sights") {
+    if arguments::is_argument(rt, 1, b"--sights") {
         return Style::Sights;
     }
-    if arguments::is_argument(1, b"--left") {
+    if arguments::is_argument(rt, 1, b"--left") {
         return Style::Left;
     }
     Style::People
@@ -42,41 +45,41 @@ fn before_days(style: Style) -> usize
 // ---- what is said
 
 // The line of a refusal, with its words for people.
-fn refuse(people: bool, n: u8, words: &[u8]) {
+fn refuse(rt: &impl Print, people: bool, n: u8, words: &[u8]) {
     if !people {
-        arguments::refuse(1, n);
+        arguments::refuse(rt, n);
         return;
     }
-    io::write_all(1, b"refused ");
-    arguments::say_number(1, n as u64);
-    io::write_all(1, words);
-    io::write_all(1, b"\n");
+    arguments::say(rt, b"refused ");
+    arguments::say_number(rt, n as u64);
+    arguments::say(rt, words);
+    arguments::say(rt, b"\n");
 }
 
 // The line of a refusal of the list and its days, likewise.
-fn refuse_list(people: bool, n: u8) {
+fn refuse_list(rt: &impl Print, err: &impl Print, people: bool, n: u8) {
     if !people {
-        arguments::refuse(1, n);
+        arguments::refuse(rt, n);
         return;
     }
     let mut out = [0u8; 128];
     let k = text_refusal::put_refusal(&mut out, 0, n);
-    arguments::write(&out[..k]);
+    arguments::write(rt, err, &out[..k]);
 }
 
 // Says which line cannot be read.
-fn no_sight(line: usize) {
-    io::write_all(2, b"MEASURED, line ");
-    arguments::say_number(2, line as u64);
-    io::write_all(
-        2,
+fn no_sight(err: &impl Print, line: usize) {
+    arguments::say(err, b"MEASURED, line ");
+    arguments::say_number(err, line as u64);
+    arguments::say(
+        err,
         b": not a star's number, a right ascension and a declination, both in decimal degrees\n",
     );
 }
 
 // Says that the text of measured places is too long.
-fn too_long() {
-    io::write_all(2, b"MEASURED has more than 600000 bytes\n");
+fn too_long(err: &impl Print) {
+    arguments::say(err, b"MEASURED has more than 600000 bytes\n");
 }
 
 // ---- the night
@@ -95,20 +98,21 @@ fn length_of(told: Told) -> usize
 }
 
 // Why there is no text.
-fn explain(people: bool, told: Told) {
+fn explain(rt: &impl Print, err: &impl Print, people: bool, told: Told) {
     match told {
         Told::Text(_) => {}
         Told::ListRefused(n) => {
-            refuse_list(people, n);
+            refuse_list(rt, err, people, n);
         }
         Told::Unclear(line) => {
-            no_sight(line);
+            no_sight(err, line);
         }
         Told::TooMany => {
-            refuse(people, 8, b": more than 3000 sights");
+            refuse(rt, people, 8, b": more than 3000 sights");
         }
         Told::SheetRefused(n) => {
             refuse(
+                rt,
                 people,
                 n,
                 b": a measured angle is past 3666 degrees: check them",
@@ -119,6 +123,8 @@ fn explain(people: bool, told: Told) {
 
 // The text of a night in its style, or why there is none.
 fn print_night<'a>(
+    rt: &impl Print,
+    err: &impl Print,
     style: Style,
     edition: Edition,
     bytes: &'a [u8],
@@ -129,36 +135,53 @@ fn print_night<'a>(
     let mut out = [0u8; report_residuals::ROOM];
     let told = report_residuals::put_report(&mut out, style, edition, bytes, day1, day2, text);
     let k = length_of(told);
-    arguments::write(&out[..k]);
-    explain(before_days(style) == 0, told);
+    arguments::write(rt, err, &out[..k]);
+    explain(rt, err, before_days(style) == 0, told);
 }
 
 // With the measured places on their descriptor.
-fn with_measured(style: Style, edition: Edition, bytes: &[u8], day1: f64, day2: f64) {
+fn with_measured(
+    rt: &impl Print,
+    err: &impl Print,
+    style: Style,
+    edition: Edition,
+    bytes: &[u8],
+    day1: f64,
+    day2: f64,
+) {
     let mut text = [0u8; READ];
-    let n = io::read_full(3, &mut text);
+    let n = arguments::read_third(&mut text);
     if n == READ {
-        too_long();
+        too_long(err);
         return;
     }
-    print_night(style, edition, bytes, day1, day2, &text[..n]);
+    print_night(rt, err, style, edition, bytes, day1, day2, &text[..n]);
 }
 
 // With the list on standard input.
-fn print(style: Style, edition: Edition, day1: f64, day2: f64) {
+fn print(
+    rt: &(impl Input + Print),
+    err: &impl Print,
+    style: Style,
+    edition: Edition,
+    day1: f64,
+    day2: f64,
+) {
     let mut input = [0u8; list::READ];
-    let n = io::read_full(0, &mut input);
-    with_measured(style, edition, &input[..n], day1, day2);
+    let n = arguments::read(&mut rt.reader(), &mut input);
+    with_measured(rt, err, style, edition, &input[..n], day1, day2);
 }
 
-fn main() {
-    let style = style_of();
+fn main(rt: HostRuntime) {
+    let err = rt.stderr();
+    let style = style_of(&rt);
     let before = before_days(style);
-    let Days::Are(day1, day2) = arguments::days_of(before + 1, before + 2, b"JD2", 0) else {
+    let Days::Are(day1, day2) = arguments::days_of(&rt, &err, before + 1, before + 2, b"JD2", 0)
+    else {
         return;
     };
-    let Named::Is(edition) = arguments::edition_of(before + 3, b"after JD2") else {
+    let Named::Is(edition) = arguments::edition_of(&rt, &err, before + 3, b"after JD2") else {
         return;
     };
-    print(style, edition, day1, day2);
+    print(&rt, &err, style, edition, day1, day2);
 }

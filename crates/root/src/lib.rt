@@ -1,6 +1,8 @@
 // The square root of a double (section 2). Promised: IEEE 754's squareRoot to nearest, said and proved over whole numbers, on every
 // double; 1 and 5 are refused. It is a recurrence of two digits, 29 and 24 bits: floats estimate each digit, and whole numbers mend it
 // until the exact rest fits.
+#![tactic(auto)]
+
 ghost use Rattle.std.specs.Prelude.{◌≡◌, ◌+◌, ◌*◌, ◌/◌, ◌%◌, ◌^◌, ◌<◌, ◌≤◌, true, false};
 ghost use Rattle.std.specs.Float.Ieee.{le, lt};
 ghost use Rattle.double.specs.rules.Operations.{bits, zero};
@@ -15,7 +17,7 @@ ghost use Rattle.root.specs.rules.Bits.{shown_bits};
 use quantity::One;
 
 // The bits of an answer, or its refusal number.
-#[derive(Drop)]
+#[derive(Clone, Copy)]
 pub enum Bits {
     Are(u64),
     Refused(u8),

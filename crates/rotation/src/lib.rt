@@ -1,6 +1,8 @@
 // One rotation for the whole list (request xiv): the three turns of two days as one matrix, and places under it, two at a time. Angles are
 // in radians. Promised: the written products and sums, each rounded once and in the order written, zeros among them, and each of two
 // places what it is alone. It is precession alone: a list under it stands in rotation_list.
+#![tactic(auto)]
+
 ghost use Rattle.std.specs.Prelude.{◌≡◌};
 ghost use Rattle.rotation.specs.rules.Matrix.{row_with, row_times, product, applied};
 ghost use Rattle.rotation.specs.rules.Turns.{about_y, about_z, rotation_by, rotation_of};

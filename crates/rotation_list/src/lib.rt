@@ -1,6 +1,8 @@
 // A list under one rotation (request xiv): every star's status and the bits of its two angles into memory that the caller lends, and the
 // tally of the statuses, stored as the batch stores them. Promised: each star has the place to which the rotation of the two days brings its
 // shifted place. It is precession alone, without nutation and aberration, beside the batch and not claimed equal to it.
+#![tactic(auto)]
+
 ghost use Rattle.std.specs.Prelude.{◌≡◌};
 ghost use Rattle.rotation_list.specs.rules.Rotate.{two_turned, nowhere, Rotated};
 
@@ -13,7 +15,7 @@ use star_store::Tallied;
 
 // Two stars' places, from the sines and cosines of the stars' angles; and of two more stars the sines and cosines, and what each is refused
 // for before its place is taken: 10 for an empty place; 9 for a record out of range; then 3 for a shifted declination past HALF in size.
-#[derive(Drop)]
+#[derive(Clone, Copy)]
 struct Turn {
     places: Places,
     ascs: TwoSinCos,

@@ -1,5 +1,7 @@
 // Sidereal time at Greenwich, mean (Meeus 12.4) and apparent. The day is one of universal time. Angles are in radians.
 // Rules: specs/rules, in reading order in specs/rules.antt.
+#![tactic(auto)]
+
 ghost use Rattle.std.specs.Prelude.{◌≡◌};
 ghost use Rattle.double.specs.rules.Operations.{◌⊕◌, ◌⊗◌};
 ghost use Rattle.quantity.specs.rules.Angle.{rad};

@@ -2,11 +2,14 @@
 // of the sight; then, in degrees, the observer's longitude, west positive, and latitude; then, where a circle was read, what it reads at
 // the star and at the mark; then the edition, the crate's where there is none. Before them may stand `--dut1` and UT1 - UTC in seconds,
 // which are added to the date of the sight.
+#![tactic(auto)]
+
 ghost use Rattle.std.specs.Prelude.{◌≤◌};
 
 use arguments::{Days, Named};
 use edition::Edition;
 use report_heading::{Readings, Sight};
+use std::rt::Env;
 use text_degrees::ReadDegrees;
 use text_dut1::Dut1;
 use text_whole::Unsigned;
@@ -14,55 +17,84 @@ use text_whole::Unsigned;
 // ---- a sight
 
 // That of a star of the list.
-fn print_sight(edition: Edition, bytes: &[u8], sight: Sight, readings: Readings) {
+fn print_sight(
+    rt: &impl Print,
+    err: &impl Print,
+    edition: Edition,
+    bytes: &[u8],
+    sight: Sight,
+    readings: Readings,
+) {
     let mut out = [0u8; report_heading::ROOM];
     let k = report_heading::put_sight(&mut out, edition, bytes, sight, readings);
-    arguments::write(&out[..k]);
+    arguments::write(rt, err, &out[..k]);
 }
 
 // The list on standard input, with all else read.
-fn print(edition: Edition, sight: Sight, readings: Readings) {
+fn print(
+    rt: &(impl Input + Print),
+    err: &impl Print,
+    edition: Edition,
+    sight: Sight,
+    readings: Readings,
+) {
     let mut input = [0u8; list::READ];
-    let n = io::read_full(0, &mut input);
-    print_sight(edition, &input[..n], sight, readings);
+    let n = arguments::read(&mut rt.reader(), &mut input);
+    print_sight(rt, err, edition, &input[..n], sight, readings);
 }
 
 // With all read but the edition, which argument i names.
-fn on_readings(i: usize, sight: Sight, readings: Readings) {
-    let Named::Is(edition) = arguments::edition_of(i, b"the last argument") else {
+fn on_readings(
+    rt: &(impl Env + Input + Print),
+    err: &impl Print,
+    i: usize,
+    sight: Sight,
+    readings: Readings,
+) {
+    let Named::Is(edition) = arguments::edition_of(rt, err, i, b"the last argument") else {
         return;
     };
-    print(edition, sight, readings);
+    print(rt, err, edition, sight, readings);
 }
 
 // With the sight read.
-fn on_sight(before: usize, sight: Sight)
+fn on_sight(rt: &(impl Env + Input + Print), err: &impl Print, before: usize, sight: Sight)
     requires { before ≤ 2 }
 {
-    if os::arg_count() <= before + 7 {
-        on_readings(before + 6, sight, Readings::None);
+    if arguments::count(rt) <= before + 7 {
+        on_readings(rt, err, before + 6, sight, Readings::None);
         return;
     }
-    let ReadDegrees::Are(star) = arguments::degrees_of(before + 6, b"STAR-READING") else {
+    let ReadDegrees::Are(star) = arguments::degrees_of(rt, err, before + 6, b"STAR-READING") else {
         return;
     };
-    let ReadDegrees::Are(mark) = arguments::degrees_of(before + 7, b"MARK-READING") else {
+    let ReadDegrees::Are(mark) = arguments::degrees_of(rt, err, before + 7, b"MARK-READING") else {
         return;
     };
-    on_readings(before + 8, sight, Readings::At(star, mark));
+    on_readings(rt, err, before + 8, sight, Readings::At(star, mark));
 }
 
 // With the number and the days read.
-fn on_days(before: usize, number: u32, day1: f64, day2: f64, utc: bool)
+fn on_days(
+    rt: &(impl Env + Input + Print),
+    err: &impl Print,
+    before: usize,
+    number: u32,
+    day1: f64,
+    day2: f64,
+    utc: bool,
+)
     requires { before ≤ 2 }
 {
-    let ReadDegrees::Are(long) = arguments::degrees_of(before + 4, b"LONGITUDE") else {
+    let ReadDegrees::Are(long) = arguments::degrees_of(rt, err, before + 4, b"LONGITUDE") else {
         return;
     };
-    let ReadDegrees::Are(lat) = arguments::degrees_of(before + 5, b"LATITUDE") else {
+    let ReadDegrees::Are(lat) = arguments::degrees_of(rt, err, before + 5, b"LATITUDE") else {
         return;
     };
     on_sight(
+        rt,
+        err,
         before,
         Sight {
             number,
@@ -76,33 +108,48 @@ fn on_days(before: usize, number: u32, day1: f64, day2: f64, utc: bool)
 }
 
 // With the number read.
-fn on_number(before: usize, number: u32, dut1: i32, utc: bool)
+fn on_number(
+    rt: &(impl Env + Input + Print),
+    err: &impl Print,
+    before: usize,
+    number: u32,
+    dut1: i32,
+    utc: bool,
+)
     requires { before ≤ 2 }
 {
-    let Days::Are(day1, day2) = arguments::days_of(before + 2, before + 3, b"TIME", dut1) else {
+    let Days::Are(day1, day2) = arguments::days_of(rt, err, before + 2, before + 3, b"TIME", dut1)
+    else {
         return;
     };
-    on_days(before, number, day1, day2, utc);
+    on_days(rt, err, before, number, day1, day2, utc);
 }
 
 // With what stands before the number read.
-fn read_number(before: usize, dut1: i32, utc: bool)
+fn read_number(
+    rt: &(impl Env + Input + Print),
+    err: &impl Print,
+    before: usize,
+    dut1: i32,
+    utc: bool,
+)
     requires { before ≤ 2 }
 {
-    let Unsigned::Is(number) = arguments::unsigned_of(before + 1) else {
-        io::write_all(2, b"NUMBER: no whole number of 32 bits\n");
+    let Unsigned::Is(number) = arguments::unsigned_of(rt, before + 1) else {
+        arguments::say(err, b"NUMBER: no whole number of 32 bits\n");
         return;
     };
-    on_number(before, number, dut1, utc);
+    on_number(rt, err, before, number, dut1, utc);
 }
 
-fn main() {
-    if arguments::is_argument(1, b"--dut1") {
-        let Dut1::Is(dut1) = arguments::dut1_of(2) else {
+fn main(rt: HostRuntime) {
+    let err = rt.stderr();
+    if arguments::is_argument(&rt, 1, b"--dut1") {
+        let Dut1::Is(dut1) = arguments::dut1_of(&rt, &err, 2) else {
             return;
         };
-        read_number(2, dut1, false);
+        read_number(&rt, &err, 2, dut1, false);
         return;
     }
-    read_number(0, 0, arguments::is_date(3));
+    read_number(&rt, &err, 0, 0, arguments::is_date(&rt, 3));
 }

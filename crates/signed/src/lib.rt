@@ -1,5 +1,7 @@
 // Signed numbers of 32 bits, and the words that they are stored as. Promised: sign, size, how far from the sign's first number, and the
 // word by two's complement, each way, for every number; a byte as a word.
+#![tactic(auto)]
+
 ghost use Rattle.std.specs.Prelude.{◌≡◌, ◌<◌, nat_abs};
 ghost use Rattle.signed.specs.rules.Signed.{negative, reach, word_of, signed_of};
 

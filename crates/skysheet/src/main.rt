@@ -1,6 +1,8 @@
 // The sky sheet by program: section 10's cases that are not theorems, and the worked examples of Meeus. A line for each case, in the
 // order of the file `figures`: the 16 hexadecimal digits of each number of the answer, or `refused` and the number. `tools/skysheet` reads
 // the lines, prints them with their names beside the published figures, and holds them to those.
+#![tactic(auto)]
+
 use atmos::Arcminutes;
 use coords_ecl::Ecliptic;
 use edition::Edition;
@@ -10,109 +12,111 @@ use list::Star;
 use quantity::{
     Deg, Degrees, EclPoint, EqPoint, GeographPoint, One, Point, Rad, Radians, Three, Two,
 };
+use std::io::Stdout;
 
 const J2000: f64 = 2451545.0;
 
 // ---- writing
 
-fn number(x: f64) {
-    io::print_hex(1, double::pattern(x), 16);
+fn number(out: Stdout, x: f64) {
+    let bits = double::pattern(x);
+    let _ = print!(out; "{bits:016x}");
 }
 
-fn next(x: f64) {
-    io::write_all(1, b" ");
-    number(x);
+fn next(out: Stdout, x: f64) {
+    let _ = out.write_all(b" ");
+    number(out, x);
 }
 
-fn end() {
-    io::write_all(1, b"\n");
+fn end(out: Stdout) {
+    let _ = out.write_all(b"\n");
 }
 
-fn line(x: f64) {
-    number(x);
-    end();
+fn line(out: Stdout, x: f64) {
+    number(out, x);
+    end(out);
 }
 
-fn refusal(n: u8) {
-    io::write_all(1, b"refused ");
-    io::print_decimal(1, n as u64);
+fn refusal(out: Stdout, n: u8) {
+    let _ = out.write_all(b"refused ");
+    let _ = out.print(n as u64);
 }
 
-fn one(a: One) {
+fn one(out: Stdout, a: One) {
     match a {
-        One::Is(x) => number(x),
-        One::Refused(n) => refusal(n),
+        One::Is(x) => number(out, x),
+        One::Refused(n) => refusal(out, n),
     }
-    end();
+    end(out);
 }
 
-fn radians(a: Radians) {
+fn radians(out: Stdout, a: Radians) {
     match a {
-        Radians::Are(x) => number(x.0),
-        Radians::Refused(n) => refusal(n),
+        Radians::Are(x) => number(out, x.0),
+        Radians::Refused(n) => refusal(out, n),
     }
-    end();
+    end(out);
 }
 
-fn degrees(a: Degrees) {
+fn degrees(out: Stdout, a: Degrees) {
     match a {
-        Degrees::Are(x) => number(x.0),
-        Degrees::Refused(n) => refusal(n),
+        Degrees::Are(x) => number(out, x.0),
+        Degrees::Refused(n) => refusal(out, n),
     }
-    end();
+    end(out);
 }
 
-fn arcminutes(a: Arcminutes) {
+fn arcminutes(out: Stdout, a: Arcminutes) {
     match a {
-        Arcminutes::Are(x) => number(x.0),
-        Arcminutes::Refused(n) => refusal(n),
+        Arcminutes::Are(x) => number(out, x.0),
+        Arcminutes::Refused(n) => refusal(out, n),
     }
-    end();
+    end(out);
 }
 
-fn two(a: Two) {
+fn two(out: Stdout, a: Two) {
     match a {
         Two::Are(x, y) => {
-            number(x);
-            next(y);
+            number(out, x);
+            next(out, y);
         }
-        Two::Refused(n) => refusal(n),
+        Two::Refused(n) => refusal(out, n),
     }
-    end();
+    end(out);
 }
 
-fn three(a: Three) {
+fn three(out: Stdout, a: Three) {
     match a {
         Three::Are(x, y, z) => {
-            number(x);
-            next(y);
-            next(z);
+            number(out, x);
+            next(out, y);
+            next(out, z);
         }
-        Three::Refused(n) => refusal(n),
+        Three::Refused(n) => refusal(out, n),
     }
-    end();
+    end(out);
 }
 
-fn point(a: Point) {
+fn point(out: Stdout, a: Point) {
     match a {
         Point::Is(p) => {
-            number(p.asc);
-            next(p.dec);
+            number(out, p.asc);
+            next(out, p.dec);
         }
-        Point::Refused(n) => refusal(n),
+        Point::Refused(n) => refusal(out, n),
     }
-    end();
+    end(out);
 }
 
-fn ecliptic(a: Ecliptic) {
+fn ecliptic(out: Stdout, a: Ecliptic) {
     match a {
         Ecliptic::Is(p) => {
-            number(p.long);
-            next(p.lat);
+            number(out, p.long);
+            next(out, p.lat);
         }
-        Ecliptic::Refused(n) => refusal(n),
+        Ecliptic::Refused(n) => refusal(out, n),
     }
-    end();
+    end(out);
 }
 
 // ---- the cases
@@ -121,46 +125,79 @@ fn deg(x: f64) -> Rad {
     angle::radians(Deg(x))
 }
 
-fn limits() {
-    one(time::julian_cent(3182045.0));
-    one(time::julian_cent(3182045.0000000005));
-    radians(aberr::sol_aberr(0.0));
-    three(precess_ecl::precess_orb_elements(Rad(0.0), Rad(1.0), Rad(1.0), J2000, J2000));
-    radians(coords::az_frm_eq(Rad(1.0), Rad(1.57), Rad(0.5)));
-    radians(coords::az_frm_eq(Rad(1.0), Rad(1.5700000000000003), Rad(0.5)));
+fn limits(out: Stdout) {
+    one(out, time::julian_cent(3182045.0));
+    one(out, time::julian_cent(3182045.0000000005));
+    radians(out, aberr::sol_aberr(0.0));
+    three(
+        out,
+        precess_ecl::precess_orb_elements(Rad(0.0), Rad(1.0), Rad(1.0), J2000, J2000),
+    );
+    radians(out, coords::az_frm_eq(Rad(1.0), Rad(1.57), Rad(0.5)));
+    radians(
+        out,
+        coords::az_frm_eq(Rad(1.0), Rad(1.5700000000000003), Rad(0.5)),
+    );
 }
 
-fn earth_and_ecliptic() {
-    two(Earth::rho_sin_cos_phi(deg(33.35611111111111), 1706.0));
-    ecliptic(coords_ecl::ecl_frm_eq(deg(116.328942), deg(28.026183), deg(23.4392911)));
-    radians(coords_ecl::asc_frm_ecl(deg(113.21563), deg(6.68417), deg(23.4392911)));
-    radians(coords_ecl::dec_frm_ecl(deg(113.21563), deg(6.68417), deg(23.4392911)));
+fn earth_and_ecliptic(out: Stdout) {
+    two(out, Earth::rho_sin_cos_phi(deg(33.35611111111111), 1706.0));
+    ecliptic(
+        out,
+        coords_ecl::ecl_frm_eq(deg(116.328942), deg(28.026183), deg(23.4392911)),
+    );
+    radians(
+        out,
+        coords_ecl::asc_frm_ecl(deg(113.21563), deg(6.68417), deg(23.4392911)),
+    );
+    radians(
+        out,
+        coords_ecl::dec_frm_ecl(deg(113.21563), deg(6.68417), deg(23.4392911)),
+    );
 }
 
-fn horizon_and_galaxy() {
-    radians(coords::az_frm_eq(
-        deg(64.352133),
-        deg(-6.719891666666667),
-        deg(38.92138888888889),
-    ));
-    radians(coords::alt_frm_eq(
-        deg(64.352133),
-        deg(-6.719891666666667),
-        deg(38.92138888888889),
-    ));
-    radians(coords::hr_angl_frm_hz(deg(68.0337), deg(15.1249), deg(38.92138888888889)));
-    radians(coords::dec_frm_hz(
-        Edition::Crate,
-        deg(68.0337),
-        deg(15.1249),
-        deg(38.92138888888889),
-    ));
-    radians(coords_gal::gal_long_frm_eq(deg(267.2489166666667), deg(-14.718944444444444)));
-    radians(coords_gal::gal_lat_frm_eq(deg(267.2489166666667), deg(-14.718944444444444)));
+fn horizon_and_galaxy(out: Stdout) {
+    radians(
+        out,
+        coords::az_frm_eq(
+            deg(64.352133),
+            deg(-6.719891666666667),
+            deg(38.92138888888889),
+        ),
+    );
+    radians(
+        out,
+        coords::alt_frm_eq(
+            deg(64.352133),
+            deg(-6.719891666666667),
+            deg(38.92138888888889),
+        ),
+    );
+    radians(
+        out,
+        coords::hr_angl_frm_hz(deg(68.0337), deg(15.1249), deg(38.92138888888889)),
+    );
+    radians(
+        out,
+        coords::dec_frm_hz(
+            Edition::Crate,
+            deg(68.0337),
+            deg(15.1249),
+            deg(38.92138888888889),
+        ),
+    );
+    radians(
+        out,
+        coords_gal::gal_long_frm_eq(deg(267.2489166666667), deg(-14.718944444444444)),
+    );
+    radians(
+        out,
+        coords_gal::gal_lat_frm_eq(deg(267.2489166666667), deg(-14.718944444444444)),
+    );
 }
 
 // Venus at Boston: rise, culmination and set before interpolation, a line each.
-fn venus_at_boston() {
+fn venus_at_boston(out: Stdout) {
     let times = transit::rise_culm_set(
         EqPoint {
             asc: deg(41.73129).0,
@@ -175,20 +212,20 @@ fn venus_at_boston() {
     );
     match times {
         Three::Are(rise, culmination, set) => {
-            line(rise);
-            line(culmination);
-            line(set);
+            line(out, rise);
+            line(out, culmination);
+            line(out, set);
         }
-        Three::Refused(n) => refusal(n),
+        Three::Refused(n) => refusal(out, n),
     }
 }
 
 // The Sun at the horizon: its lower limb is seen at 0.5 degrees, its upper limb stands at 33.246 minutes of arc.
-fn sun_at_the_horizon() {
-    arcminutes(atmos::refrac_frm_apprnt_alt(Deg(0.5)));
-    degrees(atmos::sight_alt(Deg(0.5)));
-    arcminutes(atmos::refrac_frm_true_alt(Deg(0.5541)));
-    degrees(atmos::plan_alt(Deg(0.5541)));
+fn sun_at_the_horizon(out: Stdout) {
+    arcminutes(out, atmos::refrac_frm_apprnt_alt(Deg(0.5)));
+    degrees(out, atmos::sight_alt(Deg(0.5)));
+    arcminutes(out, atmos::refrac_frm_true_alt(Deg(0.5541)));
+    degrees(out, atmos::plan_alt(Deg(0.5541)));
 }
 
 // Polaris on a day: its place of J2000, 2h31m48.704s and 89d15'50.72", moved by its yearly rates.
@@ -200,13 +237,16 @@ fn polaris_at(day: f64) -> EqPoint {
     }
 }
 
-fn polaris(day: f64) {
+fn polaris(out: Stdout, day: f64) {
     let place = polaris_at(day);
-    two(precess::precess_eq_coords(Edition::Crate, Rad(place.asc), Rad(place.dec), J2000, day));
+    two(
+        out,
+        precess::precess_eq_coords(Edition::Crate, Rad(place.asc), Rad(place.dec), J2000, day),
+    );
 }
 
 // A record of J2000 on a day, its rates in whole milliarcseconds a year.
-fn moved(asc: u32, dec: i32, asc_rate: i32, dec_rate: i32, day: f64) {
+fn moved(out: Stdout, asc: u32, dec: i32, asc_rate: i32, dec_rate: i32, day: f64) {
     let star = Star {
         number: 0,
         asc,
@@ -215,39 +255,48 @@ fn moved(asc: u32, dec: i32, asc_rate: i32, dec_rate: i32, day: f64) {
         dec_rate,
     };
     let years = star_place::years_between(J2000, day);
-    two(precess::precess_eq_coords(
-        Edition::Crate,
-        star_place::asc_of(star, years),
-        star_place::dec_of(star, years),
-        J2000,
-        day,
-    ));
+    two(
+        out,
+        precess::precess_eq_coords(
+            Edition::Crate,
+            star_place::asc_of(star, years),
+            star_place::dec_of(star, years),
+            J2000,
+            day,
+        ),
+    );
 }
 
 // theta Persei, and Polaris on its three days.
-fn moving_stars() {
-    moved(147779790, 177222480, 514, -90, 2462088.69);
-    moved(136630560, 321350720, 2982, -15, 2415020.3135);
-    moved(136630560, 321350720, 2982, -15, 2469807.5);
-    moved(136630560, 321350720, 2982, -15, 2488070.0);
+fn moving_stars(out: Stdout) {
+    moved(out, 147779790, 177222480, 514, -90, 2462088.69);
+    moved(out, 136630560, 321350720, 2982, -15, 2415020.3135);
+    moved(out, 136630560, 321350720, 2982, -15, 2469807.5);
+    moved(out, 136630560, 321350720, 2982, -15, 2488070.0);
 }
 
-fn precessions() {
-    two(precess::precess_eq_coords(
-        Edition::Crate,
-        deg(41.054063),
-        deg(49.22775),
-        J2000,
-        2462088.69,
-    ));
-    polaris(2415020.3135);
-    polaris(2469807.5);
-    polaris(2488070.0);
-    two(precess_ecl::precess_ecl_coords(deg(149.48194), deg(1.76549), J2000, 1643074.5));
+fn precessions(out: Stdout) {
+    two(
+        out,
+        precess::precess_eq_coords(
+            Edition::Crate,
+            deg(41.054063),
+            deg(49.22775),
+            J2000,
+            2462088.69,
+        ),
+    );
+    polaris(out, 2415020.3135);
+    polaris(out, 2469807.5);
+    polaris(out, 2488070.0);
+    two(
+        out,
+        precess_ecl::precess_ecl_coords(deg(149.48194), deg(1.76549), J2000, 1643074.5),
+    );
 }
 
 // A place of J2000 on a day by one rotation, the second of two that go side by side.
-fn rotated(place: EqPoint, day: f64) {
+fn rotated(out: Stdout, place: EqPoint, day: f64) {
     let toward = elementary::toward(place);
     let places = rotation::rotated_two(
         rotation::rotation_of(Edition::Crate, J2000, day),
@@ -255,147 +304,164 @@ fn rotated(place: EqPoint, day: f64) {
         toward,
     );
     if places.second_refusal == 0 {
-        number(places.second_asc);
-        next(places.second_dec);
+        number(out, places.second_asc);
+        next(out, places.second_dec);
     } else {
-        refusal(places.second_refusal);
+        refusal(out, places.second_refusal);
     }
-    end();
+    end(out);
 }
 
 // theta Persei, and Polaris on its three days.
-fn rotations() {
+fn rotations(out: Stdout) {
     rotated(
+        out,
         EqPoint {
             asc: deg(41.054063).0,
             dec: deg(49.22775).0,
         },
         2462088.69,
     );
-    rotated(polaris_at(2415020.3135), 2415020.3135);
-    rotated(polaris_at(2469807.5), 2469807.5);
-    rotated(polaris_at(2488070.0), 2488070.0);
+    rotated(out, polaris_at(2415020.3135), 2415020.3135);
+    rotated(out, polaris_at(2469807.5), 2469807.5);
+    rotated(out, polaris_at(2488070.0), 2488070.0);
 }
 
 // The mean obliquity on a day, then the true one.
-fn obliquities(day: f64) {
+fn obliquities(out: Stdout, day: f64) {
     let mean = chain::mean_obliquity_on(day);
-    line(mean.0);
+    line(out, mean.0);
     match nutation::nutation(day) {
-        Two::Are(_, in_oblq) => number(chain::true_obliquity(mean, Rad(in_oblq)).0),
-        Two::Refused(n) => refusal(n),
+        Two::Are(_, in_oblq) => number(out, chain::true_obliquity(mean, Rad(in_oblq)).0),
+        Two::Refused(n) => refusal(out, n),
     }
-    end();
+    end(out);
 }
 
-fn reductions() {
-    two(nutation::nutation(2446895.5));
-    obliquities(2446895.5);
-    two(nutation::nutation_in_eq_coords(
-        EqPoint {
-            asc: deg(41.5472).0,
-            dec: deg(49.3485).0,
-        },
-        deg(14.861 / 3600.0),
-        deg(2.705 / 3600.0),
-        deg(23.436),
-    ));
-    three(precess_ecl::precess_orb_elements(
-        deg(47.122),
-        deg(151.4486),
-        deg(45.7481),
-        2358042.5305,
-        2433282.4235,
-    ));
-    radians(aberr::sol_aberr(0.99766));
+fn reductions(out: Stdout) {
+    two(out, nutation::nutation(2446895.5));
+    obliquities(out, 2446895.5);
+    two(
+        out,
+        nutation::nutation_in_eq_coords(
+            EqPoint {
+                asc: deg(41.5472).0,
+                dec: deg(49.3485).0,
+            },
+            deg(14.861 / 3600.0),
+            deg(2.705 / 3600.0),
+            deg(23.436),
+        ),
+    );
+    three(
+        out,
+        precess_ecl::precess_orb_elements(
+            deg(47.122),
+            deg(151.4486),
+            deg(45.7481),
+            2358042.5305,
+            2433282.4235,
+        ),
+    );
+    radians(out, aberr::sol_aberr(0.99766));
 }
 
 // The exercise of chapter 40.
-fn exercise(edition: Edition) {
-    three(parallax_ecl::topopcent_ecl_coords(
-        edition,
-        EclPoint {
-            long: deg(181.77291666666667).0,
-            lat: deg(2.2906111111111113).0,
-        },
-        deg(0.9910277777777778),
-        GeographPoint {
-            long: 0.0,
-            lat: deg(50.0855).0,
-        },
-        0.0,
-        deg(209.76886111111112),
-        deg(23.466888888888889),
-        deg(0.2709722222222222),
-    ));
+fn exercise(out: Stdout, edition: Edition) {
+    three(
+        out,
+        parallax_ecl::topopcent_ecl_coords(
+            edition,
+            EclPoint {
+                long: deg(181.77291666666667).0,
+                lat: deg(2.2906111111111113).0,
+            },
+            deg(0.9910277777777778),
+            GeographPoint {
+                long: 0.0,
+                lat: deg(50.0855).0,
+            },
+            0.0,
+            deg(209.76886111111112),
+            deg(23.466888888888889),
+            deg(0.2709722222222222),
+        ),
+    );
 }
 
-fn parallaxes() {
-    radians(parallax::eq_hz_parallax(0.37276));
-    point(parallax::topocent_eq_coords(
-        EqPoint {
-            asc: deg(339.530208).0,
-            dec: deg(-15.771083).0,
-        },
-        deg(23.592 / 3600.0),
-        GeographPoint {
-            long: deg(116.8625).0,
-            lat: deg(33.35611111111111).0,
-        },
-        1706.0,
-        deg(25.1875),
-    ));
-    exercise(Edition::Crate);
+fn parallaxes(out: Stdout) {
+    radians(out, parallax::eq_hz_parallax(0.37276));
+    point(
+        out,
+        parallax::topocent_eq_coords(
+            EqPoint {
+                asc: deg(339.530208).0,
+                dec: deg(-15.771083).0,
+            },
+            deg(23.592 / 3600.0),
+            GeographPoint {
+                long: deg(116.8625).0,
+                lat: deg(33.35611111111111).0,
+            },
+            1706.0,
+            deg(25.1875),
+        ),
+    );
+    exercise(out, Edition::Crate);
 }
 
 // Example 13.b back from the azimuth and altitude that it gives, unrounded.
-fn venus_back(edition: Edition) {
+fn venus_back(out: Stdout, edition: Edition) {
     let hour = deg(64.352133);
     let dec = deg(-6.719891666666667);
     let lat = deg(38.92138888888889);
     match coords::az_frm_eq(hour, dec, lat) {
         Radians::Are(az) => match coords::alt_frm_eq(hour, dec, lat) {
             Radians::Are(alt) => {
-                radians(coords::dec_frm_hz(edition, az, alt, lat));
+                radians(out, coords::dec_frm_hz(edition, az, alt, lat));
             }
-            Radians::Refused(n) => refusal(n),
+            Radians::Refused(n) => refusal(out, n),
         },
-        Radians::Refused(n) => refusal(n),
+        Radians::Refused(n) => refusal(out, n),
     }
 }
 
 // Example 21.b back: from its second day, which is not J2000, to its first.
-fn persei_back(edition: Edition) {
-    two(precess::precess_eq_coords(edition, deg(41.547214), deg(49.348483), 2462088.69, J2000));
+fn persei_back(out: Stdout, edition: Edition) {
+    two(
+        out,
+        precess::precess_eq_coords(edition, deg(41.547214), deg(49.348483), 2462088.69, J2000),
+    );
 }
 
 // What the editions have otherwise, in either.
-fn editions() {
-    venus_back(Edition::Crate);
-    venus_back(Edition::Published);
-    persei_back(Edition::Crate);
-    persei_back(Edition::Published);
-    exercise(Edition::Published);
+fn editions(out: Stdout) {
+    venus_back(out, Edition::Crate);
+    venus_back(out, Edition::Published);
+    persei_back(out, Edition::Crate);
+    persei_back(out, Edition::Published);
+    exercise(out, Edition::Published);
 }
 
 // Sidereal time at Greenwich: 1987 April 10 at 0h, mean and apparent, and at 19h21m.
-fn sidereal_times() {
-    radians(sidereal::mean_sidereal(2446895.5));
-    radians(sidereal::apparent_sidereal(2446895.5));
-    radians(sidereal::mean_sidereal(2446896.30625));
+fn sidereal_times(out: Stdout) {
+    radians(out, sidereal::mean_sidereal(2446895.5));
+    radians(out, sidereal::apparent_sidereal(2446895.5));
+    radians(out, sidereal::mean_sidereal(2446896.30625));
 }
 
-fn main() {
-    limits();
-    earth_and_ecliptic();
-    horizon_and_galaxy();
-    venus_at_boston();
-    sun_at_the_horizon();
-    precessions();
-    moving_stars();
-    rotations();
-    reductions();
-    parallaxes();
-    editions();
-    sidereal_times();
+fn main(rt: HostRuntime) {
+    let out = rt.stdout();
+    limits(out);
+    earth_and_ecliptic(out);
+    horizon_and_galaxy(out);
+    venus_at_boston(out);
+    sun_at_the_horizon(out);
+    precessions(out);
+    moving_stars(out);
+    rotations(out);
+    reductions(out);
+    parallaxes(out);
+    editions(out);
+    sidereal_times(out);
 }

@@ -1,6 +1,8 @@
 // A star's place (section 7): its right ascension and its declination in radians, from its record's milliarcseconds, each shifted by its
 // yearly change. Promised: the written operations on every record; on days that are not refused, the right ascension of a star in
 // range is never refused, and its declination by 3 alone.
+#![tactic(auto)]
+
 ghost use Rattle.std.specs.Prelude.{◌≡◌};
 ghost use Rattle.star_place.specs.rules.Place.{years_between, angle_of, shifted, asc_of, dec_of};
 

@@ -1,6 +1,8 @@
 // What every call shares that answers a list star by star (sections 5 and 7): the refusals of the call and of a star, and one star's status
 // and the bits of its two angles stored into memory that the caller lends, with the tally of the statuses. Promised: each place has its
 // star's answer, by whatever rule, and what a call leaves alone it leaves bit for bit, a NaN's too.
+#![tactic(auto)]
+
 ghost use Rattle.std.specs.Prelude.{◌<◌, ◌≡◌, cond, eqb, length};
 ghost use Rattle.double.specs.rules.Operations.{zero};
 ghost use Rattle.double.specs.rules.Pattern.{pattern_of};
@@ -17,7 +19,7 @@ use list_tally::Tally;
 use quantity::{HALF, Rad};
 
 // The refusal number, where 0 is none, beside the tally of every star's status.
-#[derive(Drop)]
+#[derive(Clone, Copy)]
 pub struct Tallied {
     pub refusal: u8,
     pub tally: Tally,

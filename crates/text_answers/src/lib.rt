@@ -1,11 +1,13 @@
 // The text of a list's answers, star by star, in one of four styles. Promised: every byte of it, as far as there is room. What is
 // printed was worked out before: a status and two angles a star, each angle lent as its bits, a refusal of all and a tally.
+#![tactic(auto)]
+
 ghost use Rattle.std.specs.Prelude.{◌+◌, ◌≡◌, get_or};
 ghost use Rattle.lent.specs.rules.Writing.{Wrote};
 ghost use Rattle.lent.specs.rules.Texts.{texts};
 ghost use Rattle.list_tally.specs.rules.Status.{highest_status};
-ghost use Rattle.text_answers.specs.rules.Answers.{star_text, edition_text, heading_in, head_text, countText, countAt, tallyText, footText};
-ghost use Rattle.text_answers.specs.rules.Answers.{refusalIn, refusedIn, angle_at, lentLine, listText, answersText};
+ghost use Rattle.text_answers.specs.rules.Answers.{star_text, edition_text, heading_in, head_text, count_text, count_at, tally_text, foot_text};
+ghost use Rattle.text_answers.specs.rules.Answers.{refusal_in, refused_in, angle_at, lent_line, list_text, answers_text};
 
 use edition::Edition;
 use list_tally::Tally;
@@ -13,7 +15,7 @@ use quantity::Rad;
 use transit::Observer;
 
 // What is written of a star: its angles, and a tally of all, or a row of a table; its plan for an observer, in a line or in a row.
-#[derive(Drop)]
+#[derive(Clone, Copy)]
 pub enum Style {
     Lines,
     Table,
@@ -84,7 +86,7 @@ fn put_nth<'a>(
     dec: &'a [u64],
     i: usize,
 ) -> usize
-    ensures { Wrote out.old at (lentLine style bytes.now status.now asc.now dec.now i)
+    ensures { Wrote out.old at (lent_line style bytes.now status.now asc.now dec.now i)
         out.new result }
 {
     let star = list::nth(bytes, i);
@@ -115,7 +117,7 @@ fn put_stars<'a>(
     n: usize,
 ) -> usize
     ensures { Wrote out.old at
-        (texts n (lentLine style bytes.now status.now asc.now dec.now)) out.new result }
+        (texts n (lent_line style bytes.now status.now asc.now dec.now)) out.new result }
 {
     let mut offset = lent::within(at, out.len());
     let mut i: usize = 0;
@@ -168,7 +170,7 @@ fn put_head(out: &mut [u8], at: usize, style: Style, edition: Edition) -> usize
 
 // The count of one status.
 fn put_count(out: &mut [u8], at: usize, n: u32) -> usize
-    ensures { Wrote out.old at (countText n) out.new result }
+    ensures { Wrote out.old at (count_text n) out.new result }
 {
     let a = lent::put_byte(out, at, b' ');
     text_number::put_decimal(out, a, n as u64)
@@ -176,7 +178,7 @@ fn put_count(out: &mut [u8], at: usize, n: u32) -> usize
 
 // The counts of the statuses from 0 to the highest known.
 fn put_counts(out: &mut [u8], at: usize, counts: &[u32; 20]) -> usize
-    ensures { Wrote out.old at (texts (highest_status + 1) (countAt counts.now)) out.new result }
+    ensures { Wrote out.old at (texts (highest_status + 1) (count_at counts.now)) out.new result }
 {
     let mut offset = lent::within(at, out.len());
     let mut k: usize = 0;
@@ -189,7 +191,7 @@ fn put_counts(out: &mut [u8], at: usize, counts: &[u32; 20]) -> usize
 
 // The tally in a line.
 fn put_tally(out: &mut [u8], at: usize, tally: Tally) -> usize
-    ensures { Wrote out.old at (tallyText tally) out.new result }
+    ensures { Wrote out.old at (tally_text tally) out.new result }
 {
     let counts = tally.counts;
     let a = lent::put(out, at, b"tally");
@@ -199,7 +201,7 @@ fn put_tally(out: &mut [u8], at: usize, tally: Tally) -> usize
 
 // What stands after the stars.
 fn put_foot(out: &mut [u8], at: usize, style: Style, tally: Tally) -> usize
-    ensures { Wrote out.old at (footText style tally) out.new result }
+    ensures { Wrote out.old at (foot_text style tally) out.new result }
 {
     match style {
         Style::Lines => put_tally(out, at, tally),
@@ -213,7 +215,7 @@ fn put_foot(out: &mut [u8], at: usize, style: Style, tally: Tally) -> usize
 
 // The least refusal over all arguments, with the list's.
 fn refusal_in(style: Style, n: u8) -> u8
-    ensures { result ≡ refusalIn style n }
+    ensures { result ≡ refusal_in style n }
 {
     match style {
         Style::Lines => n,
@@ -225,7 +227,7 @@ fn refusal_in(style: Style, n: u8) -> u8
 
 // A refused call's text.
 fn put_refused(out: &mut [u8], style: Style, n: u8) -> usize
-    ensures { Wrote out.old 0 (refusedIn style n) out.new result }
+    ensures { Wrote out.old 0 (refused_in style n) out.new result }
 {
     match style {
         Style::Lines => text_number::put_refused(out, 0, n),
@@ -250,7 +252,7 @@ pub fn put_list<'a>(
     tally: Tally,
 ) -> usize
     ensures { Wrote out.old at
-        (listText style edition bytes.now status.now asc.now dec.now tally) out.new result }
+        (list_text style edition bytes.now status.now asc.now dec.now tally) out.new result }
 {
     let a = put_head(out, at, style, edition);
     let b = put_stars(out, a, style, bytes, status, asc, dec, list::count(bytes));
@@ -270,7 +272,7 @@ pub fn put_answers<'a>(
     tally: Tally,
 ) -> usize
     ensures { Wrote out.old 0
-        (answersText style edition bytes.now status.now asc.now dec.now refusal tally) out.new result }
+        (answers_text style edition bytes.now status.now asc.now dec.now refusal tally) out.new result }
 {
     let stated = refusal_in(style, refusal);
     if stated != 0 {

@@ -1,5 +1,7 @@
 // The text that `ceiling` prints: the ceiling on nutation at the centuries -20 to 20, a line each. Promised: every byte of it, and that
 // the days asked at have those centuries exactly.
+#![tactic(auto)]
+
 ghost use Rattle.std.specs.Prelude.{◌≡◌};
 ghost use Rattle.lent.specs.rules.Writing.{Wrote};
 ghost use Rattle.quantity.specs.rules.Answer.{shown_two};

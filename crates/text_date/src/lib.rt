@@ -1,5 +1,7 @@
 // A date as crews have it, `2028-11-13` (0h) or `2028-11-13T04:33:36.5Z` (UTC), read as a Julian day. Promised: the date that is written, by
 // the calendar, and its milliseconds, exactly; the Julian day of the two and of UT1 - UTC, rounded once; or why the text says none.
+#![tactic(auto)]
+
 ghost use Rattle.std.specs.Prelude.{◌≡◌, ◌+◌, ◌≤◌, ◌<◌, length};
 ghost use Rattle.calendar.specs.rules.Number.{shown_number};
 ghost use Rattle.text_date.specs.rules.Digits.{digit_of, joined, pair_at, year_at};
@@ -11,7 +13,7 @@ use calendar::{Date, Number};
 
 // Why a text says no date: the form of the date, the month, the day; before 1582-10-15, after 4000-01-16; the form of the time, no Z, the
 // form of the fraction; the hour, the minute, the second. None of these is a number of document 01's table of refusals.
-#[derive(Drop)]
+#[derive(Clone, Copy)]
 pub enum Reason {
     NoDate,
     NoMonth,
@@ -27,21 +29,21 @@ pub enum Reason {
 }
 
 // A day number, or why there is none.
-#[derive(Drop)]
+#[derive(Clone, Copy)]
 pub enum Dated {
     Is(u32),
     Not(Reason),
 }
 
 // A day number and the milliseconds since its 0h, or why there are none.
-#[derive(Drop)]
+#[derive(Clone, Copy)]
 pub enum Timed {
     At(u32, u32),
     Not(Reason),
 }
 
 // A Julian day, or why there is none.
-#[derive(Drop)]
+#[derive(Clone, Copy)]
 pub enum Moment {
     Is(f64),
     Not(Reason),

@@ -1,5 +1,7 @@
 // A command's word for a day: a Julian day in decimal, `J2000`, or a date as crews have it; and in words why it is none of them. Promised:
 // what `text_decimal` reads wherever it reads a day, 2451545.0 for J2000, and else what `text_date` reads; every byte of the words.
+#![tactic(auto)]
+
 ghost use Rattle.std.specs.Prelude.{◌≡◌};
 ghost use Rattle.lent.specs.rules.Writing.{Wrote};
 ghost use Rattle.text_date.specs.rules.Moment.{shown_moment};

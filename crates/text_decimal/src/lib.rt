@@ -1,10 +1,12 @@
 // A day in decimal: digits and an optional point. Promised: the double nearest to what is written, by one rounding, or that it is none.
+#![tactic(auto)]
+
 ghost use Rattle.std.specs.Prelude.{◌≡◌};
 ghost use Rattle.text_decimal.specs.rules.Decimal.{unclear, next_scale, with_digit, with_point, with_byte, decimal_from, shown_decimal, decimal_rule};
 
 // What was read so far: the digits as a whole number, the power of ten below them, whether a point and a digit stood there, and
 // whether all was clear.
-#[derive(Drop)]
+#[derive(Clone, Copy)]
 pub struct Scan {
     pub whole: u64,
     pub scale: f64,
@@ -14,7 +16,7 @@ pub struct Scan {
 }
 
 // A day, or that the text is none.
-#[derive(Drop)]
+#[derive(Clone, Copy)]
 pub enum Decimal {
     Is(f64),
     Unclear,

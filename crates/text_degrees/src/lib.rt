@@ -1,5 +1,7 @@
 // An angle in degrees, in decimal: digits and an optional point, with a sign in front where it is wanted. Promised: the double nearest to
 // what is written, by one rounding, or that it is none.
+#![tactic(auto)]
+
 ghost use Rattle.std.specs.Prelude.{◌≡◌};
 ghost use Rattle.text_decimal.specs.rules.Decimal.{shown_decimal};
 ghost use Rattle.text_degrees.specs.rules.Degrees.{with_sign, shown_read_degrees, degrees_rule};
@@ -8,7 +10,7 @@ use quantity::Deg;
 use text_decimal::Decimal;
 
 // An angle, or that the text is none.
-#[derive(Drop)]
+#[derive(Clone, Copy)]
 pub enum ReadDegrees {
     Are(Deg),
     Unclear,

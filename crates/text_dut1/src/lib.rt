@@ -1,12 +1,14 @@
 // UT1 - UTC in seconds, as a command's word: a sign or none, digits, at most one point and at most three digits after it, 0.9 in size at
 // most. Promised: the milliseconds that are written, exactly, or that the text is no such word.
+#![tactic(auto)]
+
 ghost use Rattle.std.specs.Prelude.{◌≡◌};
 ghost use Rattle.text_dut1.specs.rules.Scan.{start, unclear, next_worth, with_digit, with_point, with_byte, scanned};
 ghost use Rattle.text_dut1.specs.rules.Dut1.{shown_dut1, signed_in, with_sign, dut1_rule};
 
 // What was read so far: the digits as a whole number, the milliseconds that the last of them counts, whether a point and a digit stood there,
 // and whether all was clear.
-#[derive(Drop)]
+#[derive(Clone, Copy)]
 pub struct Scan {
     pub whole: u32,
     pub worth: u32,
@@ -16,7 +18,7 @@ pub struct Scan {
 }
 
 // Milliseconds, or that the text says none.
-#[derive(Drop)]
+#[derive(Clone, Copy)]
 pub enum Dut1 {
     Is(i32),
     Unclear,

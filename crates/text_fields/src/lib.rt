@@ -2,6 +2,8 @@
 // is left out, and a line with nothing else is passed over. Promised: where the first field ends and what it says as a number and as an
 // angle, where the next line that says something stands, and how many lines are read for it. What sights leave in slices that are lent for
 // them is a rule over any reading of a line, for who walks along them.
+#![tactic(auto)]
+
 ghost use Rattle.std.specs.Prelude.{◌≡◌, length};
 ghost use Rattle.text_whole.specs.rules.Unsigned.{shown_unsigned, unsigned_rule};
 ghost use Rattle.text_degrees.specs.rules.Degrees.{shown_read_degrees, degrees_rule};
@@ -14,7 +16,7 @@ use text_degrees::ReadDegrees;
 use text_whole::Unsigned;
 
 // What a pass over bytes ends at: a line's end, the mark of a comment, a blank, or a byte that is none.
-#[derive(Drop)]
+#[derive(Clone, Copy)]
 pub enum Stop {
     LineEnd,
     Hash,
@@ -24,14 +26,14 @@ pub enum Stop {
 
 // The next line that says something: where what it says starts and ends in the text, how many lines were read for it, its own the last, and
 // the offset after it; or that there is none.
-#[derive(Drop)]
+#[derive(Clone, Copy)]
 pub enum Said {
     At(usize, usize, usize, usize),
     End,
 }
 
 // All sights of a text: how many there are; the line that cannot be read; or that there is no place for the next of them.
-#[derive(Drop)]
+#[derive(Clone, Copy)]
 pub enum Sights {
     Are(usize),
     Unclear(usize),

@@ -1,5 +1,7 @@
 // The parts of a sight's text: an angle in degrees, minutes and seconds of arc, the observer's place, what is said of an altitude, the
 // edition, and a refusal of a sight or of a mark, in words. Promised: every byte of it; each angle is rounded once.
+#![tactic(auto)]
+
 ghost use Rattle.std.specs.Prelude.{◌≡◌};
 ghost use Rattle.quantity.specs.rules.Answer.{shown_degrees};
 ghost use Rattle.lent.specs.rules.Writing.{Wrote};

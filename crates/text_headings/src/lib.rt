@@ -1,5 +1,7 @@
 // The text of a night's headings of one mark, which are lent by their lines, stars and headings: each sight's, with its residual from the
 // reference; their mean, with its spread and its error. Promised: every byte, as far as there is room; each figure is rounded once.
+#![tactic(auto)]
+
 ghost use Rattle.std.specs.Prelude.{◌≡◌};
 ghost use Rattle.lent.specs.rules.Writing.{Wrote};
 ghost use Rattle.lent.specs.rules.Texts.{texts};

@@ -1,4 +1,6 @@
 // A star's line of the text that `reduce` prints: its number, then its angles or its refusal. Promised: every byte of it.
+#![tactic(auto)]
+
 ghost use Rattle.std.specs.Prelude.{◌≡◌};
 ghost use Rattle.lent.specs.rules.Writing.{Wrote};
 ghost use Rattle.text_line.specs.rules.Angle.{angle_text};

@@ -1,6 +1,8 @@
 // The text of measured places, a line a sight: the star's number, its right ascension and its declination in decimal degrees. Fields,
 // comments and lines are `text_fields`'s. Promised: exactly the sights that stand there, each with its line, one after the other or all of
 // them into slices; or the line that is none.
+#![tactic(auto)]
+
 ghost use Rattle.std.specs.Prelude.{◌<◌, ◌≡◌, length, drop};
 ghost use Rattle.text_whole.specs.rules.Unsigned.{shown_unsigned};
 ghost use Rattle.text_degrees.specs.rules.Degrees.{shown_read_degrees};
@@ -20,7 +22,7 @@ use text_fields::{Said, Sights, Stop};
 use text_whole::Unsigned;
 
 // What a line says: a star's number with its right ascension and declination, nothing, or what cannot be read.
-#[derive(Drop)]
+#[derive(Clone, Copy)]
 pub enum Line {
     Sight(u32, Deg, Deg),
     Bare,
@@ -29,7 +31,7 @@ pub enum Line {
 
 // The next sight of a text, with how many lines were read for it, its own the last, and the offset after them; the same number for a line
 // that cannot be read; or that there is none.
-#[derive(Drop)]
+#[derive(Clone, Copy)]
 pub enum Next {
     Sight(u32, Deg, Deg, usize, usize),
     Unclear(usize),

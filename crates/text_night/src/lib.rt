@@ -1,6 +1,8 @@
 // The text of a night's sights, a line a sight: its time, the star's number, and what was read off at the star and at the mark, in decimal
 // degrees. The time is what a command takes for a day: a date with its time, a Julian day or J2000. Fields, comments and lines are
 // `text_fields`'s. Promised: exactly the sights that stand there, each with its line, one after the other; or the line that is none.
+#![tactic(auto)]
+
 ghost use Rattle.std.specs.Prelude.{◌≡◌, drop};
 ghost use Rattle.text_whole.specs.rules.Unsigned.{shown_unsigned};
 ghost use Rattle.text_date.specs.rules.Moment.{shown_moment};
@@ -20,7 +22,7 @@ use text_fields::{Said, Stop};
 use text_whole::Unsigned;
 
 // What a line says: a day, a star's number, the reading of the star and that of the mark; nothing; or what cannot be read.
-#[derive(Drop)]
+#[derive(Clone, Copy)]
 pub enum Line {
     Sight(f64, u32, Deg, Deg),
     Bare,
@@ -29,7 +31,7 @@ pub enum Line {
 
 // The next sight of a text, with how many lines were read for it, its own the last, and the offset after them; the same number for a line
 // that cannot be read; or that there is none.
-#[derive(Drop)]
+#[derive(Clone, Copy)]
 pub enum Next {
     Sight(f64, u32, Deg, Deg, usize, usize),
     Unclear(usize),

@@ -1,4 +1,6 @@
 // Numbers as text, written into a lent slice, and the line of a refusal. Promised: every byte of it, as far as there is room.
+#![tactic(auto)]
+
 ghost use Rattle.lent.specs.rules.Writing.{Wrote};
 ghost use Rattle.text_number.specs.rules.Number.{decimal_text, signed_text, integer_text, hex16};
 ghost use Rattle.text_number.specs.rules.Refused.{refused_text};

@@ -1,4 +1,6 @@
 // The line of a refusal in words, for people. Promised: every byte of it.
+#![tactic(auto)]
+
 ghost use Rattle.lent.specs.rules.Writing.{Wrote};
 ghost use Rattle.text_refusal.specs.rules.Refusal.{call_words, star_words, observer_words, number_words, refusal_text, plan_refusal_text};
 

@@ -1,5 +1,7 @@
 // What `residuals` prints: the six figures of each coordinate in a row, for programs; and a sheet for people, in milliarcseconds. Promised:
 // every byte of both, each figure rounded once.
+#![tactic(auto)]
+
 ghost use Rattle.std.specs.Prelude.{◌≡◌, [], ◌∷◌, ◌++◌, nat_abs};
 ghost use Rattle.lent.specs.rules.Writing.{Wrote};
 ghost use Rattle.signed.specs.rules.Signed.{negative, reach};
@@ -222,7 +224,7 @@ fn put_coordinate(out: &mut [u8], at: usize, sheet: Sheet, line: u64, star: u64)
 }
 
 // Where the largest of a coordinate stands: its line, and its star.
-#[derive(Drop)]
+#[derive(Clone, Copy)]
 pub struct Place {
     pub line: u64,
     pub star: u64,

@@ -1,5 +1,7 @@
 // A star's row of the tables that `reduce --table` and `plan --table` print: its number, then its right ascension in hours and its
 // declination in degrees, or its rise, culmination and set, or its refusal in words. Promised: every byte of it, each angle rounded once.
+#![tactic(auto)]
+
 ghost use Rattle.std.specs.Prelude.{◌-◌, ◌≡◌};
 ghost use Rattle.lent.specs.rules.Writing.{Wrote};
 ghost use Rattle.text_row.specs.rules.Place.{milliseconds, milliseconds_of, hours_text, hundredths, sign_of, arc_text, degrees_text};

@@ -1,5 +1,7 @@
 // The sheet that `starlist` prints (section 7) of the stars that a list keeps, and the same with every star's yearly changes. Promised:
 // every byte of it for every list, in the room that it names.
+#![tactic(auto)]
+
 ghost use Rattle.std.specs.Prelude.{◌≡◌, [], ◌∷◌, ◌≤◌, length};
 ghost use Rattle.lent.specs.rules.Writing.{Wrote};
 ghost use Rattle.list.specs.rules.Stars.{stars, kept};
@@ -9,7 +11,7 @@ ghost use Rattle.text_sheet.specs.rules.Render.{shown_sheet, bytes_of, render_ru
 use list::Star;
 
 // How many bytes were written, or a refusal.
-#[derive(Drop)]
+#[derive(Clone, Copy)]
 pub enum Sheet {
     Bytes(usize),
     Refused(u8),
@@ -96,7 +98,7 @@ fn one_good(star: Star) -> usize
 }
 
 // How many stars are kept, and how many of them are in range.
-#[derive(Drop)]
+#[derive(Clone, Copy)]
 struct Counted {
     all: usize,
     good: usize,

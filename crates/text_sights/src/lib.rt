@@ -1,5 +1,7 @@
 // The text of a night's sights, which are lent by their lines, stars, statuses, computed and measured angles: each sight, who is left out,
 // and the sheets for people with who is in neither. Promised: every byte, as far as there is room.
+#![tactic(auto)]
+
 ghost use Rattle.std.specs.Prelude.{◌≡◌, get_or};
 ghost use Rattle.lent.specs.rules.Writing.{Wrote};
 ghost use Rattle.lent.specs.rules.Texts.{texts};

@@ -1,5 +1,7 @@
 // A star's line of the text that `plan` prints: its number, then its rise, culmination and set in hours, minutes and seconds, and a second
 // culmination on the day, or why there are none. Promised: every byte of it, each time the nearest second.
+#![tactic(auto)]
+
 ghost use Rattle.std.specs.Prelude.{◌≡◌};
 ghost use Rattle.lent.specs.rules.Writing.{Wrote};
 ghost use Rattle.quantity.specs.rules.Answer.{shown_three};

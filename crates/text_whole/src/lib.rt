@@ -1,11 +1,13 @@
 // Whole numbers of 32 bits in decimal: digits, with a sign in front where a signed one is asked for. Promised: the number that is written,
 // or that it is none: no digit, another byte, or a number that has no 32 bits.
+#![tactic(auto)]
+
 ghost use Rattle.std.specs.Prelude.{◌≡◌};
 ghost use Rattle.text_whole.specs.rules.Unsigned.{unclear, start, with_digit, with_byte, scanned, unsigned_from, shown_unsigned, unsigned_rule};
 ghost use Rattle.text_whole.specs.rules.Signed.{signed_in, with_sign, shown_signed, signed_rule};
 
 // What was read so far: the digits as a whole number, whether there was one, and whether all was clear.
-#[derive(Drop)]
+#[derive(Clone, Copy)]
 pub struct Scan {
     pub whole: u32,
     pub some: bool,
@@ -13,14 +15,14 @@ pub struct Scan {
 }
 
 // A number without a sign, or that the text is none.
-#[derive(Drop)]
+#[derive(Clone, Copy)]
 pub enum Unsigned {
     Is(u32),
     Unclear,
 }
 
 // A number with a sign, or that the text is none.
-#[derive(Drop)]
+#[derive(Clone, Copy)]
 pub enum Signed {
     Is(i32),
     Unclear,

@@ -1,4 +1,6 @@
 // Whether a text is a word. Promised: exactly that.
+#![tactic(auto)]
+
 ghost use Rattle.std.specs.Prelude.{◌≡◌};
 ghost use Rattle.text_word.specs.rules.Word.{is_word};
 

@@ -1,6 +1,8 @@
 // Rise, culmination and set (document 02, request (v); Meeus, chapter 15, before interpolation), and an observer's plan by the clock. Angles
 // are in radians, a longitude is positive west of Greenwich, and a time is a fraction of the sidereal day since 0h, in a plan one of the
 // clock's day. Promised: bit for bit the request's formulas; 15 exactly where the star never rises, 16 exactly where it never sets.
+#![tactic(auto)]
+
 ghost use Rattle.std.specs.Prelude.{◌≡◌};
 ghost use Rattle.quantity.specs.rules.Answer.{shown_radians, shown_three};
 ghost use Rattle.transit.specs.rules.Arc.{arc_cosine, arc_in};
@@ -166,7 +168,7 @@ pub fn again(a: Three) -> f64
 // ---- an observer's plan
 
 // An observer and his night: the sidereal time at Greenwich at 0h, his site, and the standard altitude.
-#[derive(Drop)]
+#[derive(Clone, Copy)]
 pub struct Observer {
     pub sidereal: Rad,
     pub site: GeographPoint,

@@ -1,5 +1,7 @@
 // Radians as degrees, the nearest whole number and its sign, and milliarcseconds each way. Promised: the written operations on every double; below
 // 2^53 the whole number is the nearest one, halves away from zero.
+#![tactic(auto)]
+
 ghost use Rattle.std.specs.Prelude.{◌≡◌, pos};
 ghost use Rattle.units.specs.rules.Degrees.{to_degrees, milliarcseconds, degrees_of};
 ghost use Rattle.units.specs.rules.Nearest.{nearest_whole, has_minus};

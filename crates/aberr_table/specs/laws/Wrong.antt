@@ -1,6 +1,5 @@
 -- Wrong variants are excluded: each differs from the rule for the arguments and the sums so far that are stated.
-use Rattle.std.specs.Prelude.{ℕ, refl, Float}
-use std.Logic.{◌≢◌}
+use Rattle.std.specs.Prelude.{ℕ, refl, Float, ◌≢◌}
 use Rattle.std.specs.Float.Ieee.{neg}
 use Rattle.double.specs.rules.Operations.{bits, zero, half, one}
 use Rattle.double.specs.notions.Greatest.{greatest}

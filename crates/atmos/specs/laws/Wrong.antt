@@ -1,7 +1,6 @@
 -- Wrong variants are excluded: each differs from the rule at the input stated. A rule varies: a library that refuses everything, or
 -- answers a constant, does not meet it.
-use Rattle.std.specs.Prelude.{refl}
-use std.Logic.{◌≢◌}
+use Rattle.std.specs.Prelude.{refl, ◌≢◌}
 use Rattle.double.specs.notions.Code.{of_number}
 use Rattle.double.specs.laws.Apart.{apart}
 use Rattle.quantity.specs.notions.Code.{of_deg, of_answer}

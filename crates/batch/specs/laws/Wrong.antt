@@ -1,8 +1,7 @@
 -- Wrong variants are excluded: each differs from the rule at the input stated. A rule varies: a library that refuses everything, or
 -- answers a constant, does not meet it.
-use Rattle.std.specs.Prelude.{◌≡◌, refl, [], ◌∷◌, pos, negsuc, Float}
+use Rattle.std.specs.Prelude.{◌≡◌, refl, [], ◌∷◌, pos, negsuc, Float, ◌≢◌}
 use Rattle.std.proofs.Common.{sym, ◌∙◌}
-use std.Logic.{◌≢◌}
 use Rattle.double.specs.rules.Operations.{zero, one}
 use Rattle.double.specs.laws.Apart.{apart}
 use Rattle.quantity.specs.rules.Answer.{refused, first_place}

@@ -1,7 +1,6 @@
 -- Wrong results are excluded: what a C caller would see of each is not what is promised, at the values stated.
-use Rattle.std.specs.Prelude.{ℕ, refl, false, List, [], ◌∷◌, ℤ, pos, negsuc, nat_abs, get_or}
+use Rattle.std.specs.Prelude.{ℕ, refl, false, List, [], ◌∷◌, ℤ, pos, negsuc, nat_abs, get_or, ◌≢◌}
 use Rattle.std.proofs.Common.{ap, ◌∙◌}
-use std.Logic.{◌≢◌}
 use Rattle.std.specs.Float.{inf}
 use Rattle.double.specs.notions.Code.{of_number}
 use Rattle.double.specs.laws.Apart.{apart}

@@ -11,6 +11,7 @@ use Rattle.calendar.specs.laws.Every.{every_at}
 
 pub length_by_lem : (l : Bool) (m : ℕ) → 1 ≤ m → m ≤ 12 → month_length l m ≡ length_by l m
 unfolding month_length
+length_by_lem l zero f t = elim f [ ]
 length_by_lem l (suc m) f t = eqb→eq _ _ (at l)
   where
     at : (l : Bool) → T (month_length l (suc m) == length_by l (suc m))
@@ -19,6 +20,7 @@ length_by_lem l (suc m) f t = eqb→eq _ _ (at l)
 
 pub before_by_lem : (l : Bool) (m : ℕ) → 1 ≤ m → m ≤ 12 → days_before l m ≡ before_by l m
 unfolding days_before total month_length
+before_by_lem l zero f t = elim f [ ]
 before_by_lem l (suc m) f t = eqb→eq _ _ (at l)
   where
     at : (l : Bool) → T (days_before l (suc m) == before_by l (suc m))

@@ -1,6 +1,5 @@
 -- Wrong variants are excluded: each differs from the rule at the date or time stated.
-use Rattle.std.specs.Prelude.{true, false, pos, refl}
-use std.Logic.{◌≢◌}
+use Rattle.std.specs.Prelude.{true, false, pos, refl, ◌≢◌}
 use Rattle.double.specs.notions.Code.{of_float, of_number}
 use Rattle.double.specs.laws.Apart.{apart}
 use Rattle.calendar.specs.rules.Date.{date, days_before}

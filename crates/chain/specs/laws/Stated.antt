@@ -1,8 +1,7 @@
 -- The chain at stated stars, from 2415020.0 to 2451545.0: it answers, and varies, and by the mean obliquity it answers otherwise.
 -- Nutation and the Earth's velocity on that day are worked out once, row by row.
-use Rattle.std.specs.Prelude.{◌≡◌, refl, Float}
+use Rattle.std.specs.Prelude.{◌≡◌, refl, Float, ◌≢◌}
 use Rattle.std.proofs.Common.{sym, subst, ◌∙◌}
-use std.Logic.{◌≢◌}
 use Rattle.double.specs.laws.Apart.{apart}
 use Rattle.quantity.specs.declared.Rad.{Rad}
 use Rattle.quantity.specs.rules.Angle.{rad}

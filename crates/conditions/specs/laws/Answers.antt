@@ -31,34 +31,34 @@ use Rattle.atmos.specs.laws.Arcminutes.{shown_arcminutes_loses_nothing}
 pub one_answer : {a : Answer Float} (r s : One) → shown r ≡ a → shown s ≡ a → r ≡ s
 one_answer = unique shown shown_loses_nothing
 
-pub one-bits : {a : Answer ℕ} (r s : Bits) → shown_bits r ≡ a → shown_bits s ≡ a → r ≡ s
-one-bits = unique shown_bits shown_bits_loses_nothing
+pub one_bits : {a : Answer ℕ} (r s : Bits) → shown_bits r ≡ a → shown_bits s ≡ a → r ≡ s
+one_bits = unique shown_bits shown_bits_loses_nothing
 
-pub one-pair : {a : Answer Pair} (r s : Two) → shown_two r ≡ a → shown_two s ≡ a → r ≡ s
-one-pair = unique shown_two shown_two_loses_nothing
+pub one_pair : {a : Answer Pair} (r s : Two) → shown_two r ≡ a → shown_two s ≡ a → r ≡ s
+one_pair = unique shown_two shown_two_loses_nothing
 
-pub one-triple : {a : Answer Triple} (r s : Three) → shown_three r ≡ a → shown_three s ≡ a → r ≡ s
-one-triple = unique shown_three shown_three_loses_nothing
+pub one_triple : {a : Answer Triple} (r s : Three) → shown_three r ≡ a → shown_three s ≡ a → r ≡ s
+one_triple = unique shown_three shown_three_loses_nothing
 
-pub one-degrees : {a : Answer Deg} (r s : Degrees) → shown_degrees r ≡ a → shown_degrees s ≡ a → r ≡ s
-one-degrees = unique shown_degrees shown_degrees_loses_nothing
+pub one_degrees : {a : Answer Deg} (r s : Degrees) → shown_degrees r ≡ a → shown_degrees s ≡ a → r ≡ s
+one_degrees = unique shown_degrees shown_degrees_loses_nothing
 
-pub one-radians : {a : Answer Rad} (r s : Radians) → shown_radians r ≡ a → shown_radians s ≡ a → r ≡ s
-one-radians = unique shown_radians shown_radians_loses_nothing
+pub one_radians : {a : Answer Rad} (r s : Radians) → shown_radians r ≡ a → shown_radians s ≡ a → r ≡ s
+one_radians = unique shown_radians shown_radians_loses_nothing
 
-pub one-point : {a : Answer EqPoint} (r s : Point) → shown_point r ≡ a → shown_point s ≡ a → r ≡ s
-one-point = unique shown_point shown_point_loses_nothing
+pub one_point_lem : {a : Answer EqPoint} (r s : Point) → shown_point r ≡ a → shown_point s ≡ a → r ≡ s
+one_point_lem = unique shown_point shown_point_loses_nothing
 
-pub one-ecliptic : {a : Answer EclPoint} (r s : Ecliptic) → shown_ecliptic r ≡ a → shown_ecliptic s ≡ a → r ≡ s
-one-ecliptic = unique shown_ecliptic shown_ecliptic_loses_nothing
+pub one_ecliptic : {a : Answer EclPoint} (r s : Ecliptic) → shown_ecliptic r ≡ a → shown_ecliptic s ≡ a → r ≡ s
+one_ecliptic = unique shown_ecliptic shown_ecliptic_loses_nothing
 
-pub one-arcminutes : {a : Answer Arcmin} (r s : Arcminutes) → shown_arcminutes r ≡ a → shown_arcminutes s ≡ a → r ≡ s
-one-arcminutes = unique shown_arcminutes shown_arcminutes_loses_nothing
+pub one_arcminutes : {a : Answer Arcmin} (r s : Arcminutes) → shown_arcminutes r ≡ a → shown_arcminutes s ≡ a → r ≡ s
+one_arcminutes = unique shown_arcminutes shown_arcminutes_loses_nothing
 
 -- ---- an answer in code is its rule's
 
-pub answered-by : {a : Answer Rad} {r : Radians} {v : Rad} → shown_radians r ≡ a → r ≡ Are v → a ≡ answered v
-answered-by p e = sym p ∙ ap shown_radians e
+pub answered_by : {a : Answer Rad} {r : Radians} {v : Rad} → shown_radians r ≡ a → r ≡ Are v → a ≡ answered v
+answered_by p e = sym p ∙ ap shown_radians e
 
 -- ---- two calls whose rules answer a and b, where b is a with its angle changed by f
 
@@ -68,8 +68,8 @@ module _ (f : Rad → Rad) {a b : Answer Rad} (law : b ≡ with f a) where
   mirrored r s p q = carried shown_radians (with f) r s p q law
 
   -- refused calls refuse alike
-  pub refused-there : (n : ℕ) → a ≡ refused n → b ≡ refused n
-  refused-there n e = law ∙ ap (with f) e
+  pub refused_there : (n : ℕ) → a ≡ refused n → b ≡ refused n
+  refused_there n e = law ∙ ap (with f) e
 
   pub refused_here : (n : ℕ) → b ≡ refused n → a ≡ refused n
   refused_here n e = by_case a (sym law ∙ e)
@@ -80,4 +80,4 @@ module _ (f : Rad → Rad) {a b : Answer Rad} (law : b ≡ with f a) where
 
 -- two calls whose rules answer alike answer alike
 pub unchanged : {a b : Answer Rad} → b ≡ a → (r s : Radians) → shown_radians r ≡ a → shown_radians s ≡ b → s ≡ r
-unchanged law r s p q = one-radians s r (q ∙ law) p
+unchanged law r s p q = one_radians s r (q ∙ law) p

@@ -18,7 +18,7 @@ use Rattle.coords_ecl.specs.rules.Point.{shown_ecliptic}
 use Rattle.coords_ecl.specs.rules.Ecliptic.{longitude_sum, latitude_sum, ecl_frm_eq_rule}
 use Rattle.coords_ecl.specs.laws.Point.{shown_ecliptic_loses_nothing}
 use Rattle.conditions.specs.notions.Mirror.{opposite_point}
-use Rattle.conditions.specs.laws.Answers.{answered-by, mirrored, unchanged}
+use Rattle.conditions.specs.laws.Answers.{answered_by, mirrored, unchanged}
 use Rattle.conditions.specs.laws.Azimuth.{azimuth_sign, azimuth_at_most_quarter_turn, azimuth_at_least_quarter_turn}
 use Rattle.conditions.specs.laws.HourAngle.{azimuth_hour, altitude_hour}
 use Rattle.conditions.specs.laws.Declination.{altitude_declination, azimuth_refused_there, azimuth_refused_here, azimuth_sign_stays}
@@ -29,13 +29,13 @@ use Rattle.conditions.specs.laws.RightAscension.{ecliptic_mirror, ecliptic_refus
 
 module _ (h d p : Rad) (r : Radians) (v : Rad) (meets : shown_radians r ≡ az_frm_eq_rule h d p) (is : r ≡ Are v) where
   pub az_frm_eq_sign : bears_minus v.0 ≡ bears_minus (sine_of h)
-  az_frm_eq_sign = azimuth_sign h d p v (answered-by meets is)
+  az_frm_eq_sign = azimuth_sign h d p v (answered_by meets is)
 
   pub az_frm_eq_south : bears_minus (southward h d p) ≡ false → size v.0 ≼ HALF
-  az_frm_eq_south = azimuth_at_most_quarter_turn h d p v (answered-by meets is)
+  az_frm_eq_south = azimuth_at_most_quarter_turn h d p v (answered_by meets is)
 
   pub az_frm_eq_north : bears_minus (southward h d p) ≡ true → HALF ≼ size v.0
-  az_frm_eq_north = azimuth_at_least_quarter_turn h d p v (answered-by meets is)
+  az_frm_eq_north = azimuth_at_least_quarter_turn h d p v (answered_by meets is)
 
 -- ---- r is the answer, and s the answer in the mirror
 
@@ -62,13 +62,13 @@ module _ (h d p : Rad) (r s : Radians) where
 
   module _ (not_zero : NonZero (southward h d p)) (v w : Rad) (meets : shown_radians r ≡ az_frm_eq_rule h d p) (is : r ≡ Are v) (meets' : shown_radians s ≡ az_frm_eq_rule h (opposite d) (opposite p)) (is' : s ≡ Are w) where
     pub az_frm_eq_declination_sign : bears_minus w.0 ≡ bears_minus v.0
-    az_frm_eq_declination_sign = azimuth_sign_stays h d p not_zero v w (answered-by meets is) (answered-by meets' is')
+    az_frm_eq_declination_sign = azimuth_sign_stays h d p not_zero v w (answered_by meets is) (answered_by meets' is')
 
     pub az_frm_eq_declination_there : bears_minus (southward h d p) ≡ false → size w.0 ≡ PI ⊖ size v.0
-    az_frm_eq_declination_there = azimuth_size_there h d p not_zero v w (answered-by meets is) (answered-by meets' is')
+    az_frm_eq_declination_there = azimuth_size_there h d p not_zero v w (answered_by meets is) (answered_by meets' is')
 
     pub az_frm_eq_declination_here : bears_minus (southward h d p) ≡ true → size v.0 ≡ PI ⊖ size w.0
-    az_frm_eq_declination_here = azimuth_size_here h d p not_zero v w (answered-by meets is) (answered-by meets' is')
+    az_frm_eq_declination_here = azimuth_size_here h d p not_zero v w (answered_by meets is) (answered_by meets' is')
 
 -- right ascension negated with declination
 module _ (a d e : Rad) (r s : Ecliptic) (meets : shown_ecliptic r ≡ ecl_frm_eq_rule a d e) (meets' : shown_ecliptic s ≡ ecl_frm_eq_rule (opposite a) (opposite d) e) where

@@ -15,7 +15,7 @@ use Rattle.elementary.specs.rules.Sine.{sine_of}
 use Rattle.elementary.specs.laws.Mirror.{sine_odd, cosine_even}
 use Rattle.transit.specs.rules.Arc.{arc_cosine}
 use Rattle.transit.specs.rules.RiseCulmSet.{rise_culm_set_in, observer_refusal, rise_culm_set_refusal, rise_culm_set_rule}
-use Rattle.conditions.specs.laws.Answers.{one-triple}
+use Rattle.conditions.specs.laws.Answers.{one_triple}
 
 -- a star and an observer on the other side of the equator
 abbrev across_star : EqPoint → EqPoint
@@ -39,4 +39,4 @@ module _ (p : EqPoint) (sidereal : Rad) (place : GeographPoint) (alt : Rad) wher
   -- of the function: r is the answer, and s the answer in the mirror
   pub rise_culm_set_declination : (r s : Three) → shown_three r ≡ rise_culm_set_rule p sidereal place alt
       → shown_three s ≡ rise_culm_set_rule (across_star p) sidereal (across_place place) alt → s ≡ r
-  rise_culm_set_declination r s meets meets' = one-triple s r (meets' ∙ transit_declination) meets
+  rise_culm_set_declination r s meets meets' = one_triple s r (meets' ∙ transit_declination) meets

@@ -1,6 +1,5 @@
 -- Wrong statements of the conditions are excluded: each fails at the input stated.
-use Rattle.std.specs.Prelude.{◌≡◌, refl, false, Float}
-use std.Logic.{◌≢◌}
+use Rattle.std.specs.Prelude.{◌≡◌, refl, false, Float, ◌≢◌}
 use Rattle.std.specs.Float.Ieee.{neg}
 use Rattle.double.specs.rules.Operations.{bits, zero, half, ◌⊖◌}
 use Rattle.double.specs.rules.Sign.{bears_minus, size}

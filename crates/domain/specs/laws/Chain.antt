@@ -1,11 +1,11 @@
 -- The chain on arguments that are not refused: the steps at the precessed point refuse nothing but its declination, by 4, so that the
 -- chain meets 14, 7 and 4 only, 14 exactly where precession does; and each answer is finite.
-use Rattle.std.specs.Prelude.{ℕ, refl, ◌↔◌, ◌⊎◌, Bool, true, false, cond, T, Float}
+use Rattle.std.specs.Prelude.{ℕ, refl, ◌↔◌, ◌⊎◌, Bool, true, false, cond, T, Float, ◌≢◌}
 use Rattle.std.proofs.Math.Path.{◌≡◌}
 use Rattle.std.proofs.Common.{sym, ap, ◌∙◌, subst}
-use Rattle.std.proofs.Math.Logic.{Iff·trans, inl, inr}
+use Rattle.std.proofs.Math.Logic.{inl, inr}
+use Rattle.std.proofs.Math.Logic.Iff
 use native.Mathlib.Omega.{arith}
-use std.Logic.{◌≢◌}
 use Rattle.std.specs.Float.Ieee.{neg, add, sub, mul, div, le, lt, of_bits, round}
 use Rattle.std.specs.Float.Ieee.Bits.{is_true}
 use Rattle.double.specs.rules.Sign.{size, is_finite}
@@ -216,7 +216,7 @@ module _ (edition : Edition) (asc dec : Rad) (day1 day2 : Float) where
       → chain_rule edition asc dec day1 day2 ≡ refused 14 ↔ T (no_direction asc dec (eq_precession_of edition day1 day2))
   unfolding chain_rule
   chain_fourteen none =
-      Iff·trans
+      Iff.trans
       (fourteen_then (precess_eq_coords_rule edition asc dec day1 day2) after
       (λ p i e. not_four ((after_outcome (second_day none) p (precess_eq_coords_answers edition asc dec day1 day2 p i)).refuses 14 e)))
       (precess_eq_coords_fourteen edition asc dec day1 day2 none)

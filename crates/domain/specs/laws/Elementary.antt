@@ -1,8 +1,7 @@
 -- No answer of sine, cosine, tangent, arctangent and arcsine, called alone, is a NaN or an infinity, and the arctangent of accepted
 -- numbers is refused by 14 only, exactly where both are zero: so is work that goes on from it.
-use Rattle.std.specs.Prelude.{ℕ, ◌≡◌, refl, Bool, true, false, cond, ◌↔◌, T, Float}
+use Rattle.std.specs.Prelude.{ℕ, ◌≡◌, refl, Bool, true, false, cond, ◌↔◌, T, Float, ◌≢◌}
 use Rattle.std.proofs.Common.{sym, subst, lit<}
-use std.Logic.{◌≢◌}
 use Rattle.std.specs.Float.Ieee.{of_bits}
 use Rattle.double.specs.rules.Sign.{is_finite}
 use Rattle.double.specs.rules.Order.{Finite}

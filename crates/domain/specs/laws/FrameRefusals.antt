@@ -1,9 +1,8 @@
 -- Which refusals the changes of frame meet in the work: those that end in an arctangent 14 only, exactly where both its arguments are
 -- zero, right ascension from ecliptic coordinates not even that, since a cosine is never zero; those that end in an arcsine never 14.
 -- Ecliptic coordinates from equatorial ones stand in EclFrmEq.
-use Rattle.std.specs.Prelude.{ℕ, ◌≡◌, ◌↔◌, T, Float}
+use Rattle.std.specs.Prelude.{ℕ, ◌≡◌, ◌↔◌, T, Float, ◌≢◌}
 use Rattle.std.proofs.Common.{subst, T_not}
-use std.Logic.{◌≢◌}
 use Rattle.std.specs.Float.Ieee.Fits.{and_r}
 use Rattle.double.specs.rules.Operations.{◌⊕◌, ◌⊖◌, ◌⊗◌}
 use Rattle.double.specs.rules.Order.{is_zero, NonZero}

@@ -26,6 +26,7 @@ use Rattle.domain_rotation.specs.notions.Entries.{Each, Components, Entries, UpT
 
 each_at : {A : Type 0} (P : A → Type 0) (other : A) (n : ℕ) (xs : List A) → Each P n xs → (i : ℕ) → i < n → P (get_or xs i other)
 each_at P other zero xs e i h = absurd (omega arith)
+each_at P other (suc n) [] e i h = elim e [ ]
 each_at P other (suc n) (x ∷ xs) e zero h = e.0
 each_at P other (suc n) (x ∷ xs) e (suc i) h = each_at P other n xs e.1 i (omega arith)
 

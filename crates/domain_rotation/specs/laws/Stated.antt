@@ -1,6 +1,5 @@
 -- The rotation at stated days and places: where nothing turns, where 14 is met, and where the mirror in right ascension does not hold.
-use Rattle.std.specs.Prelude.{◌≡◌, refl, [], ◌∷◌}
-use std.Logic.{◌≢◌}
+use Rattle.std.specs.Prelude.{◌≡◌, refl, [], ◌∷◌, ◌≢◌}
 use Rattle.double.specs.rules.Operations.{bits, zero, one}
 use Rattle.double.specs.laws.Apart.{apart}
 use Rattle.quantity.specs.rules.Angle.{rad}

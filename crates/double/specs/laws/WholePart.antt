@@ -1,8 +1,8 @@
 -- The whole part of a double and a whole number as a double: where each is exact, and that both keep the order.
-use Rattle.std.specs.Prelude.{◌≡◌, ℕ, suc, ◌+◌, ◌-◌, ◌*◌, ◌/◌, ◌%◌, ◌^◌, ◌<◌, ◌≤◌, min, true, false, from_bits, refl, Float}
+use Rattle.std.specs.Prelude.{◌≡◌, ℕ, suc, ◌+◌, ◌-◌, ◌*◌, ◌/◌, ◌%◌, ◌^◌, ◌<◌, ◌≤◌, min, true, false, refl, Float}
 use Rattle.std.proofs.Common.{sym, ap, ◌∙◌, zero-le, div-add-mod', mod-lt, arith, ltb→lt}
 use Rattle.std.specs.Float.{nan, inf, fin, binary64}
-use Rattle.std.specs.Float.Ieee.{up, down, of_int, to_unsigned}
+use Rattle.std.specs.Float.Ieee.{up, down, of_int, of_bits, to_unsigned}
 use Rattle.std.specs.Float.Ieee.Fits.{down_pos}
 use Rattle.std.specs.Float.Ieee.Nearest.{div_mono}
 use Rattle.std.specs.Float.Ieee.Order.{round_mono}
@@ -70,4 +70,4 @@ pub from_whole_between : (n m : ℕ) → n ≤ m → m ≤ 2 ^ 53 → Between ze
 from_whole_between n m h k =
     let M = (parts_of_value (from_whole m) m 1 (from_whole_exact m k)).finite in
     let N = (parts_of_value (from_whole n) n 1 (from_whole_exact n (omega arith))).finite in
-    between (unfold is_finite from_bits in tt) M (zero_le_plus (from_whole n) N (from_whole_plus n)) (from_whole_mono n m h)
+    between (unfold is_finite of_bits in tt) M (zero_le_plus (from_whole n) N (from_whole_plus n)) (from_whole_mono n m h)

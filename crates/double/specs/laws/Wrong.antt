@@ -1,6 +1,5 @@
 -- Wrong variants are excluded: each differs from the rule at the input stated.
-use Rattle.std.specs.Prelude.{◌^◌, true, false, cond, T, refl, Float}
-use std.Logic.{◌≢◌}
+use Rattle.std.specs.Prelude.{◌^◌, true, false, cond, T, refl, Float, ◌≢◌}
 use Rattle.std.specs.Float.{inf, binary64}
 use Rattle.std.specs.Float.Ieee.{fits}
 use Rattle.double.specs.rules.Operations.{bits, zero, one}

@@ -1,11 +1,10 @@
 -- The arcsine of a number of size 1 at most is answered: neither the root nor the arctangent is refused, and the answer bears the
 -- number's sign and is a quarter turn at most. So 7 is the only refusal of a finite number, and 14 is never met.
 use Rattle.std.proofs.Math.Path.{◌≡◌}
-use Rattle.std.specs.Prelude.{refl, ℕ, Bool, true, not, ◌&&◌, cond, T, Float}
+use Rattle.std.specs.Prelude.{refl, ℕ, Bool, true, not, ◌&&◌, cond, T, Float, ◌≢◌}
 use Rattle.std.proofs.Common.{ap, ◌∙◌, subst, T_not}
 use native.Mathlib.Omega.{arith}
 use Rattle.std.proofs.Math.Bool.{false}
-use std.Logic.{◌≢◌}
 use Rattle.std.specs.Float.{nan, inf, fin}
 use Rattle.std.specs.Float.Ieee.{binary64, neg, add, sub, mul, le, lt, fits, of_bits, round}
 use Rattle.std.specs.Float.Ieee.Bits.{is_true, is_false}

@@ -1,7 +1,6 @@
 -- A star's heading at stated stars, from 2415020.0 to 2451545.0, worked out over nutation and the Earth's velocity in numbers.
-use Rattle.std.specs.Prelude.{◌≡◌, refl, ℕ, pos}
+use Rattle.std.specs.Prelude.{◌≡◌, refl, ℕ, pos, ◌≢◌}
 use Rattle.std.proofs.Common.{sym, ap, ◌∙◌}
-use std.Logic.{◌≢◌}
 use Rattle.double.specs.rules.Operations.{bits}
 use Rattle.double.specs.laws.Apart.{apart}
 use Rattle.quantity.specs.declared.Rad.{Rad}

@@ -194,10 +194,10 @@ module _ (reference heading : Deg) (R : circle_refusal reference ≡ 0) (H : cir
   DiffersByATurn y =
       (2097152 * (h + 360 * unit + under y) ≤ 2097152 * (over y + r) + 2 * unit) × (2097152 * (over y + r) ≤ 2097152 * (h + 360 * unit + under y) + 2 * unit)
 
-  taken_back : (y : Float) → Counted y (over y) (under y) → Between operations.zero turn_in_degrees y → Differs y ⊎ DiffersByATurn y
+  taken_back_lem : (y : Float) → Counted y (over y) (under y) → Between operations.zero turn_in_degrees y → Differs y ⊎ DiffersByATurn y
       → (taken_back (deg y)).0 ≼ near_end → neg near_end ≼ (taken_back (deg y)).0 → Within 1000100 reference heading
   unfolding taken_back
-  taken_back y cy i o = by_flag (lt half_turn y)
+  taken_back_lem y cy i o = by_flag (lt half_turn y)
     where
       b : Float
       b = y ⊖ turn_in_degrees
@@ -274,6 +274,6 @@ module _ (reference heading : Deg) (R : circle_refusal reference ≡ 0) (H : cir
       by_count (inl k) =
           let e' = sym (folded d (sub-fits binary64 heading.0 reference.0) k d_finite) in
           let cy = counted y (limited_fits d (sub-fits binary64 heading.0 reference.0) e') iy.finite in
-          taken_back y cy iy (differs (lt d operations.zero) y e' iy.finite cy)
+          taken_back_lem y cy iy (differs (lt d operations.zero) y e' iy.finite cy)
           (subst (λ (z : Float). z ≼ near_end) is (to_east a i (few_of e)))
           (subst (λ (z : Float). neg near_end ≼ z) is (from_west a i (few_of e)))

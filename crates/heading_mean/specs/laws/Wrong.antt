@@ -1,7 +1,6 @@
 -- Wrong variants are excluded: each differs from the rule at the input stated. The rule varies: neither refusing everything nor a constant
 -- meets it.
-use Rattle.std.specs.Prelude.{ℕ, ◌≡◌, refl, [], ◌∷◌, negsuc}
-use std.Logic.{◌≢◌}
+use Rattle.std.specs.Prelude.{ℕ, ◌≡◌, refl, [], ◌∷◌, negsuc, ◌≢◌}
 use Rattle.double.specs.rules.Operations.{zero}
 use Rattle.double.specs.notions.Code.{of_number}
 use Rattle.double.specs.laws.Apart.{apart}

@@ -22,9 +22,9 @@ texts_records bytes (r ∷ rs) =
 
 -- what holds of each by its index, and what fails of one
 module _ (is : Star → Bool) where
-  pub all_are : (rs : List Star) → ((i : ℕ) → i < length rs → is (get_or rs i nought) ≡ true) → all_are is rs ≡ true
-  all_are [] h = refl
-  all_are (r ∷ rs) h = rw (h 0 (omega arith)) (all_are rs (λ (i : ℕ) b. h (suc i) (omega arith)))
+  pub all_are_lem : (rs : List Star) → ((i : ℕ) → i < length rs → is (get_or rs i nought) ≡ true) → all_are is rs ≡ true
+  all_are_lem [] h = refl
+  all_are_lem (r ∷ rs) h = rw (h 0 (omega arith)) (all_are_lem rs (λ (i : ℕ) b. h (suc i) (omega arith)))
 
   pub one_is_not : (rs : List Star) (i : ℕ) → i < length rs → is (get_or rs i nought) ≡ false → all_are is rs ≡ false
   one_is_not [] i h e = absurd (not-suc-le-zero h)

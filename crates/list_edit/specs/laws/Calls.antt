@@ -18,7 +18,7 @@ use Rattle.list_edit.specs.notions.Edit.{Absent, Worked, Struck, FirstBecame}
 use Rattle.list_edit.specs.notions.Ledger.{one, how_many, has_number}
 use Rattle.list_edit.specs.laws.Bytes.{bytes_set, nought_bytes}
 use Rattle.list_edit.specs.laws.First.{found, none_before, past_absent, absent_past}
-use Rattle.list_edit.specs.laws.Edit.{on_list, worked, own_refusal, struck, placed, full, add_full, add_placed, done_answered}
+use Rattle.list_edit.specs.laws.Edit.{on_list_lem, worked, own_refusal, struck, placed, full, add_full, add_placed, done_answered}
 use Rattle.list_edit.specs.laws.Gather.{gathered_keeps, gathered_length, gathered_bytes, gathered_twice}
 use Rattle.list_edit.specs.laws.Fitting.{list_fits, nought_fits, set_fits, gathered_fits, list_by_length}
 use Rattle.list_edit.specs.laws.HowMany.{how_many_set, none_past}
@@ -71,7 +71,7 @@ module _ (s : List ℕ) (r : Star) where
 
     pub full_is_nineteen : Absent 0 (stars s) → add_rule s r ≡ refused 19
     full_is_nineteen h =
-        on_list (add_in r) s t ∙ ap (with list_bytes) (add_full (stars s) r z range past (absent_past 0 (stars s) h))
+        on_list_lem (add_in r) s t ∙ ap (with list_bytes) (add_full (stars s) r z range past (absent_past 0 (stars s) h))
 
     pub empty_is_taken : (i : ℕ) → i < length (stars s) → (nth s i).number ≡ 0 → is_answered (add_rule s r) ≡ true
     empty_is_taken i h e = go (ltb (index_of 0 (stars s)) (length (stars s))) refl
@@ -80,7 +80,7 @@ module _ (s : List ℕ) (r : Star) where
         go true b =
             let there = ltb-true (index_of 0 (stars s)) (length (stars s)) b in
             ap is_answered
-            (on_list (add_in r) s t ∙ ap (with list_bytes) (add_placed (stars s) r z range past (index_of 0 (stars s)) refl there))
+            (on_list_lem (add_in r) s t ∙ ap (with list_bytes) (add_placed (stars s) r z range past (index_of 0 (stars s)) refl there))
         go false b = absurd (past_absent 0 (stars s) (ltb-false (index_of 0 (stars s)) (length (stars s)) b) i h e)
 
 -- ---- a star that was struck can be added again, where its number stood once
@@ -160,6 +160,6 @@ module _ (s : List ℕ) (y : Bytes s) (new : List ℕ) (p : Edit (gather_rule s)
 
   pub gather_twice_is_once : gather_rule new ≡ answered new
   gather_twice_is_once =
-      on_list gather_in new (list_by_length new s gather_as_long ∙ v.list)
+      on_list_lem gather_in new (list_by_length new s gather_as_long ∙ v.list)
       ∙ ap (λ (rs : List Star). answered (list_bytes rs)) (ap gathered stars_gathered ∙ gathered_twice (stars s))
       ∙ ap answered (sym gathered_is)

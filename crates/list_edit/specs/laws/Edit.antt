@@ -48,9 +48,9 @@ module _ (edit : List Star → Answer (List Star)) (s : List ℕ) where
       ∙ sym
       (bytes_set (stars s) i r (omega (arith, length_stars s)) ∙ ap (λ (l : List ℕ). written l (i * width) (star_bytes r)) b.bytes))
 
-  pub on_list : is_list s ≡ true → on_list edit s ≡ with list_bytes (edit (stars s))
+  pub on_list_lem : is_list s ≡ true → on_list edit s ≡ with list_bytes (edit (stars s))
   unfolding on_list
-  on_list a = rw a
+  on_list_lem a = rw a
 
   -- what is answered was a list, and so were its stars
   pub worked : (t : List ℕ) → on_list edit s ≡ answered t → Worked edit s t
@@ -92,9 +92,9 @@ module _ (rs : List Star) where
   strike_present k i z e h = rw (← e, ne_eqb k 0 z, lt-ltb i (length rs) h)
 
   module _ (r : Star) where
-    pub add-zero : r.number ≡ 0 → add_in r rs ≡ refused 9
+    pub add_zero : r.number ≡ 0 → add_in r rs ≡ refused 9
     unfolding add_in
-    add-zero h = rw (eq-eqb r.number 0 h)
+    add_zero h = rw (eq-eqb r.number 0 h)
 
     pub add_out_of_range : in_range r ≡ false → add_in r rs ≡ refused 9
     unfolding add_in

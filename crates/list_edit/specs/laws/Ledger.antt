@@ -14,7 +14,7 @@ use Rattle.list_edit.specs.rules.Edit.{on_list}
 use Rattle.list_edit.specs.notions.Ledger.{Call, adds, strikes, gathers, on_bytes, on_stars, booked, Ledger, entered, after_calls}
 use Rattle.list_edit.specs.notions.Ledger.{ledger_of, star_ledger_of, FittingCall, AllFittingCalls, how_many, has_number, Follows, Addable, adds_of}
 use Rattle.list_edit.specs.laws.Bytes.{empty_bytes}
-use Rattle.list_edit.specs.laws.Edit.{on_list, struck, placed}
+use Rattle.list_edit.specs.laws.Edit.{on_list_lem, struck, placed}
 use Rattle.list_edit.specs.laws.Gather.{gathered_length}
 use Rattle.list_edit.specs.laws.Fitting.{nought_fits, set_fits, empty_fits, gathered_fits, list_by_length}
 use Rattle.list_edit.specs.laws.Balance.{kept_is_book, numbers_once}
@@ -49,7 +49,7 @@ call_follows g h c fc w =
     here : on_bytes c g.list ≡ with list_bytes (on_stars c h.list)
     here =
         on_stars_lem c g.list
-        ∙ on_list (on_stars c) g.list w.is
+        ∙ on_list_lem (on_stars c) g.list w.is
         ∙ ap (λ (rs : List Star). with list_bytes (on_stars c rs)) (ap stars w.bytes ∙ stars_back h.list w.fits)
 
     go : (a : Answer (List Star)) → on_stars c h.list ≡ a → Follows (entered (with list_bytes a) c g) (entered a c h)

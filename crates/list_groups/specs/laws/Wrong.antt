@@ -1,8 +1,7 @@
 -- Wrong variants are excluded: each differs from the rule at the input stated. A rule varies: a library that refuses everything, or
 -- answers a constant, does not meet it.
-use Rattle.std.specs.Prelude.{ℕ, ◌+◌, ◌*◌, [], ◌∷◌, pos, negsuc}
+use Rattle.std.specs.Prelude.{ℕ, ◌+◌, ◌*◌, [], ◌∷◌, pos, negsuc, ◌≢◌}
 use Rattle.std.proofs.Math.Path.{refl}
-use std.Logic.{◌≢◌}
 use Rattle.std.proofs.Math.IntN.{nat_abs}
 use Rattle.double.specs.notions.Code.{of_number}
 use Rattle.double.specs.laws.Apart.{apart}

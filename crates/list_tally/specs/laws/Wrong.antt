@@ -1,6 +1,5 @@
 -- Wrong variants are excluded: each differs from the rule at the input stated.
-use Rattle.std.specs.Prelude.{ℕ, ◌+◌, refl, get_or}
-use std.Logic.{◌≢◌}
+use Rattle.std.specs.Prelude.{ℕ, ◌+◌, refl, get_or, ◌≢◌}
 use Rattle.double.specs.laws.Apart.{apart}
 use Rattle.list_tally.specs.declared.Tally.{Tally}
 use Rattle.list_tally.specs.declared.Raised.{Raised}

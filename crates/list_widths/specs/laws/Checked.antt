@@ -2,7 +2,7 @@
 use Rattle.std.specs.Prelude.{ℕ, suc, ◌+◌, ◌≤◌, ◌<◌, ◌≡◌, Bool, true, false, List, length, get_or}
 use Rattle.std.proofs.Common.{sym, ap, ◌∙◌, subst, inl, inr, arith, eq-or-lt_of_le}
 use Rattle.list.specs.rules.Stars.{nought, all_are}
-use Rattle.list.specs.laws.Records.{all_are, one_is_not}
+use Rattle.list.specs.laws.Records.{all_are_lem, one_is_not}
 use Rattle.list.specs.declared.Star.{Star}
 use Rattle.list_widths.specs.notions.Checked.{Checked}
 
@@ -25,4 +25,4 @@ module _ {is : Star → Bool} {rs : List Star} {n : ℕ} where
     stops h e = sym (one_is_not is rs i (omega (arith, c.many)) e)
 
     pub ends : n ≤ i → true ≡ all_are is rs
-    ends h = sym (all_are is rs (λ (j : ℕ) k. c.are j (omega (arith, c.many, c.passes))))
+    ends h = sym (all_are_lem is rs (λ (j : ℕ) k. c.are j (omega (arith, c.many, c.passes))))

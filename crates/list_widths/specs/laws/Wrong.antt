@@ -1,7 +1,6 @@
 -- Wrong variants are excluded: each differs from the rule at the input stated. The rules vary: a library that refuses everything, or
 -- answers a constant, does not meet them.
-use Rattle.std.specs.Prelude.{ℕ, suc, ◌*◌, ◌≡◌, refl, List, [], ◌∷◌, ◌++◌, length}
-use std.Logic.{◌≢◌}
+use Rattle.std.specs.Prelude.{ℕ, suc, ◌*◌, ◌≡◌, refl, List, [], ◌∷◌, ◌++◌, length, ◌≢◌}
 use Rattle.double.specs.notions.Code.{of_flag}
 use Rattle.double.specs.laws.Apart.{apart}
 use Rattle.quantity.specs.notions.Code.{of_answer}

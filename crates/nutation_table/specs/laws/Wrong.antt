@@ -1,6 +1,5 @@
 -- Wrong variants are excluded: each differs from the rule on the day stated.
-use Rattle.std.specs.Prelude.{ℕ, refl, Float}
-use std.Logic.{◌≢◌}
+use Rattle.std.specs.Prelude.{ℕ, refl, Float, ◌≢◌}
 use Rattle.double.specs.rules.Operations.{bits}
 use Rattle.double.specs.laws.Apart.{apart}
 use Rattle.quantity.specs.notions.Code.{of_rad}

@@ -1,7 +1,6 @@
 -- Wrong variants are excluded: each differs from the rule at the input stated. A rule varies: a library that refuses everything, or
 -- answers a constant, does not meet it.
-use Rattle.std.specs.Prelude.{refl}
-use std.Logic.{◌≢◌}
+use Rattle.std.specs.Prelude.{refl, ◌≢◌}
 use Rattle.std.specs.Float.Ieee.{neg}
 use Rattle.double.specs.rules.Operations.{zero, half, one, two}
 use Rattle.double.specs.laws.Apart.{apart}

@@ -1,7 +1,6 @@
 -- Wrong variants are excluded: each differs from the rule at the input stated. A rule varies: a library that refuses everything, or
 -- answers a constant, does not meet it. What the editions share is worked out in the crate's.
-use Rattle.std.specs.Prelude.{refl, Float}
-use std.Logic.{◌≢◌}
+use Rattle.std.specs.Prelude.{refl, Float, ◌≢◌}
 use Rattle.double.specs.rules.Operations.{bits, zero}
 use Rattle.double.specs.laws.Apart.{apart}
 use Rattle.quantity.specs.declared.Rad.{Rad}

@@ -25,7 +25,7 @@ leaned_of i n precession =
       b = neg precession.sine ⊗ folded_cosine i ⊕ precession.cosine ⊗ folded_sine i ⊗ folded_cosine n;
     }
 
--- nu where the old inclination is zero, else the arcsine of the root of A-as-A + B-as-B
+-- nu where the old inclination is zero, else the arcsine of the root of A·A + B·B
 unfoldable pub new_inclination : Rad → Leaned → EclPrecession → Answer Rad
 new_inclination inc l precession =
     cond (eq inc.0 zero) (answered precession.nu) (then (root_rule (l.a ⊗ l.a ⊕ l.b ⊗ l.b)) arcsine_in)

@@ -1,8 +1,7 @@
 -- A library that refuses everything and one that answers a constant are excluded (section 9): `found` and `other` are what any function
 -- gives that meets its promise, at the two inputs where the rule answers a and b.
-use Rattle.std.specs.Prelude.{◌≡◌, true}
+use Rattle.std.specs.Prelude.{◌≡◌, true, ◌≢◌}
 use Rattle.std.proofs.Common.{sym, ap, ◌∙◌}
-use std.Logic.{◌≢◌}
 use Rattle.quantity.specs.rules.Answer.{Answer}
 use Rattle.quantity.specs.notions.Varies.{is_answered, Varies}
 

@@ -1,6 +1,5 @@
 -- A rule that answers at two inputs, and not the same.
-use Rattle.std.specs.Prelude.{◌≡◌, Bool, true, false}
-use std.Logic.{◌≢◌}
+use Rattle.std.specs.Prelude.{◌≡◌, Bool, true, false, ◌≢◌}
 use Rattle.quantity.specs.rules.Answer.{Answer, answered, refused}
 
 abbrev pub is_answered : {A : Type 0} → Answer A → Bool

@@ -1,6 +1,5 @@
 -- Wrong variants are excluded: each differs from the rule at the input stated.
-use Rattle.std.specs.Prelude.{refl, false, Float}
-use std.Logic.{◌≢◌}
+use Rattle.std.specs.Prelude.{refl, false, Float, ◌≢◌}
 use Rattle.std.specs.Float.{inf}
 use Rattle.std.specs.Float.Ieee.{neg}
 use Rattle.double.specs.rules.Operations.{bits, one}

@@ -31,8 +31,8 @@ use Rattle.text_time.specs.laws.Room as time
 use Rattle.text_refusal.specs.laws.Room.{either_short, refusal_short, plan_refusal_short}
 use Rattle.text_answers.specs.declared.Style.{Style}
 use Rattle.text_answers.specs.declared.Style.TheVariants.{Lines, Table, Plan, PlanTable}
-use Rattle.text_answers.specs.rules.Answers.{star_text, heading_text, planHeadingText, edition_text, head_text, countText, countAt, tallyText}
-use Rattle.text_answers.specs.rules.Answers.{footText, refusedIn}
+use Rattle.text_answers.specs.rules.Answers.{star_text, heading_text, plan_heading_text, edition_text, head_text, count_text, count_at, tally_text}
+use Rattle.text_answers.specs.rules.Answers.{foot_text, refused_in}
 use Rattle.report.specs.rules.Report.{line_by, text_by, stars_text, report_refusal, report_of, plan_style, plan_of, alone_text, rotated_of, room}
 use Rattle.report.specs.laws.Report.{not_refused}
 
@@ -49,26 +49,26 @@ unfolding edition_text
 edition_short Crate = omega arith
 edition_short Published = omega arith
 
-count_short : (n : ℕ) → length (countText n) ≤ 21
-unfolding countText
+count_short : (n : ℕ) → length (count_text n) ≤ 21
+unfolding count_text
 count_short n = omega (arith, any_decimal_short n)
 
-tally_short : (t : Tally) → length (tallyText t) ≤ 426
-unfolding tallyText
+tally_short : (t : Tally) → length (tally_text t) ≤ 426
+unfolding tally_text
 tally_short t =
-    let counts = texts (highest_status + 1) (countAt t.counts) in
+    let counts = texts (highest_status + 1) (count_at t.counts) in
     let end : List ℕ = line_end ∷ [] in
-    let short = texts_short 21 (highest_status + 1) (countAt t.counts) (λ (k : ℕ) h. count_short _) in
+    let short = texts_short 21 (highest_status + 1) (count_at t.counts) (λ (k : ℕ) h. count_short _) in
     omega (arith, length-append (ascii "tally") (counts ++ end), length-append counts end, short)
 
 -- a head and a foot together
-around_short : (style : Style) (edition : Edition) (t : Tally) → length (head_text style edition) + length (footText style t) ≤ 444
+around_short : (style : Style) (edition : Edition) (t : Tally) → length (head_text style edition) + length (foot_text style t) ≤ 444
 around_short Lines edition t = omega (arith, edition_short edition, length-append (edition_text edition) [], tally_short t)
 around_short Table edition t = omega (arith, edition_short edition, length-append (edition_text edition) heading_text)
 around_short (Plan o) edition t = omega (arith, edition_short edition, length-append (edition_text edition) [])
-around_short (PlanTable o) edition t = omega (arith, edition_short edition, length-append (edition_text edition) planHeadingText)
+around_short (PlanTable o) edition t = omega (arith, edition_short edition, length-append (edition_text edition) plan_heading_text)
 
-refused_short_in : (style : Style) (n : ℕ) → length (refusedIn style n) ≤ 444
+refused_short_in : (style : Style) (n : ℕ) → length (refused_in style n) ≤ 444
 refused_short_in Lines n = omega (arith, refused_short n)
 refused_short_in Table n = omega (arith, refusal_short n)
 refused_short_in (Plan o) n = omega (arith, refused_short n)
@@ -87,8 +87,8 @@ module _ (style : Style) (edition : Edition) (rule : Star → Answer Pair) (s : 
       let short = texts_short 145 (count_of s) (line_by style rule s) (λ (i : ℕ) k. place_short i) in
       omega (
         arith,
-        length-append (head_text style edition) (lines ++ footText style tally),
-        length-append lines (footText style tally),
+        length-append (head_text style edition) (lines ++ foot_text style tally),
+        length-append lines (foot_text style tally),
         around_short style edition tally,
         short,
       )
@@ -101,7 +101,7 @@ module _ (style : Style) (edition : Edition) (s : List ℕ) (day1 day2 : Float) 
       no : ℕ
       no = report_refusal style s day1 day2
 
-      by_case : (t : Bool) → eqb no 0 ≡ t → length (cond t (stars_text style edition s day1 day2) (refusedIn style no)) ≤ room
+      by_case : (t : Bool) → eqb no 0 ≡ t → length (cond t (stars_text style edition s day1 day2) (refused_in style no)) ≤ room
       by_case true e =
           let none = not_refused style (store_refusal s day1 day2 most_stars most_stars most_stars) (eqb-true no 0 e) in
           omega (arith, by_short style edition (stars_on edition day1 day2) s (accepted s day1 day2 most_stars most_stars most_stars none).statuses)

@@ -1,6 +1,5 @@
 -- Wrong variants are excluded: each differs from the rule at the input stated.
-use Rattle.std.specs.Prelude.{ℕ, refl, List, [], ◌∷◌, length, get_or}
-use std.Logic.{◌≢◌}
+use Rattle.std.specs.Prelude.{ℕ, refl, List, [], ◌∷◌, length, get_or, ◌≢◌}
 use Rattle.double.specs.rules.Operations.{zero, two}
 use Rattle.double.specs.laws.Apart.{apart}
 use Rattle.quantity.specs.rules.Refusal.{epoch}
@@ -12,7 +11,7 @@ use Rattle.list.specs.rules.Record.{width}
 use Rattle.text_number.specs.notions.Code.{of_text}
 use Rattle.text_answers.specs.declared.Style.TheVariants.{Table, Plan, PlanTable}
 use Rattle.text_row.specs.rules.Row.{column_text, row_of}
-use Rattle.text_answers.specs.rules.Answers.{heading_text, tallyText}
+use Rattle.text_answers.specs.rules.Answers.{heading_text, tally_text}
 use Rattle.report.specs.rules.Report.{report_of, rotated_of}
 use Rattle.report.specs.notions.Computed.{computed}
 use Rattle.report.specs.notions.Wrong.{eight_before_three, observer_not_refused, refused_as_empty, edition_unsaid}
@@ -70,7 +69,7 @@ unfolding computed column_text row_of
 empty_has_line_excluded = apart (λ (t : List ℕ). get_or t (length heading_text) 0) refl
 
 pub alone_unsaid_excluded : alone_unsaid Crate empty epoch epoch ≢ rotated_of Crate empty epoch epoch
-unfolding computed rotated_of tallyText
+unfolding computed rotated_of tally_text
 alone_unsaid_excluded = apart (λ (t : List ℕ). get_or t 0 0) refl
 
 pub alone_of_a_refusal_excluded : alone_of_a_refusal Crate damaged epoch epoch ≢ rotated_of Crate damaged epoch epoch

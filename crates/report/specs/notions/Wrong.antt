@@ -16,14 +16,14 @@ use Rattle.rotation_list.specs.rules.Rotate.{rotated_on}
 use Rattle.text_number.specs.rules.Refused.{refused_text}
 use Rattle.text_answers.specs.declared.Style.{Style}
 use Rattle.text_answers.specs.declared.Style.TheVariants.{Lines, Table, Plan}
-use Rattle.text_answers.specs.rules.Answers.{star_text, heading_text, heading_in, head_text, footText, refusedIn}
+use Rattle.text_answers.specs.rules.Answers.{star_text, heading_text, heading_in, head_text, foot_text, refused_in}
 use Rattle.report.specs.rules.Report.{text_by, star_line, stars_text, report_refusal, alone_text}
 
 -- a plan with another refusal of the call, of the list's and the observer's
 abbrev refused_by : (ℕ → ℕ → ℕ) → Observer → Edition → List ℕ → Float → Float → List ℕ
 refused_by both o edition s day1 day2 =
     let no = both (store_refusal s day1 day2 most_stars most_stars most_stars) (plan_refusal o) in
-    cond (eqb no 0) (stars_text (Plan o) edition s day1 day2) (refusedIn (Plan o) no)
+    cond (eqb no 0) (stars_text (Plan o) edition s day1 day2) (refused_in (Plan o) no)
 
 -- the list before the observer
 abbrev pub eight_before_three : Observer → Edition → List ℕ → Float → Float → List ℕ
@@ -41,7 +41,7 @@ refused_as_empty style edition s day1 day2 = head_text style edition
 abbrev headed_by : (Style → List ℕ) → Style → Edition → List ℕ → Float → Float → List ℕ
 headed_by head style edition s day1 day2 =
     let no = report_refusal style s day1 day2 in
-    cond (eqb no 0) (head style ++ texts (count_of s) (star_line style edition s day1 day2)) (refusedIn style no)
+    cond (eqb no 0) (head style ++ texts (count_of s) (star_line style edition s day1 day2)) (refused_in style no)
 
 -- both editions alike
 abbrev pub edition_unsaid : Style → Edition → List ℕ → Float → Float → List ℕ
@@ -53,7 +53,7 @@ heading_of_places = headed_by (λ (style : Style). heading_text)
 
 -- an observer refused as a list is, so that 3 and 4 are not his
 abbrev pub observer_without_words : Style → List ℕ → Float → Float → List ℕ
-observer_without_words style s day1 day2 = refusedIn Table (report_refusal style s day1 day2)
+observer_without_words style s day1 day2 = refused_in Table (report_refusal style s day1 day2)
 
 -- star i, whether it is kept or not
 abbrev any_line : Style → Edition → List ℕ → Float → Float → ℕ → List ℕ
@@ -65,7 +65,7 @@ any_line style edition s day1 day2 i =
 abbrev pub empty_has_line : Style → Edition → List ℕ → Float → Float → List ℕ
 empty_has_line style edition s day1 day2 =
     head_text style edition
-    ++ (texts (count_of s) (any_line style edition s day1 day2) ++ footText style (tally_of (statuses_of edition s day1 day2)))
+    ++ (texts (count_of s) (any_line style edition s day1 day2) ++ foot_text style (tally_of (statuses_of edition s day1 day2)))
 
 -- ---- under one rotation
 

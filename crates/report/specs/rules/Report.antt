@@ -20,7 +20,7 @@ use Rattle.text_number.specs.rules.Bytes.{ascii}
 use Rattle.text_number.specs.rules.Refused.{refused_text}
 use Rattle.text_answers.specs.declared.Style.{Style}
 use Rattle.text_answers.specs.declared.Style.TheVariants.{Lines, Plan, PlanTable}
-use Rattle.text_answers.specs.rules.Answers.{star_text, head_text, footText, refusalIn, refusedIn}
+use Rattle.text_answers.specs.rules.Answers.{star_text, head_text, foot_text, refusal_in, refused_in}
 
 -- star i of the list by a rule of a star; an empty place has no line
 abbrev pub line_by : Style → (Star → Answer Pair) → List ℕ → ℕ → List ℕ
@@ -30,7 +30,7 @@ line_by style rule s i =
 
 -- of a call that is not refused
 abbrev pub text_by : Style → Edition → (Star → Answer Pair) → List ℕ → List ℕ
-text_by style edition rule s = head_text style edition ++ (texts (count_of s) (line_by style rule s) ++ footText style (tally_of (statuses_by rule s)))
+text_by style edition rule s = head_text style edition ++ (texts (count_of s) (line_by style rule s) ++ foot_text style (tally_of (statuses_by rule s)))
 
 -- ---- reduced
 
@@ -42,12 +42,12 @@ stars_text style edition s day1 day2 = text_by style edition (stars_on edition d
 
 -- the least number over all arguments, the style's with the list's
 abbrev pub report_refusal : Style → List ℕ → Float → Float → ℕ
-report_refusal style s day1 day2 = refusalIn style (store_refusal s day1 day2 most_stars most_stars most_stars)
+report_refusal style s day1 day2 = refusal_in style (store_refusal s day1 day2 most_stars most_stars most_stars)
 
 unfoldable pub report_of : Style → Edition → List ℕ → Float → Float → List ℕ
 report_of style edition s day1 day2 =
     let no = report_refusal style s day1 day2 in
-    cond (eqb no 0) (stars_text style edition s day1 day2) (refusedIn style no)
+    cond (eqb no 0) (stars_text style edition s day1 day2) (refused_in style no)
 
 -- ---- a plan: the sidereal time at Greenwich is the apparent one on the night's day
 

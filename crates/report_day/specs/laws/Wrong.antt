@@ -1,6 +1,5 @@
 -- Wrong variants are excluded: each differs from the rule at the input stated. The constants are their decimals.
-use Rattle.std.specs.Prelude.{◌≡◌, refl, true, false, List, [], ◌∷◌, Float}
-use std.Logic.{◌≢◌}
+use Rattle.std.specs.Prelude.{◌≡◌, refl, true, false, List, [], ◌∷◌, Float, ◌≢◌}
 use Rattle.std.specs.Float.Ieee.{of_bits, round}
 use Rattle.double.specs.rules.Operations.{bits}
 use Rattle.double.specs.rules.Table.{Row, ◌is◌, Agrees, decimal}

@@ -1,6 +1,5 @@
 -- Wrong variants are excluded: each differs from the rule at the input stated.
-use Rattle.std.specs.Prelude.{◌≡◌, refl, false, ◌++◌}
-use std.Logic.{◌≢◌}
+use Rattle.std.specs.Prelude.{◌≡◌, refl, false, ◌++◌, ◌≢◌}
 use Rattle.double.specs.rules.Operations.{bits, zero, one}
 use Rattle.double.specs.laws.Apart.{apart}
 use Rattle.quantity.specs.declared.Deg.{Deg}

@@ -1,7 +1,6 @@
 -- The search for the first refused sight, one status after the other.
-use Rattle.std.specs.Prelude.{ℕ, zero, suc, ◌+◌, ◌≤◌, ◌<◌, ◌≡◌, refl, Bool, cond, List, [], ◌∷◌, eqb, length, drop, get_or}
+use Rattle.std.specs.Prelude.{ℕ, zero, suc, ◌+◌, ◌≤◌, ◌<◌, ◌≡◌, refl, Bool, cond, List, [], ◌∷◌, eqb, length, drop, get_or, ◌≢◌}
 use Rattle.std.proofs.Common.{ap, ◌∙◌, le_of_suc-le-suc, add-one, arith, eq-eqb, ne_eqb}
-use std.Logic.{◌≢◌}
 use Rattle.report_mean.specs.rules.Refused.{first_refused}
 
 one_step : (s : List ℕ) (i : ℕ) → i < length s → first_refused (drop i s) ≡ cond (eqb (get_or s i 0) 0) (suc (first_refused (drop (suc i) s))) 0

@@ -1,6 +1,5 @@
 -- A wrong variant is excluded: it differs from the rule at the input stated. The report varies.
-use Rattle.std.specs.Prelude.{ℕ, refl, false, List, [], pos}
-use std.Logic.{◌≢◌}
+use Rattle.std.specs.Prelude.{ℕ, refl, false, List, [], pos, ◌≢◌}
 use Rattle.double.specs.rules.Operations.{zero, one}
 use Rattle.double.specs.laws.Apart.{apart}
 use Rattle.quantity.specs.rules.Angle.{deg}

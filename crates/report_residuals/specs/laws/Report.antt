@@ -1,9 +1,8 @@
 -- What the parts of the work answer and leave is the report of the night.
-use Rattle.std.specs.Prelude.{ℕ, ◌≤◌, ◌<◌, ◌≡◌, Bool, List, [], ◌∷◌, map, eqb, ltb, Float, length, take}
+use Rattle.std.specs.Prelude.{ℕ, ◌≤◌, ◌<◌, ◌≡◌, Bool, List, [], ◌∷◌, map, eqb, ltb, Float, length, take, ◌≢◌}
 use Rattle.std.proofs.Math.Path.{refl, sym, ap}
 use Rattle.std.proofs.Common.{◌∙◌, arith}
 use Rattle.std.proofs.Math.Bool.{true, false, cond}
-use std.Logic.{◌≢◌}
 use borrow.Author.Tests.{ltb-true, ne_eqb}
 use Rattle.double.specs.laws.ReadBack.{zero_bits_lem}
 use Rattle.quantity.specs.rules.Answer.{Answer, answered, refused, Pair, then, status_of}

@@ -1,6 +1,5 @@
 -- Wrong variants are excluded: each differs from the rule at the input stated.
-use Rattle.std.specs.Prelude.{ℕ, refl, List, [], ◌∷◌, pos}
-use std.Logic.{◌≢◌}
+use Rattle.std.specs.Prelude.{ℕ, refl, List, [], ◌∷◌, pos, ◌≢◌}
 use Rattle.double.specs.laws.Apart.{apart}
 use Rattle.quantity.specs.rules.Answer.{status_of}
 use Rattle.quantity.specs.rules.Refusal.{epoch}

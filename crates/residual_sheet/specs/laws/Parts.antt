@@ -95,7 +95,7 @@ largest_there (taken x ∷ es) h = by_size (some_or_none (length (taken_in es)))
     by_size (some k) (more g) later = here (omega arith)
     by_size (some k) (less g) later =
         let m : max x.size (largest_of (taken_in es)) ≡ largest_of (taken_in es) = omega arith in
-        rw (m, ne_eqb x.size (largest_of (taken_in es)) (λ e. omega arith)) (later k)
+        ap (λ (n : ℕ). is_there n (taken x ∷ es)) m ∙ rw (ne_eqb x.size (largest_of (taken_in es)) (λ e. omega arith)) (later k)
 
 pub first_within : (n : ℕ) (es : List Entry) → first_place n es ≤ length es
 first_within n [] = omega arith

@@ -1,7 +1,6 @@
 -- Wrong variants are excluded: each differs from the rule at the input stated. The rule varies: neither refusing everything nor a constant
 -- meets it.
-use Rattle.std.specs.Prelude.{ℕ, refl, false, true, [], ◌∷◌, nat_abs}
-use std.Logic.{◌≢◌}
+use Rattle.std.specs.Prelude.{ℕ, refl, false, true, [], ◌∷◌, nat_abs, ◌≢◌}
 use Rattle.double.specs.notions.Code.{of_number, of_flag}
 use Rattle.double.specs.laws.Apart.{apart}
 use Rattle.quantity.specs.rules.Angle.{rad}

@@ -1,7 +1,6 @@
 -- Wrong variants are excluded: each differs from the rule at the input stated. The rule varies: a library that refuses everything, or
 -- answers a constant, does not meet it.
-use Rattle.std.specs.Prelude.{false, refl, Float}
-use std.Logic.{◌≢◌}
+use Rattle.std.specs.Prelude.{false, refl, Float, ◌≢◌}
 use Rattle.std.proofs.Common.{arith, ltb→lt, lt→ltb}
 use Rattle.std.specs.Float.{inf}
 use Rattle.std.specs.Float.Ieee.{neg, fits}

@@ -1,8 +1,7 @@
 -- Wrong variants are excluded: each differs from the rule at the input stated. A rule varies: a library that refuses everything, or
 -- answers a constant, does not meet it.
-use Rattle.std.specs.Prelude.{ℕ, refl, [], ◌∷◌}
+use Rattle.std.specs.Prelude.{ℕ, refl, [], ◌∷◌, ◌≢◌}
 use Rattle.std.proofs.Common.{sym, ◌∙◌}
-use std.Logic.{◌≢◌}
 use Rattle.std.specs.Float.Ieee.{neg}
 use Rattle.double.specs.rules.Operations.{zero, one}
 use Rattle.double.specs.notions.Code.{of_float}

@@ -1,8 +1,7 @@
 -- Wrong variants are excluded: each differs from the rule at the input stated. A rule varies: a library that refuses everything, or
 -- answers a constant, does not meet it.
-use Rattle.std.specs.Prelude.{refl, [], ◌∷◌, pos}
+use Rattle.std.specs.Prelude.{refl, [], ◌∷◌, pos, ◌≢◌}
 use Rattle.std.proofs.Common.{sym, ◌∙◌}
-use std.Logic.{◌≢◌}
 use Rattle.double.specs.rules.Operations.{one}
 use Rattle.double.specs.laws.Apart.{apart}
 use Rattle.quantity.specs.rules.Answer.{first_place}

@@ -1,6 +1,5 @@
 -- Wrong variants are excluded: each differs from the rule at the input stated.
-use Rattle.std.specs.Prelude.{◌^◌, refl, pos, negsuc, nat_abs}
-use std.Logic.{◌≢◌}
+use Rattle.std.specs.Prelude.{◌^◌, refl, pos, negsuc, nat_abs, ◌≢◌}
 use Rattle.double.specs.notions.Code.{of_flag, of_number}
 use Rattle.double.specs.laws.Apart.{apart}
 use Rattle.signed.specs.rules.Signed.{negative, reach, signed_of}

@@ -1,6 +1,5 @@
 -- Wrong variants are excluded: each differs from the rule at the input stated.
-use Rattle.std.specs.Prelude.{refl, pos, negsuc, Float}
-use std.Logic.{◌≢◌}
+use Rattle.std.specs.Prelude.{refl, pos, negsuc, Float, ◌≢◌}
 use Rattle.double.specs.rules.Operations.{bits}
 use Rattle.double.specs.laws.Apart.{apart}
 use Rattle.quantity.specs.rules.Refusal.{epoch}

@@ -1,6 +1,5 @@
 -- Wrong variants are excluded: each differs from the rule at the input stated.
-use Rattle.std.specs.Prelude.{ℕ, ◌*◌, refl, false, List, [], ◌∷◌, pos, get_or}
-use std.Logic.{◌≢◌}
+use Rattle.std.specs.Prelude.{ℕ, ◌*◌, refl, false, List, [], ◌∷◌, pos, get_or, ◌≢◌}
 use Rattle.std.specs.Float.{inf}
 use Rattle.double.specs.rules.Operations.{one, two}
 use Rattle.double.specs.notions.Code.{of_number}

@@ -36,14 +36,14 @@ star_text (PlanTable o) number status asc dec = plan_row number (planned_of stat
 abbrev pub heading_text : List ℕ
 heading_text = ascii "      star  right ascension  declination\n             h  m  s           d  '  \"\n"
 
-abbrev pub planHeadingText : List ℕ
-planHeadingText = ascii "      star  rise      culmination  set\n             h  m  s   h  m  s      h  m  s\n"
+abbrev pub plan_heading_text : List ℕ
+plan_heading_text = ascii "      star  rise      culmination  set\n             h  m  s   h  m  s      h  m  s\n"
 
 abbrev pub heading_in : Style → List ℕ
 heading_in Lines = []
 heading_in Table = heading_text
 heading_in (Plan o) = []
-heading_in (PlanTable o) = planHeadingText
+heading_in (PlanTable o) = plan_heading_text
 
 -- past files go by the crate's edition, so that it stays unsaid
 unfoldable pub edition_text : Edition → List ℕ
@@ -53,33 +53,33 @@ abbrev pub head_text : Style → Edition → List ℕ
 head_text style edition = edition_text edition ++ heading_in style
 
 -- the count of each status from 0 to the highest known
-unfoldable pub countText : ℕ → List ℕ
-countText n = space ∷ decimal_text n
+unfoldable pub count_text : ℕ → List ℕ
+count_text n = space ∷ decimal_text n
 
-abbrev pub countAt : List ℕ → ℕ → List ℕ
-countAt counts k = countText (get_or counts k 0)
+abbrev pub count_at : List ℕ → ℕ → List ℕ
+count_at counts k = count_text (get_or counts k 0)
 
-unfoldable pub tallyText : Tally → List ℕ
-tallyText tally = ascii "tally" ++ (texts (highest_status + 1) (countAt tally.counts) ++ (line_end ∷ []))
+unfoldable pub tally_text : Tally → List ℕ
+tally_text tally = ascii "tally" ++ (texts (highest_status + 1) (count_at tally.counts) ++ (line_end ∷ []))
 
-abbrev pub footText : Style → Tally → List ℕ
-footText Lines tally = tallyText tally
-footText Table tally = []
-footText (Plan o) tally = []
-footText (PlanTable o) tally = []
+abbrev pub foot_text : Style → Tally → List ℕ
+foot_text Lines tally = tally_text tally
+foot_text Table tally = []
+foot_text (Plan o) tally = []
+foot_text (PlanTable o) tally = []
 
 -- of a call that the list's reduction refused so: the least number over all arguments
-abbrev pub refusalIn : Style → ℕ → ℕ
-refusalIn Lines n = n
-refusalIn Table n = n
-refusalIn (Plan o) n = lower n (plan_refusal o)
-refusalIn (PlanTable o) n = lower n (plan_refusal o)
+abbrev pub refusal_in : Style → ℕ → ℕ
+refusal_in Lines n = n
+refusal_in Table n = n
+refusal_in (Plan o) n = lower n (plan_refusal o)
+refusal_in (PlanTable o) n = lower n (plan_refusal o)
 
-abbrev pub refusedIn : Style → ℕ → List ℕ
-refusedIn Lines n = refused_text n
-refusedIn Table n = refusal_text n
-refusedIn (Plan o) n = refused_text n
-refusedIn (PlanTable o) n = plan_refusal_text n
+abbrev pub refused_in : Style → ℕ → List ℕ
+refused_in Lines n = refused_text n
+refused_in Table n = refusal_text n
+refused_in (Plan o) n = refused_text n
+refused_in (PlanTable o) n = plan_refusal_text n
 
 -- ---- the whole
 
@@ -88,16 +88,16 @@ abbrev pub angle_at : List ℕ → ℕ → Rad
 angle_at s i = rad (bits (get_or s i 0))
 
 -- star i, whose status and angles stand in three slices; an empty place has no line
-abbrev pub lentLine : Style → List ℕ → List ℕ → List ℕ → List ℕ → ℕ → List ℕ
-lentLine style s status asc dec i =
+abbrev pub lent_line : Style → List ℕ → List ℕ → List ℕ → List ℕ → ℕ → List ℕ
+lent_line style s status asc dec i =
     cond (is_kept (nth s i)) (star_text style (nth s i).number (get_or status i 0) (angle_at asc i) (angle_at dec i)) []
 
 -- of a call that is not refused
-unfoldable pub listText : Style → Edition → List ℕ → List ℕ → List ℕ → List ℕ → Tally → List ℕ
-listText style edition s status asc dec tally =
-    head_text style edition ++ (texts (count_of s) (lentLine style s status asc dec) ++ footText style tally)
+unfoldable pub list_text : Style → Edition → List ℕ → List ℕ → List ℕ → List ℕ → Tally → List ℕ
+list_text style edition s status asc dec tally =
+    head_text style edition ++ (texts (count_of s) (lent_line style s status asc dec) ++ foot_text style tally)
 
-unfoldable pub answersText : Style → Edition → List ℕ → List ℕ → List ℕ → List ℕ → ℕ → Tally → List ℕ
-answersText style edition s status asc dec refusal tally =
-    let stated = refusalIn style refusal in
-    cond (eqb stated 0) (listText style edition s status asc dec tally) (refusedIn style stated)
+unfoldable pub answers_text : Style → Edition → List ℕ → List ℕ → List ℕ → List ℕ → ℕ → Tally → List ℕ
+answers_text style edition s status asc dec refusal tally =
+    let stated = refusal_in style refusal in
+    cond (eqb stated 0) (list_text style edition s status asc dec tally) (refused_in style stated)

@@ -1,6 +1,5 @@
 -- Wrong variants are excluded: each differs from the rule at the text stated. The rule varies.
-use Rattle.std.specs.Prelude.{refl, pos}
-use std.Logic.{◌≢◌}
+use Rattle.std.specs.Prelude.{refl, pos, ◌≢◌}
 use Rattle.double.specs.laws.Apart.{apart}
 use Rattle.text_number.specs.rules.Bytes.{ascii}
 use Rattle.text_date.specs.rules.Time.{clock_in, time_rule}

@@ -1,6 +1,5 @@
 -- A day in decimal is read as it ever was, whatever UT1 − UTC is; a word with a date's first hyphen is a date and nothing else.
-use Rattle.std.specs.Prelude.{ℕ, zero, suc, ◌+◌, ◌*◌, ◌-◌, ◌≡◌, refl, Bool, true, false, cond, List, [], ◌∷◌, eqb, leb, ℤ, Float, get_or}
-use std.Logic.{◌≢◌}
+use Rattle.std.specs.Prelude.{ℕ, zero, suc, ◌+◌, ◌*◌, ◌-◌, ◌≡◌, refl, Bool, true, false, cond, List, [], ◌∷◌, eqb, leb, ℤ, Float, get_or, ◌≢◌}
 use Rattle.std.proofs.Common.{arith}
 use Rattle.std.specs.Float.Ieee.{lt}
 use Rattle.text_number.specs.rules.Bytes.{ascii, minus_sign, point, digit0, digit9}

@@ -1,6 +1,5 @@
 -- Wrong variants are excluded: each differs from the rule at the input stated. The rules vary.
-use Rattle.std.specs.Prelude.{refl, pos}
-use std.Logic.{◌≢◌}
+use Rattle.std.specs.Prelude.{refl, pos, ◌≢◌}
 use Rattle.double.specs.laws.Apart.{apart}
 use Rattle.text_number.specs.rules.Bytes.{ascii}
 use Rattle.text_number.specs.notions.Code.{of_text}

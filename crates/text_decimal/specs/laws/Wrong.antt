@@ -1,6 +1,5 @@
 -- Wrong variants are excluded: each differs from the rule at the text stated.
-use Rattle.std.specs.Prelude.{ℕ, List, refl}
-use std.Logic.{◌≢◌}
+use Rattle.std.specs.Prelude.{ℕ, List, refl, ◌≢◌}
 use Rattle.double.specs.laws.Apart.{apart}
 use Rattle.text_number.specs.rules.Bytes.{ascii}
 use Rattle.text_decimal.specs.rules.Decimal.{decimal_rule}

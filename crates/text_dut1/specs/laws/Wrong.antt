@@ -1,6 +1,5 @@
 -- Wrong variants are excluded: each differs from the rule at the text stated. The rule varies.
-use Rattle.std.specs.Prelude.{refl, []}
-use std.Logic.{◌≢◌}
+use Rattle.std.specs.Prelude.{refl, [], ◌≢◌}
 use Rattle.double.specs.laws.Apart.{apart}
 use Rattle.text_number.specs.rules.Bytes.{ascii}
 use Rattle.text_dut1.specs.rules.Dut1.{dut1_rule}

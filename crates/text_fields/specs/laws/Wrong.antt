@@ -1,6 +1,5 @@
 -- Wrong variants are excluded: each differs from the rule at the text stated.
-use Rattle.std.specs.Prelude.{ℕ, suc, refl, List, length}
-use std.Logic.{◌≢◌}
+use Rattle.std.specs.Prelude.{ℕ, suc, refl, List, length, ◌≢◌}
 use Rattle.double.specs.laws.Apart.{apart}
 use Rattle.text_number.specs.rules.Bytes.{ascii}
 use Rattle.text_fields.specs.rules.Lines.{lines}

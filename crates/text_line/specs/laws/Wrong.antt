@@ -1,6 +1,5 @@
 -- A wrong variant is excluded: it differs from the rule at the input stated.
-use Rattle.std.specs.Prelude.{refl}
-use std.Logic.{◌≢◌}
+use Rattle.std.specs.Prelude.{refl, ◌≢◌}
 use Rattle.double.specs.laws.Apart.{apart}
 use Rattle.quantity.specs.notions.Stated.{r0}
 use Rattle.text_number.specs.notions.Code.{of_text}

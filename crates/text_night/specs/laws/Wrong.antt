@@ -1,6 +1,5 @@
 -- Wrong variants are excluded: each differs from the rule at the text stated. The rules vary.
-use Rattle.std.specs.Prelude.{ℕ, refl, List, pos}
-use std.Logic.{◌≢◌}
+use Rattle.std.specs.Prelude.{ℕ, refl, List, pos, ◌≢◌}
 use Rattle.double.specs.laws.Apart.{apart}
 use Rattle.text_number.specs.rules.Bytes.{ascii}
 use Rattle.text_fields.specs.rules.Lines.{lines}

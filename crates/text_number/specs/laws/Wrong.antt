@@ -1,6 +1,5 @@
 -- Wrong variants are excluded: each differs from the rule at the input stated.
-use Rattle.std.specs.Prelude.{refl, negsuc}
-use std.Logic.{◌≢◌}
+use Rattle.std.specs.Prelude.{refl, negsuc, ◌≢◌}
 use Rattle.double.specs.laws.Apart.{apart}
 use Rattle.text_number.specs.rules.Number.{decimal_text, integer_text}
 use Rattle.text_number.specs.rules.Refused.{refused_text}

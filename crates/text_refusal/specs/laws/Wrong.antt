@@ -1,6 +1,5 @@
 -- Wrong variants are excluded: each differs from the rule at the input stated.
-use Rattle.std.specs.Prelude.{refl}
-use std.Logic.{◌≢◌}
+use Rattle.std.specs.Prelude.{refl, ◌≢◌}
 use Rattle.double.specs.laws.Apart.{apart}
 use Rattle.text_number.specs.notions.Code.{of_text}
 use Rattle.text_refusal.specs.rules.Refusal.{refusal_text, plan_refusal_text}

@@ -1,6 +1,5 @@
 -- Wrong variants are excluded: each differs from the rule at the input stated.
-use Rattle.std.specs.Prelude.{ℕ, refl, List, ℤ, pos, negsuc, get_or}
-use std.Logic.{◌≢◌}
+use Rattle.std.specs.Prelude.{ℕ, refl, List, ℤ, pos, negsuc, get_or, ◌≢◌}
 use Rattle.double.specs.laws.Apart.{apart}
 use Rattle.double.specs.notions.Computed as double
 use Rattle.units.specs.rules.Nearest.{nearest_whole}

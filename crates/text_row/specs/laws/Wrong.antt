@@ -1,6 +1,5 @@
 -- Wrong variants are excluded: each differs from the rule at the input stated.
-use Rattle.std.specs.Prelude.{refl}
-use std.Logic.{◌≢◌}
+use Rattle.std.specs.Prelude.{refl, ◌≢◌}
 use Rattle.std.specs.Float.Ieee.{neg}
 use Rattle.double.specs.rules.Operations.{bits, zero, one}
 use Rattle.double.specs.laws.Apart.{apart}

@@ -1,6 +1,5 @@
 -- Wrong variants are excluded: each differs from the rule at the input stated.
-use Rattle.std.specs.Prelude.{refl, Float}
-use std.Logic.{◌≢◌}
+use Rattle.std.specs.Prelude.{refl, Float, ◌≢◌}
 use Rattle.double.specs.rules.Operations.{bits, zero, one}
 use Rattle.double.specs.laws.Apart.{apart}
 use Rattle.text_number.specs.notions.Code.{of_text}

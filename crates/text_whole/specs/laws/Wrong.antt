@@ -1,7 +1,6 @@
 -- Wrong variants are excluded: each differs from the rule at the text stated. The rules vary: reading everything as one number, or nothing,
 -- does not meet them.
-use Rattle.std.specs.Prelude.{refl, []}
-use std.Logic.{◌≢◌}
+use Rattle.std.specs.Prelude.{refl, [], ◌≢◌}
 use Rattle.double.specs.laws.Apart.{apart}
 use Rattle.text_number.specs.rules.Bytes.{ascii}
 use Rattle.text_whole.specs.rules.Unsigned.{unsigned_rule}

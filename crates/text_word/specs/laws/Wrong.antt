@@ -1,6 +1,5 @@
 -- Wrong variants are excluded: each differs from the rule at the input stated.
-use Rattle.std.specs.Prelude.{refl, [], ◌∷◌}
-use std.Logic.{◌≢◌}
+use Rattle.std.specs.Prelude.{refl, [], ◌∷◌, ◌≢◌}
 use Rattle.double.specs.notions.Code.{of_flag}
 use Rattle.double.specs.laws.Apart.{apart}
 use Rattle.text_word.specs.rules.Word.{is_word}

@@ -1,6 +1,5 @@
 -- Wrong variants are excluded: each differs from the rule at the input stated.
-use std.Logic.{◌≢◌}
-use Rattle.std.specs.Prelude.{pos, refl}
+use Rattle.std.specs.Prelude.{pos, refl, ◌≢◌}
 use Rattle.double.specs.rules.Operations.{one, half}
 use Rattle.double.specs.notions.Code.{of_number}
 use Rattle.double.specs.laws.Apart.{apart}

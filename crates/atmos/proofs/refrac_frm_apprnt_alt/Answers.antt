@@ -1,0 +1,11 @@
+-- `atmos::refrac_frm_apprnt_alt` meets its contract.
+use mathlib.Core.Path.{ap}
+use Rattle.quantity.specs.rules.Answer.{answered}
+use Rattle.quantity.specs.laws.Answer.{refuses, goes_on}
+use Rattle.atmos.proofs.refrac_frm_apprnt_alt.Goals as goal
+
+pub returns-then-refusal-ne0 : goal.returns-then-refusal-ne0
+returns-then-refusal-ne0 c = refuses _ c.alt_refusal-refusal.ensures c.if-refusal-ne0.true
+
+pub returns : goal.returns
+returns c = goes_on c.alt_refusal-refusal.ensures c.if-refusal-ne0.false (ap answered c.refrac_frm_apprnt_alt_of.ensures)

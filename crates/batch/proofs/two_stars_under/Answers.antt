@@ -1,0 +1,19 @@
+-- `batch::two_stars_under` meets its contract.
+use Rattle.star_store.specs.rules.Star.{star_refusal}
+use Rattle.batch.specs.rules.Star.{two_stars_under}
+use Rattle.batch.proofs.two_stars_under.Goals as goal
+
+pub returns : goal.returns
+unfolding two_stars_under star_refusal
+returns c =
+    rw (
+      c.earlier-2.ensures,
+      c.earlier.ensures,
+      c.two_places_under-p.ensures,
+      c.asc_of-2.ensures,
+      c.asc_of.ensures,
+      c.star_refusal-second_refusal.ensures,
+      c.star_refusal-first_refusal.ensures,
+      c.dec_of-second_dec.ensures,
+      c.dec_of-first_dec.ensures,
+    )

@@ -1,0 +1,6 @@
+-- `brundelak::observer::brundelak_topopcent_ecl_coords` meets its contract.
+use Rattle.brundelak_handed.specs.laws.Boundary.{handed_three}
+use Rattle.brundelak.proofs.observer.brundelak_topopcent_ecl_coords.Goals as goal
+
+pub returns : goal.returns
+returns c = handed_three c.topopcent_ecl_coords.ensures c.hand_three.ensures

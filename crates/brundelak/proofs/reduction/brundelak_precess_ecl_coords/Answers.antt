@@ -1,0 +1,6 @@
+-- `brundelak::reduction::brundelak_precess_ecl_coords` meets its contract.
+use Rattle.brundelak_handed.specs.laws.Boundary.{handed_two}
+use Rattle.brundelak.proofs.reduction.brundelak_precess_ecl_coords.Goals as goal
+
+pub returns : goal.returns
+returns c = handed_two c.precess_ecl_coords.ensures c.hand_two.ensures

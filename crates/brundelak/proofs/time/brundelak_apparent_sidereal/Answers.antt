@@ -1,0 +1,6 @@
+-- `brundelak::time::brundelak_apparent_sidereal` meets its contract.
+use Rattle.brundelak_handed.specs.laws.Boundary.{handed_radians}
+use Rattle.brundelak.proofs.time.brundelak_apparent_sidereal.Goals as goal
+
+pub returns : goal.returns
+returns c = handed_radians c.apparent_sidereal.ensures c.hand_radians.ensures

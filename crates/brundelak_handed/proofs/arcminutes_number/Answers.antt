@@ -1,0 +1,11 @@
+-- `brundelak_handed::arcminutes_number` meets its contract.
+use Rattle.brundelak_handed.specs.rules.Boundary.{number_of_arcminutes}
+use Rattle.brundelak_handed.proofs.arcminutes_number.Goals as goal
+
+pub returns-in-Are : goal.returns-in-Are
+unfolding number_of_arcminutes
+returns-in-Are c = rw c.in-Are.is
+
+pub returns-in-Refused : goal.returns-in-Refused
+unfolding number_of_arcminutes
+returns-in-Refused c = rw c.in-Refused.is

@@ -1,0 +1,17 @@
+-- `coords::sky_refusal` meets its contract.
+use mathlib.Core.Path.{sym}
+use Rattle.double.specs.laws.Tests.{holds}
+use Rattle.coords.specs.laws.Arguments.{sky_taken}
+use Rattle.coords.proofs.sky_refusal.Goals as goal
+
+pub returns-then-size-3 : goal.returns-then-size-3
+returns-then-size-3 c =
+    sym
+    (sky_taken _ _ _
+    (holds (rw c.size.ensures at c.if-size.true))
+    (holds (rw c.size-then-size.ensures at c.if-size-2.true))
+    (holds (rw c.size-then-size-2.ensures at c.if-size-3.true)))
+
+pub returns : goal.returns
+returns c =
+    rw (c.lower.ensures, c.latitude_refusal-2.ensures, c.latitude_refusal.ensures, c.angle_refusal.ensures) at c.lower-2.ensures

@@ -1,0 +1,10 @@
+-- `text_answers::put_counts` meets its contract: after k passes the first k counts are written.
+use Rattle.lent.specs.laws.Walk.{begun, passed}
+use Rattle.text_answers.proofs.put_counts.Goals as goal
+
+pub loop-k-init : goal.loop-k-init
+loop-k-init c = begun c.within-offset.ensures
+
+pub loop-k-preserved : goal.loop-k-preserved
+loop-k-preserved c =
+    passed c.loop-k.invariant c.loop-k-test.true c.put_count-offset.ensures

@@ -1,0 +1,26 @@
+-- `text_decimal::read` meets its contract: what is left to scan leads to the same end.
+use Rattle.std.proofs.Common.{◌≡◌, ℕ, ◌+◌, ◌<◌, ◌≤◌, List, length, get_or, drop, sym, refl, ap, ◌∙◌, add-one, drop_of_length-le, drop-cons, rules}
+use Rattle.text_decimal.specs.declared.Scan.{Scan}
+use Rattle.text_decimal.specs.rules.Decimal.{with_byte, scanned, decimal_from, decimal_rule}
+use Rattle.text_decimal.proofs.read.Goals as goal
+
+pass : (text : List ℕ) (i : ℕ) (scan : Scan) → i < length text → scanned (with_byte scan (get_or text i 0)) (drop (i + 1) text) ≡ scanned scan (drop i text)
+unfolding scanned
+pass text i scan h = sym (ap (scanned scan) (drop-cons text i 0 h) ∙ ap (λ (n : ℕ). scanned (with_byte scan (get_or text i 0)) (drop n text)) (sym (add-one i)))
+
+all : (text : List ℕ) (i : ℕ) (scan : Scan) → length text ≤ i → scanned scan (drop i text) ≡ scan
+unfolding scanned
+all text i scan h = ap (scanned scan) (drop_of_length-le text {i = i} h)
+
+pub loop-i-init : goal.loop-i-init
+loop-i-init c = (search rules, refl)
+
+pub loop-i-preserved : goal.loop-i-preserved
+loop-i-preserved c =
+    let text = c.args.text.now in
+    (search rules, ap (λ (s : Scan). scanned s (drop (c.loop-i.i + 1) text)) c.with_byte-scan.ensures ∙ pass text c.loop-i.i c.loop-i.scan c.loop-i-test.true ∙ c.loop-i.invariant.1)
+
+pub returns : goal.returns
+unfolding decimal_rule
+returns c =
+    c.decimal_from.ensures ∙ ap decimal_from (sym (all c.args.text.now c.loop-i.i c.loop-i.scan c.loop-i-test.false) ∙ c.loop-i.invariant.1)

@@ -1,0 +1,14 @@
+-- `text_night::found_on` meets its contract.
+use mathlib.Core.Path.{sym, ap}
+use Rattle.text_night.specs.declared.Line.{Line}
+use Rattle.text_night.specs.rules.Sight.{shown_line}
+use Rattle.text_night.specs.rules.Next.{next_at}
+use Rattle.text_night.proofs.found_on.Goals as goal
+
+pub returns-in-Sight : goal.returns-in-Sight
+returns-in-Sight c =
+    ap (λ (l : Line). next_at (shown_line l) c.args.passed c.args.next) (sym c.in-Sight.is)
+
+pub returns-in-Unclear : goal.returns-in-Unclear
+returns-in-Unclear c =
+    ap (λ (l : Line). next_at (shown_line l) c.args.passed c.args.next) (sym c.in-Unclear.is)

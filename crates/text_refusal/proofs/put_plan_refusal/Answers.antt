@@ -1,0 +1,9 @@
+-- `text_refusal::put_plan_refusal` meets its contract.
+use Rattle.lent.specs.laws.Writing.{after}
+use Rattle.text_refusal.specs.rules.Refusal.{plan_refusal_text}
+use Rattle.text_refusal.proofs.put_plan_refusal.Goals as goal
+
+pub returns : goal.returns
+unfolding plan_refusal_text
+returns c =
+    after c.put_number_words-a.ensures (after c.put_observer_words-b.ensures c.put_byte.ensures)

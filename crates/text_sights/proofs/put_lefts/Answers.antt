@@ -1,0 +1,10 @@
+-- `text_sights::put_lefts` meets its contract.
+use Rattle.lent.specs.laws.Walk.{begun, passed}
+use Rattle.text_sights.proofs.put_lefts.Goals as goal
+
+pub loop-i-init : goal.loop-i-init
+loop-i-init c = begun c.within-offset.ensures
+
+pub loop-i-preserved : goal.loop-i-preserved
+loop-i-preserved c =
+    passed c.loop-i.invariant c.loop-i-test.true c.put_left_at-offset.ensures
