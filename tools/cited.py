@@ -5,6 +5,8 @@ ROOT = os.path.join(os.path.dirname(os.path.abspath(__file__)), '..')
 SHEET = 'docs/EVIDENCE.md'
 COLUMNS = ('promise', 'rule', 'theorem', 'test', 'wrong variant')
 DEFINED = re.compile(r'^\s*(?:abbrev |unfoldable )?(?:pub )?(?:abbrev |unfoldable )?(?:pub )?(?:record |data )?([^\s:()]+)\s*(?:[({](?:[^(){}]|[({][^(){}]*[)}])*[)}]\s*)*:', re.M)
+# a clause may have a name
+ENSURES, REQUIRES = (re.compile(r'^\s*%s (?:\w+ )?\{' % word, re.M) for word in ('ensures', 'requires'))
 
 Row = collections.namedtuple('Row', 'section line title cells')  # cells: a column's words and the names that it cites
 
@@ -58,7 +60,7 @@ def promised(crate, name):
     """A function that promises something whatever it is called with, or with * the first of all exported ones, which all do."""
     every = functions(crate)
     names = [n for n, f in every.items() if 'extern "C"' in f[2]] if name == '*' else [name]
-    sound = [n for n in names if n in every and 'ensures {' in every[n][2] and 'requires {' not in every[n][2]]
+    sound = [n for n in names if n in every and ENSURES.search(every[n][2]) and not REQUIRES.search(every[n][2])]
     return every[sound[0]][:2] if sound and sound == names else None
 
 

@@ -1,8 +1,9 @@
 """A refused edit as a reader wants it: the function, its lines before and after in their place, and what the gate said. For tools/book."""
-import collections, glob, os, re
+import collections, functools, glob, hashlib, os, re
 
 import cited
 
+REFUSALS = 'target/refusals'  # tools/refusals makes it of the gate's log
 AROUND, WHOLE = 3, 18  # lines shown before and after a changed one; a function of so many is shown whole
 HEAD = re.compile(r'( *)(?:pub )?(?:extern "C" )?(?:fn|const|struct|enum|impl) (\w+)')
 Change = collections.namedtuple('Change', 'path function lines')  # lines: (mark, text), where a mark is ' ', '−', '+' or '·' for a gap
@@ -27,6 +28,8 @@ def edited(edit):
     """Each file that the edit changes: its path in the crate to its text before and after."""
     crate, texts = os.path.dirname(os.path.dirname(edit)), {}
     for path, old, new in replacements(edit):
+        if not os.path.exists(os.path.join(crate, path)):
+            raise ValueError('%s: there is no %s' % (edit, path))
         before, after = texts.get(path) or [cited.read(os.path.join(crate, path))] * 2
         if after.count(old) != 1:
             raise ValueError('%s: the old text stands %d times in %s' % (edit, after.count(old), path))
@@ -80,31 +83,46 @@ def changes(edit):
         yield Change(path, ', '.join(dict.fromkeys(function(path, old, at) for at in moved)), lines)
 
 
-def tried(edit, folder):
-    """Whether the gate's copy in the folder is the crate as it stands, with this edit."""
-    crate, texts = os.path.dirname(os.path.dirname(edit)), edited(edit)
+def sum_of(edit):
+    """A sum over what the gate tries: the crate as it stands, and the edit."""
+    crate, made = os.path.dirname(os.path.dirname(edit)), hashlib.sha256()
     for part in ('src', 'specs', 'proofs'):
-        here = {os.path.relpath(path, crate) for path in glob.glob('%s/%s/**/*.*' % (crate, part), recursive=True)}
-        there = {os.path.relpath(path, folder) for path in glob.glob('%s/%s/**/*.*' % (folder, part), recursive=True)}
-        if here != there or any(cited.read(os.path.join(folder, path)) != (texts[path][1] if path in texts else cited.read(os.path.join(crate, path))) for path in here):
-            return False
-    return True
+        for path in sorted(glob.glob('%s/%s/**/*.*' % (crate, part), recursive=True)):
+            made.update(('%s\n%s\n' % (path, cited.read(path))).encode())
+    made.update(cited.read(edit).encode())
+    return made.hexdigest()
+
+
+def refusals(log):
+    """What a gate's log says of each refused edit, as lines of target/refusals: crate and name, the sum, and the first error."""
+    for crate, label, words in re.findall(r'^rt: must-fail (\w+)/(\S+)\.edit: refused, as it must be(?: \(only [^)]*\))?: (.*)', log, re.M):
+        edit = 'crates/%s/must-fail/%s.edit' % (crate, label)
+        if os.path.isfile(edit):
+            yield '\t'.join(('%s/%s' % (crate, label), sum_of(edit), words))
+
+
+@functools.lru_cache(None)
+def kept():
+    """The lines of target/refusals: crate and name to sum and words; none where no gate has ended here."""
+    lines = [line.split('\t', 2) for line in cited.read(REFUSALS).split('\n')] if os.path.exists(REFUSALS) else []
+    return {line[0]: line[1:] for line in lines if len(line) == 3}
 
 
 def said(edit):
-    """What the gate said of the edit when it was last tried: its first error, and the functions that are not proved for it. None where
-    target/ has no such run, or one of another text."""
-    crate, label = edit.split('/')[1], os.path.basename(edit)[:-len('.edit')]
-    folder = 'target/must-fail/%s/%s' % (crate, label)
-    log = folder + '/.log'
-    if not os.path.exists(log) or not tried(edit, folder):
+    """What the gate said of the edit when it was last tried: its first error, and the function that is not proved for it. None where
+    there was no such run, or one of another text."""
+    made, words = kept().get(re.sub(r'crates/(.*)/must-fail/(.*)\.edit', r'\1/\2', edit), (None, ''))
+    first = re.match(r'(?:note: )?(?:\./)?(\S+?):(\d+):(\d+): (?:error(?:\[[\w-]+\])?: )?(.*)', words)
+    if not first or made != sum_of(edit):
         return None
-    text = cited.read(log)
-    first = re.search(r'^(\S+?:\d+:\d+): error: (.*)', text, re.M) or re.search(r'^note: (\S+?:\d+:\d+): (.*)', text, re.M)
-    unproved = re.findall(r'^fn \w+::(\S+): (?:not proved$|no proof)', text, re.M)
-    if not first:
-        return None
-    return Said(first.group(1).split('/%s/' % label, 1)[-1], sentence(first.group(2)), unproved)
+    path, line = first.group(1), int(first.group(2)) - 1
+    unproved = ''
+    if path.startswith('proofs/'):
+        unproved = path.split('/')[-2]
+    elif path.startswith('src/'):
+        lines = edited(edit)[path][1].split('\n') if path in edited(edit) else cited.read('crates/%s/%s' % (edit.split('/')[1], path)).split('\n')
+        unproved = function(path, lines, line) if line < len(lines) else ''
+    return Said('%s:%d:%s' % (path, line + 1, first.group(3)), sentence(first.group(4)), [unproved] if unproved else [])
 
 
 def sentence(words):

@@ -6,10 +6,11 @@ import collections, functools, glob, os, re
 import cited
 
 IMPORT = re.compile(r'(?:ghost |pub )*use ([^\s{]+?)(?:\.\{(.*)\}| as (\S+?))?;?$')
-OURS = re.compile(r'Rattle·(\w+?)(?:·\w+)?\.specs\.(rules|laws|notions|declared)\.(.+)$')
+IMPORTS = re.compile(r'\s*(?:ghost |pub )*use \S')
+OURS = re.compile(r'Rattle\.(\w+)\.specs\.(rules|laws|notions|declared)\.(.+)$')
 TYPE = re.compile(r'^ *(?:pub )?(?:struct|enum) (\w+)', re.M)
 BOUND = (r'[({]([^(){}:]+) : ', r'λ ([^.(λ]+)\.', r'let (\S+) = ', r'∀ ([^.(]+)\.')
-WORD = {'.antt': re.compile(r'[^\s(){}\[\];,λ«»⌜⌝]+'), '.rt': re.compile(r'λ|[^\W\d][\w′-]*(?:(?:::|\.)[^\W\d]\w*)?|[^\s\w(){}\[\];,.:«»⌜⌝&\'"]+')}
+WORD = {'.antt': re.compile(r'[^\s(){}\[\];,λ«»]+'), '.rt': re.compile(r'λ|[^\W\d][\w\']*(?:(?:::|\.)[^\W\d]\w*)?|[^\s\w(){}\[\];,.:«»&\'"]+')}
 
 File = collections.namedtuple('File', 'definitions cases')  # name to line; a case of a data type to the type's name
 
@@ -77,6 +78,21 @@ def lead(module, name):
     return lead(handed_on.group(1), name) if handed_on else None
 
 
+@functools.lru_cache(None)
+def imports(path):
+    """The lines of a file that import, each whole where its names are broken over several."""
+    found, begun = [], ''
+    for line in lines_of(path):
+        if begun or IMPORTS.match(line):
+            begun += ' ' * bool(begun) + line.strip()
+            if '{' not in begun or '}' in begun:
+                code = re.match(r'((?:pub )?use \w+::)\{(.*)\};$', begun)  # of another crate's code, a line for each name
+                parted = [code.group(1) + name + ';' for name in re.findall(r'\w+', code.group(2))] if code else []
+                found += parted or [re.sub(r'\{ (.*?),? \}', r'{\1}', begun)]
+                begun = ''
+    return found
+
+
 class Lost(Exception):
     """A name that is taken from a module which does not have it."""
 
@@ -95,8 +111,8 @@ def scope(path):
         for name, head in known.cases.items():
             words.update((part, (path, known.definitions[head])) for part in parts(name))
             cases.update(parts(name))
-    for line in lines_of(path):
-        found = IMPORT.match(line.strip())
+    for line in imports(path):
+        found = IMPORT.match(line)
         if not found:
             continue
         module, names, alias = found.groups()
@@ -110,14 +126,14 @@ def scope(path):
             if where is None:
                 raise Lost('%s: %s has no %s' % (path, module, name))
             words.update((part, where) for part in parts(here or name))
-            if isinstance(where, str) or 'the-variants' in module or not heads(where, name):
+            if isinstance(where, str) or 'TheVariants' in module or not heads(where, name):
                 cases.update(parts(here or name))
     return words, cases
 
 
 def parts(name):
     """The words with which a name is written: an operator's without its places."""
-    return [part for part in name.split('_') if part] if not name.startswith('«') else [name.strip('«»')]
+    return [part for part in name.split('◌') if part] if not name.startswith('«') else [name.strip('«»')]
 
 
 def heads(where, name):
@@ -157,8 +173,11 @@ def words(path, lines):
             word = match.group().rstrip('.:') or match.group()
             before, after = line[:match.start()].rstrip(' «'), line[match.end():].lstrip('»')
             label = after.startswith(' = ') and (before.endswith(('{', ';')) or not before and line.endswith(';'))
-            named = not (word in taken or label or match.group().startswith('.') or before.count('"') % 2)
+            whose = word.partition('.')[0]  # the value of which a field is taken
+            named = not (whose in taken or label or match.group().startswith('.') or before.count('"') % 2)
             where = found(known, word) if named else None
+            if where is None and named and whose:
+                word, where = whose, found(known, whose)
             if where is not None and (where, word) not in seen:
                 seen.add((where, word))
                 yield line[at:match.start()], None
