@@ -3,14 +3,14 @@
 #![tactic(auto)]
 
 ghost use Rattle.std.specs.Prelude.{◌≡◌};
-ghost use Rattle.quantity.specs.rules.Answer.{shown_two, shown_radians};
+ghost use Rattle.quantity.specs.rules.Answer.{checked, shown_two, shown};
 ghost use Rattle.aberr.specs.rules.Sun.{sol_aberr_of, sol_aberr_rule};
 ghost use Rattle.aberr.specs.rules.Star.{aberr_at, stell_aberr_refusal, stell_aberr_in_eq_coords_in, stell_aberr_in_eq_coords_rule};
 
 use aberr_args::Velocity;
 use elementary::Direction;
 use helpers::angle;
-use quantity::{Deg, EqPoint, Rad, Radians, Shift, Two};
+use quantity::{Deg, EqPoint, Rad, Refusal, Shift};
 
 // ---- the Sun (Meeus, chapter 25)
 
@@ -22,14 +22,11 @@ fn sol_aberr_of(dist: f64) -> Rad
 }
 
 // Solar aberration in ecliptic longitude. Given: the Sun's distance in AU. Refusals: 1; 5.
-pub fn sol_aberr(dist: f64) -> Radians
-    ensures { shown_radians result ≡ sol_aberr_rule dist }
+pub fn sol_aberr(dist: f64) -> Result<Rad, Refusal>
+    ensures { shown result ≡ sol_aberr_rule dist }
 {
-    let refusal = quantity::distance_refusal(dist);
-    if refusal != 0 {
-        return Radians::Refused(refusal);
-    }
-    Radians::Are(sol_aberr_of(dist))
+    quantity::distance_refusal(dist)?;
+    Ok(sol_aberr_of(dist))
 }
 
 // ---- a star (Ron and Vondrák; Meeus, chapter 23)
@@ -48,8 +45,8 @@ pub fn aberr_at(d: Direction, v: Velocity) -> Shift
 }
 
 // Refusals of a point and a day: 1; 2; 3; 4.
-fn stell_aberr_refusal(p: EqPoint, day: f64) -> u8
-    ensures { result ≡ stell_aberr_refusal p day }
+fn stell_aberr_refusal(p: EqPoint, day: f64) -> Result<(), Refusal>
+    ensures { checked result ≡ stell_aberr_refusal p day }
 {
     quantity::lower(
         quantity::lower(
@@ -68,13 +65,10 @@ fn stell_aberr_in(p: EqPoint, day: f64) -> Shift
 }
 
 // Stellar aberration in right ascension and declination, of a point on a day. Refusals: 1; 2; 3; 4 past 1.57 for declination.
-pub fn stell_aberr_in_eq_coords(stell_eq_point: EqPoint, day: f64) -> Two
+pub fn stell_aberr_in_eq_coords(stell_eq_point: EqPoint, day: f64) -> Result<(f64, f64), Refusal>
     ensures { shown_two result ≡ stell_aberr_in_eq_coords_rule stell_eq_point day }
 {
-    let refusal = stell_aberr_refusal(stell_eq_point, day);
-    if refusal != 0 {
-        return Two::Refused(refusal);
-    }
+    stell_aberr_refusal(stell_eq_point, day)?;
     let s = stell_aberr_in(stell_eq_point, day);
-    Two::Are(s.asc.0, s.dec.0)
+    Ok((s.asc.0, s.dec.0))
 }

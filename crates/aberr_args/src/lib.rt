@@ -36,7 +36,7 @@ pub fn arguments_at(t: f64) -> Arguments
     ensures { result ≡ arguments_of t }
 {
     Arguments {
-        t: t,
+        t,
         l2: Rad(3.1761467 + 1021.3285546 * t),
         l3: Rad(1.7534703 + 628.3075849 * t),
         l4: Rad(6.2034809 + 334.0612431 * t),

@@ -132,15 +132,13 @@ fn sum_over(table: [Row; 39], g: Arguments) -> Velocity
         z: 0.0,
     };
     let t = g.t;
-    let mut i: usize = 0;
-    while i < 36 {
+    for i in 0..36 {
         let x = table[i];
         let n = x.7 as usize;
         let a = aberr_args::sin_cos_in(x, g);
         let sine = a.sine;
         let cosine = a.cosine;
         v = aberr_args::with_terms(x, table[n], t, sine, cosine, v);
-        i += 1;
     }
     v
 }

@@ -7,27 +7,11 @@
 ghost use Rattle.std.specs.Prelude.{◌≤◌, length};
 
 use edition::Edition;
+use quantity::Deg;
 use std::env::FillError;
 use std::io::Read;
 use std::rt::Env;
-use text_date::{Moment, Reason};
-use text_degrees::ReadDegrees;
-use text_dut1::Dut1;
-use text_whole::{Signed, Unsigned};
-
-// An edition, or that the text names none.
-#[derive(Clone, Copy)]
-pub enum Named {
-    Is(Edition),
-    Unclear,
-}
-
-// Two days, or that one of them is none.
-#[derive(Clone, Copy)]
-pub enum Days {
-    Are(f64, f64),
-    Unclear,
-}
+use text_date::Reason;
 
 // ---- what is read
 
@@ -36,6 +20,7 @@ pub fn read(from: &mut impl Read, input: &mut [u8]) -> usize
     ensures { result ≤ length input.new }
 {
     let mut done = 0;
+    // It goes on by what a read brings, so that it is no `for` over the bytes.
     while done < input.len() {
         let n = read_more(from, &mut input[done..]);
         if n == 0 {
@@ -50,10 +35,7 @@ pub fn read(from: &mut impl Read, input: &mut [u8]) -> usize
 fn read_more(from: &mut impl Read, input: &mut [u8]) -> usize
     ensures { result ≤ length input.new }
 {
-    match from.read(input) {
-        Ok(n) => n,
-        Err(_) => 0,
-    }
+    from.read(input).unwrap_or(0)
 }
 
 // Reads descriptor 3 until the slice is full, the input ends or a read fails: nothing where it is not open. std reaches no descriptor by its
@@ -107,10 +89,7 @@ fn no_day(rt: &impl Env, err: &impl Print, name: &[u8], i: usize, reason: Reason
 fn put_argument(rt: &impl Env, text: &mut [u8], i: usize) -> usize
     ensures { result ≤ length text.new }
 {
-    match rt.arg(i, text) {
-        Ok(n) => n,
-        Err(_) => 0,
-    }
+    rt.arg(i, text).unwrap_or(0)
 }
 
 // Whether there is an argument i: 0 is the program's name.
@@ -133,110 +112,107 @@ pub fn count(rt: &impl Env) -> usize {
     usize::MAX
 }
 
+// What a reader makes of argument i.
+fn said<T, F: FnOnce(&[u8]) -> T>(rt: &impl Env, i: usize, read: F) -> T
+    requires { F.IsAlwaysCallable read }
+{
+    let mut text = [0u8; 64];
+    let n = put_argument(rt, &mut text, i);
+    read(&text[..n])
+}
+
 // Whether argument i is the word.
 pub fn is_argument(rt: &impl Env, i: usize, word: &[u8]) -> bool {
-    let mut text = [0u8; 64];
-    let n = put_argument(rt, &mut text, i);
-    text_word::is_word(&text[..n], word)
+    said(rt, i, |text| text_word::is_word(text, word))
 }
 
-// The number that argument i says.
-pub fn unsigned_of(rt: &impl Env, i: usize) -> Unsigned {
-    let mut text = [0u8; 64];
-    let n = put_argument(rt, &mut text, i);
-    text_whole::read_unsigned(&text[..n])
+// The number that argument i says, where it says one.
+pub fn unsigned_of(rt: &impl Env, i: usize) -> Option<u32> {
+    said(rt, i, text_whole::read_unsigned)
 }
 
-// The number with a sign that argument i says.
-pub fn signed_of(rt: &impl Env, i: usize) -> Signed {
-    let mut text = [0u8; 64];
-    let n = put_argument(rt, &mut text, i);
-    text_whole::read_signed(&text[..n])
+// The number with a sign that argument i says, where it says one.
+pub fn signed_of(rt: &impl Env, i: usize) -> Option<i32> {
+    said(rt, i, text_whole::read_signed)
 }
 
-// The milliseconds that argument i says.
-fn milliseconds_of(rt: &impl Env, i: usize) -> Dut1 {
-    let mut text = [0u8; 64];
-    let n = put_argument(rt, &mut text, i);
-    text_dut1::read(&text[..n])
+// The milliseconds that argument i says, where it says any.
+fn milliseconds_of(rt: &impl Env, i: usize) -> Option<i32> {
+    said(rt, i, text_dut1::read)
 }
 
-// The angle that argument i says.
-fn angle_of(rt: &impl Env, i: usize) -> ReadDegrees {
-    let mut text = [0u8; 64];
-    let n = put_argument(rt, &mut text, i);
-    text_degrees::read(&text[..n])
+// The angle that argument i says, where it says one.
+fn angle_of(rt: &impl Env, i: usize) -> Option<Deg> {
+    said(rt, i, text_degrees::read)
 }
 
 // The day that argument i says, where UT1 is so many milliseconds ahead of UTC.
-fn moment_of(rt: &impl Env, i: usize, dut1: i32) -> Moment {
-    let mut text = [0u8; 64];
-    let n = put_argument(rt, &mut text, i);
-    text_day::read(&text[..n], dut1)
+fn moment_of(rt: &impl Env, i: usize, dut1: i32) -> Result<f64, Reason> {
+    said(rt, i, |text| text_day::read(text, dut1))
 }
 
-// The edition that argument i says.
-fn named_of(rt: &impl Env, i: usize) -> Named {
+// The edition that argument i says, the crate's where there is none.
+fn named_of(rt: &impl Env, i: usize) -> Option<Edition> {
     if !has_argument(rt, i) {
-        return Named::Is(Edition::Crate);
+        return Some(Edition::Crate);
     }
     if is_argument(rt, i, b"published") {
-        return Named::Is(Edition::Published);
+        return Some(Edition::Published);
     }
-    Named::Unclear
+    None
 }
 
 // Whether argument i is a date, and so UTC: then a day that UT1 - UTC moves.
 pub fn is_date(rt: &impl Env, i: usize) -> bool {
-    match moment_of(rt, i, 0) {
-        Moment::Is(x) => match moment_of(rt, i, 900) {
-            Moment::Is(y) => x < y,
-            Moment::Not(_) => false,
-        },
-        Moment::Not(_) => false,
-    }
+    let Ok(x) = moment_of(rt, i, 0) else {
+        return false;
+    };
+    let Ok(y) = moment_of(rt, i, 900) else {
+        return false;
+    };
+    x < y
 }
 
 // ---- the same, where it is said of an argument that it is none, by its name
 
 // UT1 - UTC in milliseconds, behind `--dut1`.
-pub fn dut1_of(rt: &impl Env, err: &impl Print, i: usize) -> Dut1 {
-    match milliseconds_of(rt, i) {
-        Dut1::Is(n) => Dut1::Is(n),
-        Dut1::Unclear => {
-            say(
-                err,
-                b"--dut1: UT1 - UTC in seconds, at most 0.9 in size and three digits behind the point\n",
-            );
-            Dut1::Unclear
-        }
+pub fn dut1_of(rt: &impl Env, err: &impl Print, i: usize) -> Option<i32> {
+    let dut1 = milliseconds_of(rt, i);
+    if dut1.is_none() {
+        say(
+            err,
+            b"--dut1: UT1 - UTC in seconds, at most 0.9 in size and three digits behind the point\n",
+        );
     }
+    dut1
 }
 
 // An angle in degrees.
-pub fn degrees_of(rt: &impl Env, err: &impl Print, i: usize, name: &[u8]) -> ReadDegrees {
-    match angle_of(rt, i) {
-        ReadDegrees::Are(angle) => ReadDegrees::Are(angle),
-        ReadDegrees::Unclear => {
-            say(err, name);
-            say(
-                err,
-                b": degrees are digits with at most one point, no more than 2^53 without it, and a sign where wanted\n",
-            );
-            ReadDegrees::Unclear
-        }
+pub fn degrees_of(rt: &impl Env, err: &impl Print, i: usize, name: &[u8]) -> Option<Deg> {
+    let angle = angle_of(rt, i);
+    if angle.is_none() {
+        say(err, name);
+        say(
+            err,
+            b": degrees are digits with at most one point, no more than 2^53 without it, and a sign where wanted\n",
+        );
     }
+    angle
 }
 
 // A day, where UT1 is so many milliseconds ahead of UTC.
-pub fn day_of(rt: &impl Env, err: &impl Print, i: usize, name: &[u8], dut1: i32) -> Moment {
-    match moment_of(rt, i, dut1) {
-        Moment::Is(day) => Moment::Is(day),
-        Moment::Not(reason) => {
-            no_day(rt, err, name, i, reason);
-            Moment::Not(reason)
-        }
+pub fn day_of(
+    rt: &impl Env,
+    err: &impl Print,
+    i: usize,
+    name: &[u8],
+    dut1: i32,
+) -> Result<f64, Reason> {
+    let day = moment_of(rt, i, dut1);
+    if let Err(reason) = day {
+        no_day(rt, err, name, i, reason);
     }
+    day
 }
 
 // The day of a list's places, and another by its name, which alone is moved by UT1 - UTC.
@@ -247,24 +223,18 @@ pub fn days_of(
     second: usize,
     name: &[u8],
     dut1: i32,
-) -> Days {
-    let Moment::Is(day1) = day_of(rt, err, first, b"JD1", 0) else {
-        return Days::Unclear;
-    };
-    let Moment::Is(day2) = day_of(rt, err, second, name, dut1) else {
-        return Days::Unclear;
-    };
-    Days::Are(day1, day2)
+) -> Option<(f64, f64)> {
+    let day1 = day_of(rt, err, first, b"JD1", 0).ok()?;
+    let day2 = day_of(rt, err, second, name, dut1).ok()?;
+    Some((day1, day2))
 }
 
 // An edition: the crate's where there is no argument i.
-pub fn edition_of(rt: &impl Env, err: &impl Print, i: usize, name: &[u8]) -> Named {
-    match named_of(rt, i) {
-        Named::Is(edition) => Named::Is(edition),
-        Named::Unclear => {
-            say(err, name);
-            say(err, b": the edition is published, or not named\n");
-            Named::Unclear
-        }
+pub fn edition_of(rt: &impl Env, err: &impl Print, i: usize, name: &[u8]) -> Option<Edition> {
+    let edition = named_of(rt, i);
+    if edition.is_none() {
+        say(err, name);
+        say(err, b": the edition is published, or not named\n");
     }
+    edition
 }

@@ -3,25 +3,18 @@
 #![tactic(auto)]
 
 ghost use Rattle.std.specs.Prelude.{◌≡◌};
-ghost use Rattle.quantity.specs.rules.Answer.{shown_degrees};
-ghost use Rattle.atmos.specs.rules.Arcminutes.{shown_arcminutes, degrees_of};
+ghost use Rattle.quantity.specs.rules.Answer.{checked, shown};
+ghost use Rattle.atmos.specs.rules.Arcminutes.{degrees_of};
 ghost use Rattle.atmos.specs.rules.Refraction.{tangent_of_degrees, refrac_frm_apprnt_alt_of, refrac_frm_true_alt_of};
 ghost use Rattle.atmos.specs.rules.Refraction.{alt_refusal, refrac_frm_apprnt_alt_rule, refrac_frm_true_alt_rule};
 ghost use Rattle.atmos.specs.rules.Sight.{sight_alt_of, plan_alt_of, sight_alt_rule, plan_alt_rule};
 
 use helpers::angle;
-use quantity::{Deg, Degrees};
+use quantity::{Deg, Refusal};
 
 // An angle in minutes of arc. Nothing but a sixtieth makes degrees of it.
 #[derive(Clone, Copy)]
 pub struct Arcmin(pub f64);
-
-// An angle in minutes of arc, or a refusal.
-#[derive(Clone, Copy)]
-pub enum Arcminutes {
-    Are(Arcmin),
-    Refused(u8),
-}
 
 // Minutes of arc to degrees.
 fn degrees(x: Arcmin) -> Deg
@@ -54,40 +47,35 @@ fn refrac_frm_true_alt_of(h: Deg) -> Arcmin
 }
 
 // Refusals of an altitude in degrees: 1; 3 outside 0.0 to 89.8.
-fn alt_refusal(h: Deg) -> u8
-    ensures { result ≡ alt_refusal h }
+fn alt_refusal(h: Deg) -> Result<(), Refusal>
+    ensures { checked result ≡ alt_refusal h }
 {
     let x = h.0;
     if double::is_finite(x) {
-        if x < 0.0 {
-            return 3;
+        if x < 0.0 || 89.8 < x {
+            Err(Refusal::Angle)
+        } else {
+            Ok(())
         }
-        if 89.8 < x { 3 } else { 0 }
     } else {
-        1
+        Err(Refusal::NotFinite)
     }
 }
 
 // Refraction from the apparent altitude, by which a star stands too high. Refusals: 1; 3 outside 0.0 to 89.8.
-pub fn refrac_frm_apprnt_alt(apprnt_alt: Deg) -> Arcminutes
-    ensures { shown_arcminutes result ≡ refrac_frm_apprnt_alt_rule apprnt_alt }
+pub fn refrac_frm_apprnt_alt(apprnt_alt: Deg) -> Result<Arcmin, Refusal>
+    ensures { shown result ≡ refrac_frm_apprnt_alt_rule apprnt_alt }
 {
-    let refusal = alt_refusal(apprnt_alt);
-    if refusal != 0 {
-        return Arcminutes::Refused(refusal);
-    }
-    Arcminutes::Are(refrac_frm_apprnt_alt_of(apprnt_alt))
+    alt_refusal(apprnt_alt)?;
+    Ok(refrac_frm_apprnt_alt_of(apprnt_alt))
 }
 
 // Refraction from the true altitude, by which a star will stand too high. Refusals: 1; 3 outside 0.0 to 89.8.
-pub fn refrac_frm_true_alt(true_alt: Deg) -> Arcminutes
-    ensures { shown_arcminutes result ≡ refrac_frm_true_alt_rule true_alt }
+pub fn refrac_frm_true_alt(true_alt: Deg) -> Result<Arcmin, Refusal>
+    ensures { shown result ≡ refrac_frm_true_alt_rule true_alt }
 {
-    let refusal = alt_refusal(true_alt);
-    if refusal != 0 {
-        return Arcminutes::Refused(refusal);
-    }
-    Arcminutes::Are(refrac_frm_true_alt_of(true_alt))
+    alt_refusal(true_alt)?;
+    Ok(refrac_frm_true_alt_of(true_alt))
 }
 
 // ---- at the sight
@@ -107,23 +95,17 @@ fn plan_alt_of(h: Deg) -> Deg
 }
 
 // The true altitude of a star, from the altitude at which it was measured. Refusals: 1; 3 outside 0.0 to 89.8.
-pub fn sight_alt(apprnt_alt: Deg) -> Degrees
-    ensures { shown_degrees result ≡ sight_alt_rule apprnt_alt }
+pub fn sight_alt(apprnt_alt: Deg) -> Result<Deg, Refusal>
+    ensures { shown result ≡ sight_alt_rule apprnt_alt }
 {
-    let refusal = alt_refusal(apprnt_alt);
-    if refusal != 0 {
-        return Degrees::Refused(refusal);
-    }
-    Degrees::Are(sight_alt_of(apprnt_alt))
+    alt_refusal(apprnt_alt)?;
+    Ok(sight_alt_of(apprnt_alt))
 }
 
 // The altitude at which to look for a star, from the one that was computed. Refusals: 1; 3 outside 0.0 to 89.8.
-pub fn plan_alt(true_alt: Deg) -> Degrees
-    ensures { shown_degrees result ≡ plan_alt_rule true_alt }
+pub fn plan_alt(true_alt: Deg) -> Result<Deg, Refusal>
+    ensures { shown result ≡ plan_alt_rule true_alt }
 {
-    let refusal = alt_refusal(true_alt);
-    if refusal != 0 {
-        return Degrees::Refused(refusal);
-    }
-    Degrees::Are(plan_alt_of(true_alt))
+    alt_refusal(true_alt)?;
+    Ok(plan_alt_of(true_alt))
 }

@@ -10,8 +10,7 @@ use chain::Night;
 use edition::Edition;
 use list::Star;
 use list_tally::Tally;
-use quantity::Places;
-use star_store::Tallied;
+use quantity::{Places, Refusal};
 
 // Two stars' places under a night after so many years, side by side. Refusals of each: 10 for an empty place; 9 for a record out of range;
 // then 3 for a shifted declination past HALF in size; then 14, 7 and 4.
@@ -34,8 +33,8 @@ fn two_stars_under(first: Star, second: Star, night: Night, years: f64) -> Place
         second_asc: p.second_asc,
         first_dec: p.first_dec,
         second_dec: p.second_dec,
-        first_refusal: star_store::earlier(first_refusal, p.first_refusal),
-        second_refusal: star_store::earlier(second_refusal, p.second_refusal),
+        first_check: star_store::earlier(first_refusal, p.first_check),
+        second_check: star_store::earlier(second_refusal, p.second_check),
     }
 }
 
@@ -50,18 +49,16 @@ pub fn batch(
     status: &mut [u8],
     asc: &mut [u64],
     dec: &mut [u64],
-) -> Tallied
+) -> Result<Tally, Refusal>
     ensures { Batch edition bytes.now day1 day2 status.old asc.old dec.old result
         status.new asc.new dec.new }
 {
-    let refusal = star_store::store_refusal(bytes, day1, day2, status.len(), asc.len(), dec.len());
+    star_store::store_refusal(bytes, day1, day2, status.len(), asc.len(), dec.len())?;
     let mut tally = Tally::new();
-    if refusal != 0 {
-        return Tallied { refusal, tally };
-    }
     let night = chain::night_of(edition, day1, day2);
     let years = star_place::years_between(day1, day2);
     let n = list::count(bytes);
+    // Stays a counted loop: it goes on by two, and where it ends says which star is left over.
     let mut i = 0;
     while i + 1 < n {
         let j = i + 1;
@@ -71,7 +68,7 @@ pub fn batch(
             asc,
             dec,
             i,
-            p.first_refusal,
+            p.first_check,
             p.first_asc,
             p.first_dec,
             tally,
@@ -81,7 +78,7 @@ pub fn batch(
             asc,
             dec,
             j,
-            p.second_refusal,
+            p.second_check,
             p.second_asc,
             p.second_dec,
             tally,
@@ -96,11 +93,11 @@ pub fn batch(
             asc,
             dec,
             i,
-            p.first_refusal,
+            p.first_check,
             p.first_asc,
             p.first_dec,
             tally,
         );
     }
-    Tallied { refusal: 0, tally }
+    Ok(tally)
 }

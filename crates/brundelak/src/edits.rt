@@ -4,17 +4,13 @@ ghost use Rattle.brundelak.specs.rules.Edits.{HandedEdit};
 ghost use Rattle.brundelak.specs.rules.Stored.{fields};
 
 use list::Star;
-use list_edit::Edited;
 
 // The first record with the number zeroed. Refusals: 8; 10 (number 0, or no record has it).
 #[unsafe(no_mangle)]
 pub extern "C" fn brundelak_strike(bytes: &mut [u8], number: u32) -> u8
     ensures { HandedEdit (strike_rule bytes.old number) result bytes.old bytes.new }
 {
-    match list_edit::strike(bytes, number) {
-        Edited::Done => 0,
-        Edited::Refused(n) => n,
-    }
+    quantity::status_of(list_edit::strike(bytes, number))
 }
 
 // A star's record in the first empty place. Refusals: 8; 9 (number 0, or out of range); 18 (a record has the number); 19 (no place is empty).
@@ -36,10 +32,7 @@ pub extern "C" fn brundelak_add(
         asc_rate,
         dec_rate,
     };
-    match list_edit::add(bytes, star) {
-        Edited::Done => 0,
-        Edited::Refused(n) => n,
-    }
+    quantity::status_of(list_edit::add(bytes, star))
 }
 
 // The records whose number is not 0 brought forward, and zeros behind them. Refusals: 8.
@@ -47,8 +40,5 @@ pub extern "C" fn brundelak_add(
 pub extern "C" fn brundelak_gather(bytes: &mut [u8]) -> u8
     ensures { HandedEdit (gather_rule bytes.old) result bytes.old bytes.new }
 {
-    match list_edit::gather(bytes) {
-        Edited::Done => 0,
-        Edited::Refused(n) => n,
-    }
+    quantity::status_of(list_edit::gather(bytes))
 }

@@ -6,7 +6,7 @@ ghost use Rattle.elementary_arc.specs.rules.Arctangent.{arctangent_rule};
 ghost use Rattle.elementary_arc.specs.rules.Arcsine.{arcsine_rule};
 ghost use Rattle.root.specs.rules.Root.{root_rule};
 
-use brundelak_handed::{hand, hand_bits, hand_radians};
+use brundelak_handed::{hand, hand_radians, hand_value};
 use quantity::Rad;
 
 // The sine of an angle. Refusals: 1; 3 past 400000.0.
@@ -54,5 +54,5 @@ pub extern "C" fn brundelak_arcsine(s: f64, out: &mut u64) -> u8
 pub extern "C" fn brundelak_root(x: f64, out: &mut u64) -> u8
     ensures { Handed (root_rule x) result out.old out.new }
 {
-    hand_bits(root::square_root_bits(x), out)
+    hand_value(root::square_root_bits(x), out)
 }

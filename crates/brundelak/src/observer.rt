@@ -40,10 +40,7 @@ pub extern "C" fn brundelak_topocent_eq_coords(
         parallax::topocent_eq_coords(
             EqPoint { asc: asc, dec: dec },
             Rad(parallax),
-            GeographPoint {
-                long: long,
-                lat: lat,
-            },
+            GeographPoint { long, lat },
             height,
             Rad(sidereal),
         ),
@@ -79,10 +76,7 @@ pub extern "C" fn brundelak_topopcent_ecl_coords(
                 lat: ecl_lat,
             },
             Rad(parallax),
-            GeographPoint {
-                long: long,
-                lat: lat,
-            },
+            GeographPoint { long, lat },
             height,
             Rad(sidereal),
             Rad(oblq),
@@ -114,10 +108,7 @@ pub extern "C" fn brundelak_rise_culm_set(
         transit::rise_culm_set(
             EqPoint { asc: asc, dec: dec },
             Rad(sidereal),
-            GeographPoint {
-                long: long,
-                lat: lat,
-            },
+            GeographPoint { long, lat },
             Rad(alt),
         ),
         rise,

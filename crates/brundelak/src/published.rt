@@ -94,10 +94,7 @@ pub extern "C" fn brundelak_topopcent_ecl_coords_published(
                 lat: ecl_lat,
             },
             Rad(parallax),
-            GeographPoint {
-                long: long,
-                lat: lat,
-            },
+            GeographPoint { long, lat },
             height,
             Rad(sidereal),
             Rad(oblq),

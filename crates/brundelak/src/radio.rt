@@ -6,9 +6,8 @@ ghost use Rattle.brundelak.specs.rules.Put.{HandedNumber, HandedPut};
 ghost use Rattle.brundelak.specs.rules.Radio.{HandedOpened, HandedReceived};
 ghost use Rattle.brundelak.specs.rules.Stored.{fields};
 
-use lent::Written;
+use brundelak_handed::hand_value;
 use list::Star;
-use list_radio::{Accepted, Opened, Received};
 
 // How many stars, and the offset of the first. Refusals: 13 (empty); 11; 12 or 13 (the count); 8.
 #[unsafe(no_mangle)]
@@ -16,12 +15,12 @@ pub extern "C" fn brundelak_radio_open(bytes: &[u8], count: &mut u32, offset: &m
     ensures { HandedOpened (open_rule bytes.now) result count.old offset.old count.new offset.new }
 {
     match list_radio::open(bytes) {
-        Opened::Stars(stars, first) => {
+        Ok((stars, first)) => {
             *count = stars;
             *offset = first;
             0
         }
-        Opened::Refused(n) => n,
+        Err(refusal) => refusal.number(),
     }
 }
 
@@ -42,7 +41,7 @@ pub extern "C" fn brundelak_radio_star(
         (fields number.new asc.new dec.new asc_rate.new dec_rate.new) next.new }
 {
     match list_radio::star_at(bytes, offset) {
-        Received::Star(star, after) => {
+        Ok((star, after)) => {
             let d = star.dec;
             let u = star.asc_rate;
             let v = star.dec_rate;
@@ -54,7 +53,7 @@ pub extern "C" fn brundelak_radio_star(
             *next = after;
             0
         }
-        Received::Refused(n) => n,
+        Err(refusal) => refusal.number(),
     }
 }
 
@@ -63,13 +62,7 @@ pub extern "C" fn brundelak_radio_star(
 pub extern "C" fn brundelak_radio_accept(bytes: &[u8], count: &mut u32) -> u8
     ensures { HandedNumber (accept_rule bytes.now) result count.old count.new }
 {
-    match list_radio::accept(bytes) {
-        Accepted::Stars(stars) => {
-            *count = stars;
-            0
-        }
-        Accepted::Refused(n) => n,
-    }
+    hand_value(list_radio::accept(bytes), count)
 }
 
 // The head of a list from an offset of the slice on, and the offset after it. Refusals: 8 (the count); 8 (no room).
@@ -82,13 +75,7 @@ pub extern "C" fn brundelak_radio_put_head(
 ) -> u8
     ensures { HandedPut (head_text count) out.old offset result next.old out.new next.new }
 {
-    match list_radio::put_head(out, offset, count) {
-        Written::To(after) => {
-            *next = after;
-            0
-        }
-        Written::Refused(n) => n,
-    }
+    hand_value(list_radio::put_head(out, offset, count), next)
 }
 
 // A star from an offset of the slice on, and the offset after it. Refusals: 9; 8 (no room).
@@ -113,13 +100,7 @@ pub extern "C" fn brundelak_radio_put_star(
         asc_rate,
         dec_rate,
     };
-    match list_radio::put_star(out, offset, star) {
-        Written::To(after) => {
-            *next = after;
-            0
-        }
-        Written::Refused(n) => n,
-    }
+    hand_value(list_radio::put_star(out, offset, star), next)
 }
 
 // A radio list as a stored list, and how many bytes were written. Refusals: as of the whole list; 8 (a short slice).
@@ -127,13 +108,7 @@ pub extern "C" fn brundelak_radio_put_star(
 pub extern "C" fn brundelak_radio_to_list(bytes: &[u8], out: &mut [u8], written: &mut usize) -> u8
     ensures { HandedPut (to_list bytes.now) out.old 0 result written.old out.new written.new }
 {
-    match list_moves::radio_to_list(bytes, out) {
-        Written::To(size) => {
-            *written = size;
-            0
-        }
-        Written::Refused(n) => n,
-    }
+    hand_value(list_moves::radio_to_list(bytes, out), written)
 }
 
 // A stored list as a radio list, and how many bytes were written. Refusals: 8 (no list); 9; 8 (a short slice).
@@ -141,11 +116,5 @@ pub extern "C" fn brundelak_radio_to_list(bytes: &[u8], out: &mut [u8], written:
 pub extern "C" fn brundelak_list_to_radio(bytes: &[u8], out: &mut [u8], written: &mut usize) -> u8
     ensures { HandedPut (to_radio bytes.now) out.old 0 result written.old out.new written.new }
 {
-    match list_moves::list_to_radio(bytes, out) {
-        Written::To(size) => {
-            *written = size;
-            0
-        }
-        Written::Refused(n) => n,
-    }
+    hand_value(list_moves::list_to_radio(bytes, out), written)
 }

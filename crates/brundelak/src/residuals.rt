@@ -3,7 +3,7 @@ ghost use Rattle.residual_sheet.specs.rules.Residuals.{residuals_rule};
 ghost use Rattle.std.specs.Prelude.{◌≡◌};
 ghost use Rattle.brundelak.specs.rules.Residuals.{numbers_of, HandedSheets};
 
-use residual_sheet::{Sheet, Sheets};
+use residual_sheet::Sheet;
 
 // The six numbers of a sheet, in their order.
 pub fn numbers(s: Sheet) -> [i64; 6]
@@ -29,11 +29,11 @@ pub extern "C" fn brundelak_residuals(
         dec_sheet.new }
 {
     match residual_sheet::residuals(status, asc, dec, measured_asc, measured_dec) {
-        Sheets::Are(a, d) => {
+        Ok((a, d)) => {
             *asc_sheet = numbers(a);
             *dec_sheet = numbers(d);
             0
         }
-        Sheets::Refused(n) => n,
+        Err(refusal) => refusal.number(),
     }
 }

@@ -10,7 +10,6 @@ ghost use Rattle.brundelak.specs.rules.Sights.{HandedMean};
 use crate::residuals::numbers;
 use brundelak_handed::{hand_degrees, hand_three};
 use edition::Edition;
-use heading_mean::Mean;
 use quantity::{Deg, Rad};
 
 // A star's heading, azimuth and altitude, from its record. Refusals: 1; 2; 3; then 9; 3; 14; 7; 4; then 3; 4; 14; 7.
@@ -113,11 +112,11 @@ pub extern "C" fn brundelak_mean_heading(
         sheet.new }
 {
     match heading_mean::mean_heading(headings) {
-        Mean::Is(x, s) => {
+        Ok((x, s)) => {
             *mean = double::pattern(x.0);
             *sheet = numbers(s);
             0
         }
-        Mean::Refused(n) => n,
+        Err(refusal) => refusal.number(),
     }
 }

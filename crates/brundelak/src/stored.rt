@@ -4,13 +4,14 @@ ghost use Rattle.list.specs.rules.Find.{find_rule};
 ghost use Rattle.list.specs.rules.Reader.{read_rule};
 ghost use Rattle.list.specs.rules.Writer.{record_text};
 ghost use Rattle.brundelak.specs.rules.Put.{HandedPut};
+ghost use Rattle.star_store.specs.rules.Stored.{shown_tallied};
 ghost use Rattle.brundelak.specs.rules.Stored.{fields, HandedFound, HandedStar, HandedTally, HandedBatch, HandedRotated, HandedRaise};
 
+use brundelak_handed::hand_value;
 use edition::Edition;
-use lent::Written;
-use list::{Found, Star, Stored};
+use list::Star;
 use list_tally::Tally;
-use star_store::Tallied;
+use quantity::Refusal;
 
 // The first star with a number: its index and the record's other fields. Refusals: 8; 10 for number 0 too; 9.
 #[unsafe(no_mangle)]
@@ -28,7 +29,7 @@ pub extern "C" fn brundelak_find(
         dec_rate.new }
 {
     match list::find(bytes, number) {
-        Found::At(i, star) => {
+        Ok((i, star)) => {
             let d = star.dec;
             let u = star.asc_rate;
             let v = star.dec_rate;
@@ -39,7 +40,7 @@ pub extern "C" fn brundelak_find(
             *dec_rate = v;
             0
         }
-        Found::Refused(n) => n,
+        Err(refusal) => refusal.number(),
     }
 }
 
@@ -61,7 +62,7 @@ pub extern "C" fn brundelak_star(
         (fields number.new asc.new dec.new asc_rate.new dec_rate.new) next.new }
 {
     match list::star_at(bytes, offset) {
-        Stored::Next(star, after) => {
+        Ok(Some((star, after))) => {
             let d = star.dec;
             let u = star.asc_rate;
             let v = star.dec_rate;
@@ -73,8 +74,8 @@ pub extern "C" fn brundelak_star(
             *next = after;
             0
         }
-        Stored::End => 255,
-        Stored::Refused(n) => n,
+        Ok(None) => 255,
+        Err(refusal) => refusal.number(),
     }
 }
 
@@ -100,26 +101,21 @@ pub extern "C" fn brundelak_put_star(
         asc_rate,
         dec_rate,
     };
-    match list::put_star(out, offset, star) {
-        Written::To(after) => {
-            *next = after;
-            0
-        }
-        Written::Refused(n) => n,
-    }
+    hand_value(list::put_star(out, offset, star), next)
 }
 
-// The refusal of a call that stored its stars, with the counts of its tally handed over where there is none.
-fn hand_tally(tallied: Tallied, counts: &mut [u32; 20]) -> u8
-    ensures { HandedTally tallied result counts.old counts.new }
+// The status of a call that stored its stars, with the counts of its tally handed over where it is 0.
+fn hand_tally(tallied: Result<Tally, Refusal>, counts: &mut [u32; 20]) -> u8
+    ensures { HandedTally (shown_tallied tallied) result counts.old counts.new }
 {
-    if tallied.refusal != 0 {
-        return tallied.refusal;
+    match tallied {
+        Ok(tally) => {
+            let all = tally.counts;
+            *counts = all;
+            0
+        }
+        Err(refusal) => refusal.number(),
     }
-    let tally = tallied.tally;
-    let all = tally.counts;
-    *counts = all;
-    0
 }
 
 // The batch in an edition, with its counts handed over. Refusals: 1; 2; 8.
@@ -257,5 +253,5 @@ pub extern "C" fn brundelak_tally_raise(status: u8, counts: &mut [u32; 20]) -> u
     let after = raised.tally;
     let all = after.counts;
     *counts = all;
-    raised.refusal
+    quantity::status_of(raised.check)
 }

@@ -3,8 +3,8 @@
 // a day, by one division.
 #![tactic(auto)]
 
-ghost use Rattle.std.specs.Prelude.{◌≡◌, ◌-◌, ◌≤◌};
-ghost use Rattle.calendar.specs.rules.Date.{leap, month_length, days_before, days_before_year, Valid};
+ghost use Rattle.std.specs.Prelude.{◌≡◌, ◌<◌, ◌≤◌, IfSome};
+ghost use Rattle.calendar.specs.rules.Date.{leap, month_length, shown_length, days_before, days_before_year, Valid};
 ghost use Rattle.calendar.specs.rules.Julian.{millis_of, julian_of};
 ghost use Rattle.calendar.specs.rules.Number.{number_of, shown_number, number_rule};
 
@@ -16,12 +16,11 @@ pub struct Date {
     pub day: u8,
 }
 
-// A day number, or that there is no such month, or that the month has no such day.
-#[derive(Clone, Copy)]
-pub enum Number {
-    Is(u32),
-    NoMonth,
-    NoDay,
+// Why a date has no day number: there is no such month, or the month has no such day.
+#[derive(Clone, Copy, PartialEq, Eq)]
+pub enum Missing {
+    Month,
+    Day,
 }
 
 // ---- dates
@@ -39,23 +38,24 @@ fn is_leap(year: u16) -> bool
     year % 4 == 0
 }
 
-// The days of a month, 0 of one that there is not.
-fn month_length(leaps: bool, month: u8) -> u8
-    ensures { result ≡ month_length leaps month }
+// The days of a month, where there is such a month.
+fn month_length(leaps: bool, month: u8) -> Option<u8>
+    ensures says { shown_length result ≡ month_length leaps month }
+    ensures some { IfSome result (λ n. 0 < n) }
 {
     if month < 1 {
-        return 0;
+        return None;
     }
     if month > 12 {
-        return 0;
+        return None;
     }
     if month == 2 {
         if leaps {
-            return 29;
+            return Some(29);
         }
-        return 28;
+        return Some(28);
     }
-    30 + (month + month / 8) % 2
+    Some(30 + (month + month / 8) % 2)
 }
 
 // The days of a year before a month.
@@ -93,47 +93,36 @@ fn number_of(date: Date) -> u32
 }
 
 // The day number of a date.
-pub fn day_number(date: Date) -> Number
+pub fn day_number(date: Date) -> Result<u32, Missing>
     ensures { shown_number result ≡ number_rule date }
 {
     let year = date.year;
     let month = date.month;
     let day = date.day;
-    let most = month_length(is_leap(year), month);
-    if most == 0 {
-        return Number::NoMonth;
-    }
+    let Some(most) = month_length(is_leap(year), month) else {
+        return Err(Missing::Month);
+    };
     if day == 0 {
-        return Number::NoDay;
+        return Err(Missing::Day);
     }
     if day > most {
-        return Number::NoDay;
+        return Err(Missing::Day);
     }
-    Number::Is(number_of(date))
+    Ok(number_of(date))
 }
 
 // ---- times
-
-// a - b, or 0 where b is more.
-fn less(a: u64, b: u64) -> u64
-    ensures { result ≡ a - b }
-{
-    if a < b {
-        return 0;
-    }
-    a - b
-}
 
 // The milliseconds since the Julian day 0, which begins at noon; 0 before it.
 fn millis_of(number: u32, millis: u32, dut1: i32) -> u64
     ensures { result ≡ millis_of number millis dut1 }
 {
     let n = 86400000 * number as u64 + millis as u64;
-    let size = signed::size(dut1) as u64;
-    if signed::negative(dut1) {
-        return less(less(n, size), 43200000);
+    let size = dut1.unsigned_abs() as u64;
+    if dut1 < 0 {
+        return n.saturating_sub(size).saturating_sub(43200000);
     }
-    less(n + size, 43200000)
+    (n + size).saturating_sub(43200000)
 }
 
 // The Julian day so many milliseconds past the 0h of a day number, and so many more or less, as UT1 is ahead of UTC or behind it.

@@ -4,7 +4,7 @@
 #![tactic(auto)]
 
 ghost use Rattle.std.specs.Prelude.{◌≡◌};
-ghost use Rattle.quantity.specs.rules.Answer.{shown_two};
+ghost use Rattle.quantity.specs.rules.Answer.{checked, shown_two};
 ghost use Rattle.precess_angles.specs.rules.Days.{place_refusal};
 ghost use Rattle.chain.specs.rules.Obliquity.{mean_obliquity, mean_obliquity_of, true_obliquity};
 ghost use Rattle.chain.specs.rules.Chain.{point_refusal, angles_refusal, chain_rule};
@@ -17,7 +17,7 @@ use elementary::Direction;
 use helpers::{angle, time};
 use nutation_args::Nutations;
 use precess_angles::EqPrecession;
-use quantity::{Deg, EqPoint, Places, Rad, Shift, Two};
+use quantity::{Deg, EqPoint, Places, Rad, Refusal, Shift};
 
 // ---- the obliquity
 
@@ -47,8 +47,8 @@ pub fn true_obliquity(mean: Rad, nut_in_oblq: Rad) -> Rad
 
 // ---- the night
 
-// All that two days fix: precession, nutation, the sine and cosine of the true obliquity, the Earth's velocity, and the refusal of
-// the three angles that nutation goes by, 0 where there is none.
+// All that two days fix: precession, nutation, the sine and cosine of the true obliquity, the Earth's velocity, and whether the
+// three angles that nutation goes by are refused.
 #[derive(Clone, Copy)]
 pub struct Night {
     pub precession: EqPrecession,
@@ -56,12 +56,12 @@ pub struct Night {
     pub sin_oblq: f64,
     pub cos_oblq: f64,
     pub velocity: Velocity,
-    pub refusal: u8,
+    pub check: Result<(), Refusal>,
 }
 
 // Refusals of nutation in longitude and in obliquity and of the obliquity: 1; 3.
-fn angles_refusal(n: Nutations, oblq: Rad) -> u8
-    ensures { result ≡ angles_refusal n oblq }
+fn angles_refusal(n: Nutations, oblq: Rad) -> Result<(), Refusal>
+    ensures { checked result ≡ angles_refusal n oblq }
 {
     let in_long = n.long;
     let in_oblq = n.oblq;
@@ -80,12 +80,12 @@ fn night_from(precession: EqPrecession, n: Nutations, oblq: Rad, v: Velocity) ->
 {
     let e = elementary::sin_cos_of(oblq);
     Night {
-        precession: precession,
+        precession,
         nutation: n,
         sin_oblq: e.sine,
         cos_oblq: e.cosine,
         velocity: v,
-        refusal: angles_refusal(n, oblq),
+        check: angles_refusal(n, oblq),
     }
 }
 
@@ -106,12 +106,12 @@ pub fn night_of(edition: Edition, day1: f64, day2: f64) -> Night
 // ---- a star under a night
 
 // Refusals of a point whose declination goes into a tangent: 1; 3; 4. Most points are within both limits.
-fn point_refusal(p: EqPoint) -> u8
-    ensures { result ≡ point_refusal p }
+fn point_refusal(p: EqPoint) -> Result<(), Refusal>
+    ensures { checked result ≡ point_refusal p }
 {
     if double::size(p.asc) <= 64.0 {
         if double::size(p.dec) <= 1.57 {
-            return 0;
+            return Ok(());
         }
     }
     quantity::lower(
@@ -144,38 +144,35 @@ fn moved_under(p: EqPoint, d: Direction, night: Night) -> EqPoint
 }
 
 // A precessed point under a night. Refusals: 4.
-fn point_under(p: EqPoint, night: Night) -> Two
+fn point_under(p: EqPoint, night: Night) -> Result<(f64, f64), Refusal>
     ensures { shown_two result ≡ point_under p night }
 {
-    let refusal = quantity::lower(point_refusal(p), night.refusal);
-    if refusal != 0 {
-        return Two::Refused(refusal);
-    }
+    quantity::lower(point_refusal(p), night.check)?;
     let m = moved_under(p, elementary::toward(p), night);
-    Two::Are(m.asc, m.dec)
+    Ok((m.asc, m.dec))
 }
 
 // A star's place under a night, of a place that is not refused. Refusals: 14; 7; 4.
-pub fn place_under(asc: Rad, dec: Rad, night: Night) -> Two
+pub fn place_under(asc: Rad, dec: Rad, night: Night) -> Result<(f64, f64), Refusal>
     ensures { shown_two result ≡ place_under asc dec night }
 {
     let precession = night.precession;
-    match precess::precessed_in(asc, dec, precession) {
-        Two::Are(a, d) => point_under(EqPoint { asc: a, dec: d }, night),
-        Two::Refused(n) => Two::Refused(n),
-    }
+    let (a, d) = precess::precessed_in(asc, dec, precession)?;
+    point_under(EqPoint { asc: a, dec: d }, night)
 }
 
 // ---- two stars side by side under a night: both are worked out to the end, whatever is refused
 
-// The refusal of a star whose place was refused by a number, or else whose precessed point or whose night may be.
-fn next_refusal(refusal: u8, p: EqPoint, night_refusal: u8) -> u8
-    ensures { result ≡ next_refusal refusal p night_refusal }
+// A star's refusal: its place's, or else that of its precessed point or of the night.
+fn next_refusal(
+    place: Result<(), Refusal>,
+    p: EqPoint,
+    night: Result<(), Refusal>,
+) -> Result<(), Refusal>
+    ensures { checked result ≡ next_refusal (checked place) p (checked night) }
 {
-    if refusal != 0 {
-        return refusal;
-    }
-    quantity::lower(point_refusal(p), night_refusal)
+    place?;
+    quantity::lower(point_refusal(p), night)
 }
 
 // Two stars' places under a night, side by side, of places that are not refused. Refusals of each: 14; 7; 4.
@@ -189,7 +186,7 @@ pub fn two_places_under(
     ensures { result ≡ two_places_under first_asc first_dec second_asc second_dec night }
 {
     let precession = night.precession;
-    let night_refusal = night.refusal;
+    let night_check = night.check;
     let t = precess::precessed_two(first_asc, first_dec, second_asc, second_dec, precession);
     let p = EqPoint {
         asc: t.first_asc,
@@ -199,8 +196,8 @@ pub fn two_places_under(
         asc: t.second_asc,
         dec: t.second_dec,
     };
-    let first_refusal = next_refusal(t.first_refusal, p, night_refusal);
-    let second_refusal = next_refusal(t.second_refusal, q, night_refusal);
+    let first_check = next_refusal(t.first_check, p, night_check);
+    let second_check = next_refusal(t.second_check, q, night_check);
     let both = elementary::towards(p, q);
     let d = both.first;
     let e = both.second;
@@ -211,20 +208,23 @@ pub fn two_places_under(
         second_asc: n.asc,
         first_dec: m.dec,
         second_dec: n.dec,
-        first_refusal: first_refusal,
-        second_refusal: second_refusal,
+        first_check,
+        second_check,
     }
 }
 
 // ---- the chain
 
 // A star's place on the second day from its place on the first. Refusals: 1; 2; 3; then 14, 7, and 4 for the precessed declination.
-pub fn chain(edition: Edition, asc: Rad, dec: Rad, day1: f64, day2: f64) -> Two
+pub fn chain(
+    edition: Edition,
+    asc: Rad,
+    dec: Rad,
+    day1: f64,
+    day2: f64,
+) -> Result<(f64, f64), Refusal>
     ensures { shown_two result ≡ chain_rule edition asc dec day1 day2 }
 {
-    let refusal = precess_angles::place_refusal(asc, dec, day1, day2);
-    if refusal != 0 {
-        return Two::Refused(refusal);
-    }
+    precess_angles::place_refusal(asc, dec, day1, day2)?;
     place_under(asc, dec, night_of(edition, day1, day2))
 }

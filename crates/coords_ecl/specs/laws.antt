@@ -1,5 +1,4 @@
 -- What is proved of ecliptic coordinates, for callers to cite. Theorems only.
 pub mod Arguments
-pub mod Point
 pub mod Alone
 pub mod Wrong

@@ -3,20 +3,20 @@
 #![tactic(auto)]
 
 ghost use Rattle.std.specs.Prelude.{◌≡◌};
-ghost use Rattle.quantity.specs.rules.Answer.{shown_radians};
+ghost use Rattle.quantity.specs.rules.Answer.{checked, shown};
 ghost use Rattle.coords_gal.specs.rules.Arguments.{gal_refusal, steep_gal_refusal};
 ghost use Rattle.coords_gal.specs.rules.Galactic.{pole, round_pole, from_pole_asc, gal_long_in, gal_long_frm_eq_rule, gal_lat_in, gal_lat_frm_eq_rule};
 ghost use Rattle.coords_gal.specs.rules.Galactic.{from_pole_long, asc_frm_gal_in, asc_frm_gal_rule};
 
 use elementary::Folded;
 use helpers::angle;
-use quantity::{Deg, Rad, Radians};
+use quantity::{Deg, Rad, Refusal};
 
 // ---- refusals of the arguments, shared by the functions
 
 // A longitude and a latitude: 1; 3.
-fn gal_refusal(long: Rad, lat: Rad) -> u8
-    ensures { result ≡ gal_refusal long lat }
+fn gal_refusal(long: Rad, lat: Rad) -> Result<(), Refusal>
+    ensures { checked result ≡ gal_refusal long lat }
 {
     quantity::lower(
         quantity::angle_refusal(long),
@@ -25,8 +25,8 @@ fn gal_refusal(long: Rad, lat: Rad) -> u8
 }
 
 // The same where the latitude goes into a tangent: 1; 3; 4.
-fn steep_gal_refusal(long: Rad, lat: Rad) -> u8
-    ensures { result ≡ steep_gal_refusal long lat }
+fn steep_gal_refusal(long: Rad, lat: Rad) -> Result<(), Refusal>
+    ensures { checked result ≡ steep_gal_refusal long lat }
 {
     quantity::lower(quantity::angle_refusal(long), quantity::steep_refusal(lat))
 }
@@ -41,8 +41,8 @@ fn pole() -> Folded
 }
 
 // The angle round the pole, from an angle n at the pole and a latitude d.
-fn round_pole(n: Folded, d: Folded) -> Radians
-    ensures { shown_radians result ≡ round_pole n d }
+fn round_pole(n: Folded, d: Folded) -> Result<Rad, Refusal>
+    ensures { shown result ≡ round_pole n d }
 {
     let p = pole();
     elementary_arc::arctangent_in(n.sine(), p.sine() * n.cosine() - p.cosine() * d.tangent())
@@ -56,8 +56,8 @@ fn from_pole_asc(asc: Rad) -> Folded
 }
 
 // The galactic longitude of arguments that are not refused.
-fn gal_long_in(asc: Rad, dec: Rad) -> Radians
-    ensures { shown_radians result ≡ gal_long_in asc dec }
+fn gal_long_in(asc: Rad, dec: Rad) -> Result<Rad, Refusal>
+    ensures { shown result ≡ gal_long_in asc dec }
 {
     quantity::taken_from(
         angle::radians(Deg(303.0)),
@@ -66,19 +66,16 @@ fn gal_long_in(asc: Rad, dec: Rad) -> Radians
 }
 
 // The galactic longitude from equatorial coordinates. Refusals: 1; 3; 4 past 1.57 for declination; then 14 at the galactic pole.
-pub fn gal_long_frm_eq(asc: Rad, dec: Rad) -> Radians
-    ensures { shown_radians result ≡ gal_long_frm_eq_rule asc dec }
+pub fn gal_long_frm_eq(asc: Rad, dec: Rad) -> Result<Rad, Refusal>
+    ensures { shown result ≡ gal_long_frm_eq_rule asc dec }
 {
-    let refusal = steep_gal_refusal(asc, dec);
-    if refusal != 0 {
-        return Radians::Refused(refusal);
-    }
+    steep_gal_refusal(asc, dec)?;
     gal_long_in(asc, dec)
 }
 
 // The galactic latitude of arguments that are not refused.
-fn gal_lat_in(asc: Rad, dec: Rad) -> Radians
-    ensures { shown_radians result ≡ gal_lat_in asc dec }
+fn gal_lat_in(asc: Rad, dec: Rad) -> Result<Rad, Refusal>
+    ensures { shown result ≡ gal_lat_in asc dec }
 {
     let n = from_pole_asc(asc);
     let p = pole();
@@ -87,13 +84,10 @@ fn gal_lat_in(asc: Rad, dec: Rad) -> Radians
 }
 
 // The galactic latitude from equatorial coordinates. Refusals: 1; 3; then 7.
-pub fn gal_lat_frm_eq(asc: Rad, dec: Rad) -> Radians
-    ensures { shown_radians result ≡ gal_lat_frm_eq_rule asc dec }
+pub fn gal_lat_frm_eq(asc: Rad, dec: Rad) -> Result<Rad, Refusal>
+    ensures { shown result ≡ gal_lat_frm_eq_rule asc dec }
 {
-    let refusal = gal_refusal(asc, dec);
-    if refusal != 0 {
-        return Radians::Refused(refusal);
-    }
+    gal_refusal(asc, dec)?;
     gal_lat_in(asc, dec)
 }
 
@@ -105,8 +99,8 @@ fn from_pole_long(long: Rad) -> Folded
 }
 
 // The right ascension of arguments that are not refused.
-fn asc_frm_gal_in(long: Rad, lat: Rad) -> Radians
-    ensures { shown_radians result ≡ asc_frm_gal_in long lat }
+fn asc_frm_gal_in(long: Rad, lat: Rad) -> Result<Rad, Refusal>
+    ensures { shown result ≡ asc_frm_gal_in long lat }
 {
     quantity::added_to(
         angle::radians(Deg(12.25)),
@@ -115,12 +109,9 @@ fn asc_frm_gal_in(long: Rad, lat: Rad) -> Radians
 }
 
 // The right ascension from galactic coordinates. Refusals: 1; 3; 4 past 1.57 for latitude; then 14 at the celestial pole.
-pub fn asc_frm_gal(gal_long: Rad, gal_lat: Rad) -> Radians
-    ensures { shown_radians result ≡ asc_frm_gal_rule gal_long gal_lat }
+pub fn asc_frm_gal(gal_long: Rad, gal_lat: Rad) -> Result<Rad, Refusal>
+    ensures { shown result ≡ asc_frm_gal_rule gal_long gal_lat }
 {
-    let refusal = steep_gal_refusal(gal_long, gal_lat);
-    if refusal != 0 {
-        return Radians::Refused(refusal);
-    }
+    steep_gal_refusal(gal_long, gal_lat)?;
     asc_frm_gal_in(gal_long, gal_lat)
 }

@@ -3,8 +3,6 @@
 #![tactic(auto)]
 
 use std::rt::Env;
-use text_date::Moment;
-use text_dut1::Dut1;
 
 // The text of a day, which may say that UT1 is taken for UTC.
 fn print(rt: &impl Print, err: &impl Print, day: f64, utc: bool) {
@@ -15,7 +13,7 @@ fn print(rt: &impl Print, err: &impl Print, day: f64, utc: bool) {
 
 // The day of argument i.
 fn print_day(rt: &(impl Env + Print), err: &impl Print, i: usize, dut1: i32, utc: bool) {
-    let Moment::Is(day) = arguments::day_of(rt, err, i, b"DATE", dut1) else {
+    let Ok(day) = arguments::day_of(rt, err, i, b"DATE", dut1) else {
         return;
     };
     print(rt, err, day, utc);
@@ -24,7 +22,7 @@ fn print_day(rt: &(impl Env + Print), err: &impl Print, i: usize, dut1: i32, utc
 fn main(rt: HostRuntime) {
     let err = rt.stderr();
     if arguments::is_argument(&rt, 1, b"--dut1") {
-        let Dut1::Is(dut1) = arguments::dut1_of(&rt, &err, 2) else {
+        let Some(dut1) = arguments::dut1_of(&rt, &err, 2) else {
             return;
         };
         print_day(&rt, &err, 3, dut1, false);

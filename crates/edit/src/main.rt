@@ -10,16 +10,8 @@ ghost use Rattle.list.specs.rules.Find.{index_of};
 ghost use Rattle.list_edit.specs.rules.Edit.{add_rule, with_room, Edit};
 
 use list::Star;
-use list_edit::Edited;
+use quantity::Refusal;
 use std::rt::Env;
-use text_whole::{Signed, Unsigned};
-
-// A star, or the first argument that is no number.
-#[derive(Clone, Copy)]
-enum Given {
-    Is(Star),
-    Unclear(usize),
-}
 
 // ---- what is said
 
@@ -31,13 +23,13 @@ fn complain(err: &impl Print, i: usize) {
 }
 
 // The line of a refusal: of which star, where the call has several.
-fn refuse(err: &impl Print, n: u8, several: bool, number: u32) {
+fn refuse(err: &impl Print, refusal: Refusal, several: bool, number: u32) {
     if !several {
-        arguments::refuse(err, n);
+        arguments::refuse(err, refusal.number());
         return;
     }
     arguments::say(err, b"refused ");
-    arguments::say_number(err, n as u64);
+    arguments::say_number(err, refusal.number() as u64);
     arguments::say(err, b": number ");
     arguments::say_number(err, number as u64);
     arguments::say(err, b"\n");
@@ -47,14 +39,14 @@ fn refuse(err: &impl Print, n: u8, several: bool, number: u32) {
 
 // The star struck whose number argument i says, and whether it was.
 fn strike_one(rt: &impl Env, err: &impl Print, bytes: &mut [u8], i: usize, several: bool) -> bool {
-    let Unsigned::Is(number) = arguments::unsigned_of(rt, i) else {
+    let Some(number) = arguments::unsigned_of(rt, i) else {
         complain(err, i);
         return false;
     };
     match list_edit::strike(bytes, number) {
-        Edited::Done => true,
-        Edited::Refused(n) => {
-            refuse(err, n, several, number);
+        Ok(()) => true,
+        Err(refusal) => {
+            refuse(err, refusal, several, number);
             false
         }
     }
@@ -64,12 +56,10 @@ fn strike_one(rt: &impl Env, err: &impl Print, bytes: &mut [u8], i: usize, sever
 fn strike_all(rt: &impl Env, err: &impl Print, bytes: &mut [u8]) -> bool {
     let n = arguments::count(rt);
     let several = n > 3;
-    let mut i = 2;
-    while i < n {
+    for i in 2..n {
         if !strike_one(rt, err, bytes, i, several) {
             return false;
         }
-        i += 1;
     }
     true
 }
@@ -77,7 +67,7 @@ fn strike_all(rt: &impl Env, err: &impl Print, bytes: &mut [u8]) -> bool {
 // The list without the stars.
 fn strike(rt: &(impl Env + Print), err: &impl Print, bytes: &mut [u8]) {
     if !list::is_list(bytes) {
-        arguments::refuse(err, 8);
+        arguments::refuse(err, Refusal::List.number());
         return;
     }
     if strike_all(rt, err, bytes) {
@@ -87,34 +77,29 @@ fn strike(rt: &(impl Env + Print), err: &impl Print, bytes: &mut [u8]) {
 
 // ---- add
 
-// The star that the arguments from the third on say.
-fn star_of(rt: &impl Env) -> Given {
-    let Unsigned::Is(number) = arguments::unsigned_of(rt, 3) else {
-        return Given::Unclear(3);
-    };
-    let Unsigned::Is(asc) = arguments::unsigned_of(rt, 4) else {
-        return Given::Unclear(4);
-    };
-    let Signed::Is(dec) = arguments::signed_of(rt, 5) else {
-        return Given::Unclear(5);
-    };
-    let Signed::Is(asc_rate) = arguments::signed_of(rt, 6) else {
-        return Given::Unclear(6);
-    };
-    let Signed::Is(dec_rate) = arguments::signed_of(rt, 7) else {
-        return Given::Unclear(7);
-    };
-    Given::Is(Star {
-        number: number,
-        asc: asc,
-        dec: dec,
-        asc_rate: asc_rate,
-        dec_rate: dec_rate,
+// The number that argument i says, or i where it says none.
+fn unsigned_at(rt: &impl Env, i: usize) -> Result<u32, usize> {
+    arguments::unsigned_of(rt, i).ok_or(i)
+}
+
+// The number with a sign that argument i says, or i where it says none.
+fn signed_at(rt: &impl Env, i: usize) -> Result<i32, usize> {
+    arguments::signed_of(rt, i).ok_or(i)
+}
+
+// The star that the arguments from the third on say, or the first of them that is no number.
+fn star_of(rt: &impl Env) -> Result<Star, usize> {
+    Ok(Star {
+        number: unsigned_at(rt, 3)?,
+        asc: unsigned_at(rt, 4)?,
+        dec: signed_at(rt, 5)?,
+        asc_rate: signed_at(rt, 6)?,
+        dec_rate: signed_at(rt, 7)?,
     })
 }
 
 // The star added to the list of the first n bytes, with empty places behind it up to the end.
-fn add_with_room(bytes: &mut [u8], n: usize, star: Star) -> Edited
+fn add_with_room(bytes: &mut [u8], n: usize, star: Star) -> Result<(), Refusal>
     ensures { n ≤ length bytes.old → Edit (add_rule (with_room bytes.old n) star)
         (with_room bytes.old n) bytes.new result }
 {
@@ -125,11 +110,11 @@ fn add_with_room(bytes: &mut [u8], n: usize, star: Star) -> Edited
 // The list of the first n bytes, and room behind it to the end, with the star.
 fn add_star(rt: &impl Print, err: &impl Print, bytes: &mut [u8], n: usize, star: Star) {
     match add_with_room(bytes, n, star) {
-        Edited::Done => {
+        Ok(()) => {
             arguments::write(rt, err, bytes);
         }
-        Edited::Refused(k) => {
-            arguments::refuse(err, k);
+        Err(refusal) => {
+            arguments::refuse(err, refusal.number());
         }
     }
 }
@@ -138,7 +123,7 @@ fn add_star(rt: &impl Print, err: &impl Print, bytes: &mut [u8], n: usize, star:
 fn add_in(rt: &impl Print, err: &impl Print, bytes: &mut [u8], n: usize, room: u32, star: Star) {
     let size = room as usize * list::WIDTH;
     if !lent::has_room(bytes.len(), n, size) {
-        arguments::refuse(err, 8);
+        arguments::refuse(err, Refusal::List.number());
         return;
     }
     add_star(rt, err, &mut bytes[..n + size], n, star);
@@ -146,15 +131,15 @@ fn add_in(rt: &impl Print, err: &impl Print, bytes: &mut [u8], n: usize, room: u
 
 // The same with the room and the star that the arguments say.
 fn add(rt: &(impl Env + Print), err: &impl Print, bytes: &mut [u8], n: usize) {
-    let Unsigned::Is(room) = arguments::unsigned_of(rt, 2) else {
+    let Some(room) = arguments::unsigned_of(rt, 2) else {
         complain(err, 2);
         return;
     };
     match star_of(rt) {
-        Given::Is(star) => {
+        Ok(star) => {
             add_in(rt, err, bytes, n, room, star);
         }
-        Given::Unclear(i) => {
+        Err(i) => {
             complain(err, i);
         }
     }
@@ -175,12 +160,12 @@ fn printed(bytes: &[u8], cut: bool) -> usize
 // The list gathered.
 fn gather(rt: &impl Print, err: &impl Print, bytes: &mut [u8], cut: bool) {
     match list_edit::gather(bytes) {
-        Edited::Done => {
+        Ok(()) => {
             let k = printed(bytes, cut);
             arguments::write(rt, err, &bytes[..k]);
         }
-        Edited::Refused(k) => {
-            arguments::refuse(err, k);
+        Err(refusal) => {
+            arguments::refuse(err, refusal.number());
         }
     }
 }

@@ -3,14 +3,14 @@
 #![tactic(auto)]
 
 ghost use Rattle.std.specs.Prelude.{◌≡◌};
-ghost use Rattle.quantity.specs.rules.Answer.{shown_radians};
+ghost use Rattle.quantity.specs.rules.Answer.{checked, shown};
 ghost use Rattle.root.specs.rules.Root.{root_of};
 ghost use Rattle.elementary_arc.specs.rules.Series.{arctangent_series};
 ghost use Rattle.elementary_arc.specs.rules.Arctangent.{atn, base, supplement_if, arctangent_of, both_zero, arctangent_in, arctangent_refusal, arctangent_rule};
 ghost use Rattle.elementary_arc.specs.rules.Level.{lesser_over, reduced, base_from, arc_by_signs, arctangents_of};
 ghost use Rattle.elementary_arc.specs.rules.Arcsine.{square, arcsine_in, arcsine_rule};
 
-use quantity::{HALF, PI, QUARTER, Rad, Radians};
+use quantity::{HALF, PI, QUARTER, Rad, Refusal};
 
 // The entries of A: 1/n.
 const A41: f64 = 0.024390243902439025;
@@ -135,13 +135,13 @@ pub fn both_zero(y: f64, x: f64) -> bool
 }
 
 // The arctangent as other functions use it. Refusals, which callers hand on: 14 where both are zero.
-pub fn arctangent_in(y: f64, x: f64) -> Radians
-    ensures { shown_radians result ≡ arctangent_in y x }
+pub fn arctangent_in(y: f64, x: f64) -> Result<Rad, Refusal>
+    ensures { shown result ≡ arctangent_in y x }
 {
     if both_zero(y, x) {
-        return Radians::Refused(14);
+        return Err(Refusal::NoDirection);
     }
-    Radians::Are(arctangent_of(y, x))
+    Ok(arctangent_of(y, x))
 }
 
 // ---- two arctangents side by side: nothing branches, so that the compiler works on both at once
@@ -196,20 +196,17 @@ pub fn arctangents_of(y: f64, x: f64, z: f64, w: f64) -> Arctangents
 // ---- called alone
 
 // Refusals of the arctangent's arguments: 1.
-fn arctangent_refusal(y: f64, x: f64) -> u8
-    ensures { result ≡ arctangent_refusal y x }
+fn arctangent_refusal(y: f64, x: f64) -> Result<(), Refusal>
+    ensures { checked result ≡ arctangent_refusal y x }
 {
     quantity::lower(quantity::number_refusal(y), quantity::number_refusal(x))
 }
 
 // The arctangent of (y, x), called alone. Refusals: 1; 14 where both are zero.
-pub fn arctangent(y: f64, x: f64) -> Radians
-    ensures { shown_radians result ≡ arctangent_rule y x }
+pub fn arctangent(y: f64, x: f64) -> Result<Rad, Refusal>
+    ensures { shown result ≡ arctangent_rule y x }
 {
-    let refusal = arctangent_refusal(y, x);
-    if refusal != 0 {
-        return Radians::Refused(refusal);
-    }
+    arctangent_refusal(y, x)?;
     arctangent_in(y, x)
 }
 
@@ -222,27 +219,24 @@ pub fn arcsine_root(s: f64) -> f64
 
 // The arcsine as other functions use it: base with the sign of s, since the root bears no minus sign. Refusals, which callers hand on:
 // 7 where s exceeds 1 in size, 1 of a NaN; never 14.
-pub fn arcsine_in(s: f64) -> Radians
-    ensures { shown_radians result ≡ arcsine_in s }
+pub fn arcsine_in(s: f64) -> Result<Rad, Refusal>
+    ensures { shown result ≡ arcsine_in s }
 {
     let a = double::size(s);
     if a <= 1.0 {
         let b = base(a, arcsine_root(s));
-        return Radians::Are(Rad(double::negated_if(double::bears_minus(s), b)));
+        return Ok(Rad(double::negated_if(double::bears_minus(s), b)));
     }
     if 1.0 < a {
-        return Radians::Refused(7);
+        return Err(Refusal::Arcsine);
     }
-    Radians::Refused(1)
+    Err(Refusal::NotFinite)
 }
 
 // The arcsine of s, called alone. Refusals: 1; 7 where s exceeds 1 in size.
-pub fn arcsine(s: f64) -> Radians
-    ensures { shown_radians result ≡ arcsine_rule s }
+pub fn arcsine(s: f64) -> Result<Rad, Refusal>
+    ensures { shown result ≡ arcsine_rule s }
 {
-    let refusal = quantity::number_refusal(s);
-    if refusal != 0 {
-        return Radians::Refused(refusal);
-    }
+    quantity::number_refusal(s)?;
     arcsine_in(s)
 }

@@ -4,7 +4,7 @@
 #![tactic(auto)]
 
 ghost use Rattle.std.specs.Prelude.{◌≡◌};
-ghost use Rattle.quantity.specs.rules.Answer.{shown_two, shown_three, shown_degrees};
+ghost use Rattle.quantity.specs.rules.Answer.{checked, shown_two, shown_three, shown};
 ghost use Rattle.chain.specs.rules.Obliquity.{mean_obliquity_of};
 ghost use Rattle.batch.specs.rules.Star.{star_under};
 ghost use Rattle.sidereal.specs.rules.Mean.{mean_of};
@@ -18,7 +18,7 @@ use edition::Edition;
 use helpers::circle;
 use list::Star;
 use nutation_args::Nutations;
-use quantity::{Deg, Degrees, Rad, Radians, Three, Two};
+use quantity::{Deg, Rad, Refusal};
 
 // ---- a star in the sky
 
@@ -30,57 +30,54 @@ fn northward(az: Deg) -> Deg
 }
 
 // Heading, azimuth and altitude in degrees, from azimuth and altitude.
-fn bearings(az: Rad, alt: Rad) -> Three
+fn bearings(az: Rad, alt: Rad) -> Result<(f64, f64, f64), Refusal>
     ensures { shown_three result ≡ bearings az alt }
 {
     let az_degrees = units::to_degrees(az);
     let alt_degrees = units::to_degrees(alt);
     let heading = northward(az_degrees);
-    Three::Are(heading.0, az_degrees.0, alt_degrees.0)
+    Ok((heading.0, az_degrees.0, alt_degrees.0))
 }
 
 // The same from the azimuth and what the altitude is worked out of. Refusals: 1; 3; then 7.
-fn sky_from(az: Rad, hour_angle: Rad, dec: Rad, lat: Rad) -> Three
+fn sky_from(az: Rad, hour_angle: Rad, dec: Rad, lat: Rad) -> Result<(f64, f64, f64), Refusal>
     ensures { shown_three result ≡ sky_from az hour_angle dec lat }
 {
-    match coords::alt_frm_eq(hour_angle, dec, lat) {
-        Radians::Are(alt) => bearings(az, alt),
-        Radians::Refused(n) => Three::Refused(n),
-    }
+    let alt = coords::alt_frm_eq(hour_angle, dec, lat)?;
+    bearings(az, alt)
 }
 
 // Heading, azimuth and altitude in degrees, from the hour angle, the declination and the observer's latitude. Refusals: 1; 3; 4; then 14;
 // then 7.
-pub fn sky_in(hour_angle: Rad, dec: Rad, lat: Rad) -> Three
+pub fn sky_in(hour_angle: Rad, dec: Rad, lat: Rad) -> Result<(f64, f64, f64), Refusal>
     ensures { shown_three result ≡ sky_in hour_angle dec lat }
 {
-    match coords::az_frm_eq(hour_angle, dec, lat) {
-        Radians::Are(az) => sky_from(az, hour_angle, dec, lat),
-        Radians::Refused(n) => Three::Refused(n),
-    }
+    let az = coords::az_frm_eq(hour_angle, dec, lat)?;
+    sky_from(az, hour_angle, dec, lat)
 }
 
 // The same from the sidereal time at Greenwich, the star's place, and the observer's. Refusals: 1; 3; then those of `sky_in`.
-pub fn sky_under(sidereal: Rad, asc: Rad, dec: Rad, long: Rad, lat: Rad) -> Three
+pub fn sky_under(
+    sidereal: Rad,
+    asc: Rad,
+    dec: Rad,
+    long: Rad,
+    lat: Rad,
+) -> Result<(f64, f64, f64), Refusal>
     ensures { shown_three result ≡ sky_under sidereal asc dec long lat }
 {
-    match coords::hr_angl_frm_observer_long(sidereal, long, asc) {
-        Radians::Are(h) => sky_in(h, dec, lat),
-        Radians::Refused(n) => Three::Refused(n),
-    }
+    let h = coords::hr_angl_frm_observer_long(sidereal, long, asc)?;
+    sky_in(h, dec, lat)
 }
 
 // ---- a star by its record
 
 // A star's place under a night after so many years, as the batch has it. Refusals: 10; 9; 3; then 14, 7 and 4.
-fn star_under(star: Star, night: Night, years: f64) -> Two
+fn star_under(star: Star, night: Night, years: f64) -> Result<(f64, f64), Refusal>
     ensures { shown_two result ≡ star_under star night years }
 {
     let dec = star_place::dec_of(star, years);
-    let refusal = star_store::star_refusal(star, dec);
-    if refusal != 0 {
-        return Two::Refused(refusal);
-    }
+    star_store::star_refusal(star, dec)?;
     chain::place_under(star_place::asc_of(star, years), dec, night)
 }
 
@@ -92,8 +89,8 @@ fn sidereal_with(n: Nutations, day: f64) -> Rad
 }
 
 // Refusals of the days and the observer's place: 1; 2; 3.
-fn heading_refusal(day1: f64, day2: f64, long: Rad, lat: Rad) -> u8
-    ensures { result ≡ heading_refusal day1 day2 long lat }
+fn heading_refusal(day1: f64, day2: f64, long: Rad, lat: Rad) -> Result<(), Refusal>
+    ensures { checked result ≡ heading_refusal day1 day2 long lat }
 {
     quantity::lower(
         precess_angles::days_refusal(day1, day2),
@@ -105,15 +102,20 @@ fn heading_refusal(day1: f64, day2: f64, long: Rad, lat: Rad) -> u8
 }
 
 // A star's heading, azimuth and altitude, of days and a place that are not refused. Nutation is worked out once, with the night.
-fn heading_in(edition: Edition, star: Star, day1: f64, day2: f64, long: Rad, lat: Rad) -> Three
+fn heading_in(
+    edition: Edition,
+    star: Star,
+    day1: f64,
+    day2: f64,
+    long: Rad,
+    lat: Rad,
+) -> Result<(f64, f64, f64), Refusal>
     ensures { shown_three result ≡ heading_under edition star day1 day2 long lat }
 {
     let night = chain::night_of(edition, day1, day2);
     let nutations = night.nutation;
-    match star_under(star, night, star_place::years_between(day1, day2)) {
-        Two::Are(a, d) => sky_under(sidereal_with(nutations, day2), Rad(a), Rad(d), long, lat),
-        Two::Refused(n) => Three::Refused(n),
-    }
+    let (a, d) = star_under(star, night, star_place::years_between(day1, day2))?;
+    sky_under(sidereal_with(nutations, day2), Rad(a), Rad(d), long, lat)
 }
 
 // A star's true heading, its azimuth, from south and west positive, and its altitude, in degrees. Given: its record, in milliarcseconds,
@@ -129,13 +131,10 @@ pub fn heading(
     day2: f64,
     long: Rad,
     lat: Rad,
-) -> Three
+) -> Result<(f64, f64, f64), Refusal>
     ensures { shown_three result ≡ heading_rule edition asc dec asc_rate dec_rate day1 day2 long lat }
 {
-    let refusal = heading_refusal(day1, day2, long, lat);
-    if refusal != 0 {
-        return Three::Refused(refusal);
-    }
+    heading_refusal(day1, day2, long, lat)?;
     let star = Star {
         number: 1,
         asc,
@@ -149,8 +148,8 @@ pub fn heading(
 // ---- a mark
 
 // Refusals of a heading and two readings: 1; 3.
-fn mark_refusal(heading: Deg, star_reading: Deg, mark_reading: Deg) -> u8
-    ensures { result ≡ mark_refusal heading star_reading mark_reading }
+fn mark_refusal(heading: Deg, star_reading: Deg, mark_reading: Deg) -> Result<(), Refusal>
+    ensures { checked result ≡ mark_refusal heading star_reading mark_reading }
 {
     quantity::lower(
         circle::circle_refusal(heading),
@@ -170,12 +169,9 @@ fn mark_in(heading: Deg, star_reading: Deg, mark_reading: Deg) -> Deg
 
 // A mark's true heading, from the star's and from what a circle reads at the star and at the mark, clockwise, in degrees. Refusals: 1; 3
 // where one is below 0, or not below 360.
-pub fn mark_heading(heading: Deg, star_reading: Deg, mark_reading: Deg) -> Degrees
-    ensures { shown_degrees result ≡ mark_heading_rule heading star_reading mark_reading }
+pub fn mark_heading(heading: Deg, star_reading: Deg, mark_reading: Deg) -> Result<Deg, Refusal>
+    ensures { shown result ≡ mark_heading_rule heading star_reading mark_reading }
 {
-    let refusal = mark_refusal(heading, star_reading, mark_reading);
-    if refusal != 0 {
-        return Degrees::Refused(refusal);
-    }
-    Degrees::Are(mark_in(heading, star_reading, mark_reading))
+    mark_refusal(heading, star_reading, mark_reading)?;
+    Ok(mark_in(heading, star_reading, mark_reading))
 }

@@ -16,19 +16,12 @@ ghost use Rattle.heading_mean.specs.rules.Reference.{vote, agreeing, is_referenc
 ghost use Rattle.heading_mean.specs.rules.Mean.{bits_refusal, number_refusal, headings_refusal, entries_from};
 ghost use Rattle.heading_mean.specs.rules.Mean.{mean_of, shown_mean, mean_from, mean_heading_rule};
 ghost use Rattle.heading_mean.specs.rules.Spread.{is_night, root_over, spread_of, mean_error};
-ghost use Rattle.quantity.specs.rules.Answer.{answered};
+ghost use Rattle.quantity.specs.rules.Answer.{checked, answered};
 
 use helpers::{angle, circle};
 use list::MOST_STARS;
-use quantity::Deg;
+use quantity::{Deg, Refusal};
 use residual_sheet::{Residual, Running, Sheet};
-
-// The mean in degrees, and the sheet of the residuals from the reference; or a refusal.
-#[derive(Clone, Copy)]
-pub enum Mean {
-    Is(Deg, Sheet),
-    Refused(u8),
-}
 
 // ---- one residual
 
@@ -65,10 +58,8 @@ fn agreeing(reference: Deg, headings: &[u64]) -> usize
     ensures { result ≡ agreeing reference headings.now }
 {
     let mut count: usize = 0;
-    let mut i: usize = 0;
-    while i < headings.len() {
-        count += vote(reference, headings[i]);
-        i += 1;
+    for b in headings {
+        count += vote(reference, *b);
     }
     count
 }
@@ -85,14 +76,12 @@ fn is_reference(headings: &[u64], b: u64) -> bool
 pub fn reference_place(headings: &[u64]) -> usize
     ensures { result ≡ reference_place headings.now }
 {
-    let mut i: usize = 0;
-    while i < headings.len() {
-        if is_reference(headings, headings[i]) {
+    for (i, b) in headings.iter().enumerate() {
+        if is_reference(headings, *b) {
             return i;
         }
-        i += 1;
     }
-    i
+    headings.len()
 }
 
 // ---- the sheet
@@ -111,11 +100,9 @@ fn running_from(reference: Deg, headings: &[u64]) -> Running
         place: 0,
         aside: 0,
     };
-    let mut i: usize = 0;
-    while i < headings.len() {
-        let x = residual_from(reference, Deg(double::of_pattern(headings[i])));
+    for (i, b) in headings.iter().enumerate() {
+        let x = residual_from(reference, Deg(double::of_pattern(*b)));
         r = residual_sheet::onward(r, i as u64, 0, x);
-        i += 1;
     }
     r
 }
@@ -143,39 +130,23 @@ fn mean_of(reference: Deg, figures: Running) -> Deg
 }
 
 // Mean and sheet, from the reference.
-fn mean_from(reference: Deg, headings: &[u64]) -> Mean
+fn mean_from(reference: Deg, headings: &[u64]) -> Result<(Deg, Sheet), Refusal>
     requires { length headings.now ≤ most_stars }
     ensures { shown_mean result ≡ answered (mean_from reference headings.now) }
 {
     let r = running_from(reference, headings);
     let m = mean_of(reference, r);
     let s = residual_sheet::sheet_from(r);
-    Mean::Is(m, s)
+    Ok((m, s))
 }
 
 // ---- spread
-
-// What is left of a by b, 0 where b is the larger.
-fn left(a: u64, b: u64) -> u64
-    ensures { result ≡ a - b }
-{
-    if a < b { 0 } else { a - b }
-}
 
 // Whether figures are those of a night: from two sights to 3000, each within the limit.
 fn is_night(count: u64, sum: u64, squares: u64) -> bool
     ensures { result ≡ is_night count sum squares }
 {
-    if count < 2 {
-        return false;
-    }
-    if 3000 < count {
-        return false;
-    }
-    if 3000000000 < sum {
-        return false;
-    }
-    squares <= 3000000000000000
+    2 <= count && count <= 3000 && sum <= 3000000000 && squares <= 3000000000000000
 }
 
 // The root of a quotient of whole numbers.
@@ -191,7 +162,10 @@ pub fn spread_of(count: u64, sum: u64, squares: u64) -> f64
     ensures { result ≡ spread_of count sum squares }
 {
     if is_night(count, sum, squares) {
-        return root_over(left(count * squares, sum * sum), count * (count - 1));
+        return root_over(
+            (count * squares).saturating_sub(sum * sum),
+            count * (count - 1),
+        );
     }
     0.0
 }
@@ -202,7 +176,7 @@ pub fn mean_error(count: u64, sum: u64, squares: u64) -> f64
 {
     if is_night(count, sum, squares) {
         return root_over(
-            left(count * squares, sum * sum),
+            (count * squares).saturating_sub(sum * sum),
             count * count * (count - 1),
         );
     }
@@ -212,53 +186,46 @@ pub fn mean_error(count: u64, sum: u64, squares: u64) -> f64
 // ---- the call
 
 // The least refusal of all headings.
-fn least_refusal(headings: &[u64]) -> u8
-    ensures { result ≡ least_refusal bits_refusal headings.now }
+fn least_refusal(headings: &[u64]) -> Result<(), Refusal>
+    ensures { checked result ≡ least_refusal bits_refusal headings.now }
 {
-    let mut refusal = 0;
-    let mut i: usize = 0;
-    while i < headings.len() {
-        let one = circle::circle_refusal(Deg(double::of_pattern(headings[i])));
+    let mut refusal = Ok(());
+    for b in headings {
+        let one = circle::circle_refusal(Deg(double::of_pattern(*b)));
         refusal = quantity::lower(refusal, one);
-        i += 1;
     }
     refusal
 }
 
 // Refusals of so many: 8.
-fn number_refusal(n: usize) -> u8
-    ensures { result ≡ number_refusal n }
+fn number_refusal(n: usize) -> Result<(), Refusal>
+    ensures { checked result ≡ number_refusal n }
 {
-    if n == 0 {
-        return 8;
+    if n == 0 || MOST_STARS < n {
+        Err(Refusal::List)
+    } else {
+        Ok(())
     }
-    if n <= MOST_STARS { 0 } else { 8 }
 }
 
 // Refusals of a set: 8; then 1; then 3.
-fn headings_refusal(headings: &[u64]) -> u8
-    ensures { result ≡ headings_refusal headings.now }
+fn headings_refusal(headings: &[u64]) -> Result<(), Refusal>
+    ensures { checked result ≡ headings_refusal headings.now }
 {
-    let number = number_refusal(headings.len());
-    if number != 0 {
-        return number;
-    }
+    number_refusal(headings.len())?;
     least_refusal(headings)
 }
 
 // The mean of a night's headings of one mark, each in degrees, from any stars and times, and lent as its bits; with the sheet of their
 // residuals from the reference, where a place is an index in the slice. Refusals: 8 for none, or more than 3000; then 1 for one that is not
 // finite, then 3 for one below 0 or not below 360; then 20, where with no sight more than half of all agree.
-pub fn mean_heading(headings: &[u64]) -> Mean
+pub fn mean_heading(headings: &[u64]) -> Result<(Deg, Sheet), Refusal>
     ensures { shown_mean result ≡ mean_heading_rule headings.now }
 {
-    let refusal = headings_refusal(headings);
-    if refusal != 0 {
-        return Mean::Refused(refusal);
-    }
+    headings_refusal(headings)?;
     let i = reference_place(headings);
     if i < headings.len() {
         return mean_from(Deg(double::of_pattern(headings[i])), headings);
     }
-    Mean::Refused(20)
+    Err(Refusal::SightsApart)
 }

@@ -1,10 +1,10 @@
 // Degrees, radians and seconds, and folding into one turn. Each takes every finite number and refuses the rest by 1.
 ghost use Rattle.std.specs.Prelude.{◌≡◌};
-ghost use Rattle.quantity.specs.rules.Answer.{shown_degrees, shown_radians};
+ghost use Rattle.quantity.specs.rules.Answer.{shown};
 ghost use Rattle.helpers.specs.rules.Angle.{radians_of, remainder, limited, within360, within_two_PI, deg_frm_dms_rule, deg_frm_hms_rule, to_radians_rule};
 ghost use Rattle.helpers.specs.rules.Angle.{limit_to_360_rule, limit_to_two_PI_rule};
 
-use quantity::{Deg, Degrees, Rad, Radians};
+use quantity::{Deg, Rad, Refusal};
 
 // The double PI/180.
 const DEGREE: f64 = 0.017453292519943295;
@@ -46,56 +46,41 @@ pub fn within_two_PI(x: Rad) -> Rad
 }
 
 // Seconds of arc to degrees. Refusals: 1.
-pub fn deg_frm_dms(seconds: f64) -> Degrees
-    ensures { shown_degrees result ≡ deg_frm_dms_rule seconds }
+pub fn deg_frm_dms(seconds: f64) -> Result<Deg, Refusal>
+    ensures { shown result ≡ deg_frm_dms_rule seconds }
 {
-    let refusal = quantity::number_refusal(seconds);
-    if refusal != 0 {
-        return Degrees::Refused(refusal);
-    }
-    Degrees::Are(Deg(seconds / 3600.0))
+    quantity::number_refusal(seconds)?;
+    Ok(Deg(seconds / 3600.0))
 }
 
 // Seconds of time to degrees. Refusals: 1.
-pub fn deg_frm_hms(seconds: f64) -> Degrees
-    ensures { shown_degrees result ≡ deg_frm_hms_rule seconds }
+pub fn deg_frm_hms(seconds: f64) -> Result<Deg, Refusal>
+    ensures { shown result ≡ deg_frm_hms_rule seconds }
 {
-    let refusal = quantity::number_refusal(seconds);
-    if refusal != 0 {
-        return Degrees::Refused(refusal);
-    }
-    Degrees::Are(Deg(15.0 * (seconds / 3600.0)))
+    quantity::number_refusal(seconds)?;
+    Ok(Deg(15.0 * (seconds / 3600.0)))
 }
 
 // Degrees to radians. Refusals: 1.
-pub fn to_radians(x: Deg) -> Radians
-    ensures { shown_radians result ≡ to_radians_rule x }
+pub fn to_radians(x: Deg) -> Result<Rad, Refusal>
+    ensures { shown result ≡ to_radians_rule x }
 {
-    let refusal = quantity::number_refusal(x.0);
-    if refusal != 0 {
-        return Radians::Refused(refusal);
-    }
-    Radians::Are(radians(x))
+    quantity::number_refusal(x.0)?;
+    Ok(radians(x))
 }
 
 // Degrees folded into one turn. Refusals: 1.
-pub fn limit_to_360(x: Deg) -> Degrees
-    ensures { shown_degrees result ≡ limit_to_360_rule x }
+pub fn limit_to_360(x: Deg) -> Result<Deg, Refusal>
+    ensures { shown result ≡ limit_to_360_rule x }
 {
-    let refusal = quantity::number_refusal(x.0);
-    if refusal != 0 {
-        return Degrees::Refused(refusal);
-    }
-    Degrees::Are(within_360(x))
+    quantity::number_refusal(x.0)?;
+    Ok(within_360(x))
 }
 
 // Radians folded into one turn. Refusals: 1.
-pub fn limit_to_two_PI(x: Rad) -> Radians
-    ensures { shown_radians result ≡ limit_to_two_PI_rule x }
+pub fn limit_to_two_PI(x: Rad) -> Result<Rad, Refusal>
+    ensures { shown result ≡ limit_to_two_PI_rule x }
 {
-    let refusal = quantity::number_refusal(x.0);
-    if refusal != 0 {
-        return Radians::Refused(refusal);
-    }
-    Radians::Are(within_two_PI(x))
+    quantity::number_refusal(x.0)?;
+    Ok(within_two_PI(x))
 }

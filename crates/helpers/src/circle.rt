@@ -1,9 +1,10 @@
 // Degrees on a circle that is read clockwise, from 0 to below 360.
 ghost use Rattle.std.specs.Prelude.{◌≡◌};
+ghost use Rattle.quantity.specs.rules.Answer.{checked};
 ghost use Rattle.helpers.specs.rules.Circle.{below_turn, on_circle, circle_refusal};
 
 use crate::angle;
-use quantity::Deg;
+use quantity::{Deg, Refusal};
 
 // An angle below a turn as it is, and 0 for a whole turn.
 fn below_turn(x: Deg) -> Deg
@@ -20,17 +21,17 @@ pub fn on_circle(x: Deg) -> Deg
 }
 
 // Refusals of an angle on the circle: 1; 3 below 0, and from 360 on.
-pub fn circle_refusal(x: Deg) -> u8
-    ensures { result ≡ circle_refusal x }
+pub fn circle_refusal(x: Deg) -> Result<(), Refusal>
+    ensures { checked result ≡ circle_refusal x }
 {
     if double::is_finite(x.0) {
         if 0.0 <= x.0 {
             if x.0 < 360.0 {
-                return 0;
+                return Ok(());
             }
-            return 3;
+            return Err(Refusal::Angle);
         }
-        return 3;
+        return Err(Refusal::Angle);
     }
-    1
+    Err(Refusal::NotFinite)
 }

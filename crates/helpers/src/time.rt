@@ -3,7 +3,7 @@ ghost use Rattle.std.specs.Prelude.{◌≡◌};
 ghost use Rattle.quantity.specs.rules.Answer.{shown};
 ghost use Rattle.helpers.specs.rules.Time.{century_of, julian_cent_rule};
 
-use quantity::One;
+use quantity::Refusal;
 
 // Centuries from 2451545.0 to a day.
 pub fn century(day: f64) -> f64
@@ -13,12 +13,9 @@ pub fn century(day: f64) -> f64
 }
 
 // Centuries from 2451545.0 to a day. Refusals: 1; 2.
-pub fn julian_cent(day: f64) -> One
+pub fn julian_cent(day: f64) -> Result<f64, Refusal>
     ensures { shown result ≡ julian_cent_rule day }
 {
-    let refusal = quantity::day_refusal(day);
-    if refusal != 0 {
-        return One::Refused(refusal);
-    }
-    One::Is(century(day))
+    quantity::day_refusal(day)?;
+    Ok(century(day))
 }

@@ -2,11 +2,11 @@
 #![tactic(auto)]
 
 ghost use Rattle.std.specs.Prelude.{◌≡◌};
-ghost use Rattle.quantity.specs.rules.Answer.{shown_two};
+ghost use Rattle.quantity.specs.rules.Answer.{checked, shown_two};
 ghost use Rattle.helpers_earth.specs.rules.Earth.{rho_at, rho_in, rho_refusal, rho_sin_cos_phi_rule};
 
 use elementary::Folded;
-use quantity::{Rad, Radians, Two};
+use quantity::{Rad, Refusal};
 
 #[derive(Clone, Copy)]
 pub struct Earth {}
@@ -19,29 +19,27 @@ impl Earth {
     pub const RADIUS: f64 = 6378140.0;
 
     // ρ sin φ' and ρ cos φ' at a reduced latitude u, a latitude p and a height.
-    fn rho_at(u: Folded, p: Folded, height: f64) -> Two
+    fn rho_at(u: Folded, p: Folded, height: f64) -> Result<(f64, f64), Refusal>
         ensures { shown_two result ≡ rho_at u p height }
     {
-        Two::Are(
+        Ok((
             Earth::RATIO * u.sine() + (height / Earth::RADIUS) * p.sine(),
             u.cosine() + (height / Earth::RADIUS) * p.cosine(),
-        )
+        ))
     }
 
     // ρ sin φ' and ρ cos φ' of arguments that are not refused.
-    pub fn rho_in(lat: Rad, height: f64) -> Two
+    pub fn rho_in(lat: Rad, height: f64) -> Result<(f64, f64), Refusal>
         ensures { shown_two result ≡ rho_in lat height }
     {
         let p = elementary::fold(lat);
-        match elementary_arc::arctangent_in(Earth::RATIO * p.tangent(), 1.0) {
-            Radians::Are(u) => Earth::rho_at(elementary::fold(u), p, height),
-            Radians::Refused(n) => Two::Refused(n),
-        }
+        let u = elementary_arc::arctangent_in(Earth::RATIO * p.tangent(), 1.0)?;
+        Earth::rho_at(elementary::fold(u), p, height)
     }
 
     // Refusals of the observer's latitude and height: 1; 3; 4; 5.
-    fn rho_refusal(lat: Rad, height: f64) -> u8
-        ensures { result ≡ rho_refusal lat height }
+    fn rho_refusal(lat: Rad, height: f64) -> Result<(), Refusal>
+        ensures { checked result ≡ rho_refusal lat height }
     {
         quantity::lower(
             quantity::steep_refusal(lat),
@@ -51,13 +49,10 @@ impl Earth {
 
     // ρ sin φ' and ρ cos φ', the observer's place from the Earth's centre in equatorial radii.
     // Given: latitude in radians, height above the sea in metres. Refusals: 1; 3; 4 past 1.57; 5.
-    pub fn rho_sin_cos_phi(lat: Rad, height: f64) -> Two
+    pub fn rho_sin_cos_phi(lat: Rad, height: f64) -> Result<(f64, f64), Refusal>
         ensures { shown_two result ≡ rho_sin_cos_phi_rule lat height }
     {
-        let refusal = Earth::rho_refusal(lat, height);
-        if refusal != 0 {
-            return Two::Refused(refusal);
-        }
+        Earth::rho_refusal(lat, height)?;
         Earth::rho_in(lat, height)
     }
 }

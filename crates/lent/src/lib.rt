@@ -5,13 +5,6 @@
 ghost use Rattle.std.specs.Prelude.{◌+◌, min, ◌≡◌, [], ◌∷◌, leb};
 ghost use Rattle.lent.specs.rules.Writing.{Wrote};
 
-// The offset after what was written, or a refusal.
-#[derive(Clone, Copy)]
-pub enum Written {
-    To(usize),
-    Refused(u8),
-}
-
 // One byte from the offset on, and the offset after it.
 pub fn put_byte(out: &mut [u8], at: usize, b: u8) -> usize
     ensures { Wrote out.old at (b ∷ []) out.new result }
@@ -27,7 +20,7 @@ pub fn put_byte(out: &mut [u8], at: usize, b: u8) -> usize
 pub fn within(at: usize, end: usize) -> usize
     ensures { result ≡ min at end }
 {
-    if at < end { at } else { end }
+    at.min(end)
 }
 
 // All of src from the offset on, and the offset after it.
@@ -35,10 +28,8 @@ pub fn put(out: &mut [u8], at: usize, src: &[u8]) -> usize
     ensures { Wrote out.old at src.now out.new result }
 {
     let mut offset = within(at, out.len());
-    let mut i = 0;
-    while i < src.len() {
-        offset = put_byte(out, offset, src[i]);
-        i += 1;
+    for b in src {
+        offset = put_byte(out, offset, *b);
     }
     offset
 }

@@ -12,7 +12,7 @@ ghost use Rattle.list.specs.rules.Reader.{shown_stored, empty_before, read_rule}
 ghost use Rattle.list.specs.rules.Writer.{is_start, record_text};
 ghost use Rattle.list.specs.rules.Find.{shown_found, index_of, find_rule};
 
-use lent::Written;
+use quantity::Refusal;
 
 // A star's record: its number, its right ascension and declination in milliarcseconds, and the yearly change of each.
 #[derive(Clone, Copy)]
@@ -22,21 +22,6 @@ pub struct Star {
     pub dec: i32,
     pub asc_rate: i32,
     pub dec_rate: i32,
-}
-
-// What the reader shows: a star and the offset after it, that none is left, or a refusal.
-#[derive(Clone, Copy)]
-pub enum Stored {
-    Next(Star, usize),
-    End,
-    Refused(u8),
-}
-
-// A found star and its index, or a refusal.
-#[derive(Clone, Copy)]
-pub enum Found {
-    At(usize, Star),
-    Refused(u8),
 }
 
 // Bytes of a record.
@@ -119,10 +104,7 @@ pub fn write_star(out: &mut [u8], at: usize, star: Star) -> usize
 pub fn is_list(bytes: &[u8]) -> bool
     ensures { result ≡ is_list bytes.now }
 {
-    if bytes.len() <= MOST_BYTES {
-        return bytes.len() % WIDTH == 0;
-    }
-    false
+    bytes.len() <= MOST_BYTES && bytes.len() % WIDTH == 0
 }
 
 // How many stars.
@@ -160,63 +142,57 @@ fn kept_from(bytes: &[u8], from: usize) -> usize
     ensures { result ≡ from + empty_before (drop from (stars bytes.now)) }
 {
     let n = count(bytes);
-    let mut i = from;
-    while i < n {
-        let star = nth(bytes, i);
-        if star.number != 0 {
+    for i in from..n {
+        if nth(bytes, i).number != 0 {
             return i;
         }
-        i += 1;
     }
-    i
+    from.max(n)
 }
 
 // The first star that is kept from an offset of a list on, in range or not, and the offset after it; where empty places alone are left, none.
 // Refusals: 8 for bytes that are no list, and for an offset past the end or not at a record's start.
-pub fn star_at(bytes: &[u8], offset: usize) -> Stored
+pub fn star_at(bytes: &[u8], offset: usize) -> Result<Option<(Star, usize)>, Refusal>
     ensures { shown_stored result ≡ read_rule bytes.now offset }
 {
     if !is_list(bytes) {
-        return Stored::Refused(8);
+        return Err(Refusal::List);
     }
     if offset > bytes.len() {
-        return Stored::Refused(8);
+        return Err(Refusal::List);
     }
     if offset % WIDTH != 0 {
-        return Stored::Refused(8);
+        return Err(Refusal::List);
     }
     let i = kept_from(bytes, offset / WIDTH);
     if i >= count(bytes) {
-        return Stored::End;
+        return Ok(None);
     }
-    Stored::Next(nth(bytes, i), (i + 1) * WIDTH)
+    Ok(Some((nth(bytes, i), (i + 1) * WIDTH)))
 }
 
 // Whether a record of a list may begin there.
 fn is_start(offset: usize) -> bool
     ensures { result ≡ is_start offset }
 {
-    if offset < MOST_BYTES {
-        return offset % WIDTH == 0;
-    }
-    false
+    offset < MOST_BYTES && offset % WIDTH == 0
 }
 
 // A star's record, from the offset on.
 // Refusals: 9 for a star out of range, then 8 for an offset at which no record of a list begins, and for no room.
-pub fn put_star(out: &mut [u8], offset: usize, star: Star) -> Written
+pub fn put_star(out: &mut [u8], offset: usize, star: Star) -> Result<usize, Refusal>
     ensures { Put (record_text offset star) out.old offset out.new result }
 {
     if !in_range(star) {
-        return Written::Refused(9);
+        return Err(Refusal::Record);
     }
     if !is_start(offset) {
-        return Written::Refused(8);
+        return Err(Refusal::List);
     }
     if !lent::has_room(out.len(), offset, WIDTH) {
-        return Written::Refused(8);
+        return Err(Refusal::List);
     }
-    Written::To(write_star(out, offset, star))
+    Ok(write_star(out, offset, star))
 }
 
 // The index of the first star with the number, or how many stars there are where none has it.
@@ -224,35 +200,32 @@ pub fn index_of(bytes: &[u8], number: u32) -> usize
     ensures { result ≡ index_of number (stars bytes.now) }
 {
     let n = count(bytes);
-    let mut i = 0;
-    while i < n {
-        let star = nth(bytes, i);
-        if star.number == number {
+    for i in 0..n {
+        if nth(bytes, i).number == number {
             return i;
         }
-        i += 1;
     }
     n
 }
 
 // The first star with the number, and its index.
 // Refusals: 8 for bytes that are no list; 10 for number 0, and where no star has the number; 9 where that star is out of range.
-pub fn find(bytes: &[u8], number: u32) -> Found
+pub fn find(bytes: &[u8], number: u32) -> Result<(usize, Star), Refusal>
     ensures { shown_found result ≡ find_rule bytes.now number }
 {
     if !is_list(bytes) {
-        return Found::Refused(8);
+        return Err(Refusal::List);
     }
     if number == 0 {
-        return Found::Refused(10);
+        return Err(Refusal::NoStar);
     }
     let i = index_of(bytes, number);
     if i >= count(bytes) {
-        return Found::Refused(10);
+        return Err(Refusal::NoStar);
     }
     let star = nth(bytes, i);
     if in_range(star) {
-        return Found::At(i, star);
+        return Ok((i, star));
     }
-    Found::Refused(9)
+    Err(Refusal::Record)
 }

@@ -9,61 +9,55 @@ ghost use Rattle.list.specs.rules.Stars.{stars, kept, list_bytes};
 ghost use Rattle.list_edit.specs.rules.Edit.{strike_rule, add_rule, gather_rule, Edit};
 
 use list::Star;
-
-// That the list was edited, or a refusal.
-#[derive(Clone, Copy)]
-pub enum Edited {
-    Done,
-    Refused(u8),
-}
+use quantity::Refusal;
 
 // ---- strike and add
 
 // The first record with the number zeroed, in range or not.
 // Refusals: 8 for bytes that are no list; 10 for number 0, and where no record has the number.
-pub fn strike(bytes: &mut [u8], number: u32) -> Edited
+pub fn strike(bytes: &mut [u8], number: u32) -> Result<(), Refusal>
     ensures { Edit (strike_rule bytes.old number) bytes.old bytes.new result }
 {
     if !list::is_list(bytes) {
-        return Edited::Refused(8);
+        return Err(Refusal::List);
     }
     if number == 0 {
-        return Edited::Refused(10);
+        return Err(Refusal::NoStar);
     }
     let i = list::index_of(bytes, number);
     if i >= list::count(bytes) {
-        return Edited::Refused(10);
+        return Err(Refusal::NoStar);
     }
     list::write_star(bytes, i * list::WIDTH, list::nought());
-    Edited::Done
+    Ok(())
 }
 
 // The star's record in the first empty place.
 // Refusals: 8 for bytes that are no list; 9 for number 0 and for a star out of range; 18 where a record has the number, in range or not;
 // 19 where no place is empty.
-pub fn add(bytes: &mut [u8], star: Star) -> Edited
+pub fn add(bytes: &mut [u8], star: Star) -> Result<(), Refusal>
     ensures { Edit (add_rule bytes.old star) bytes.old bytes.new result }
 {
     let number = star.number;
     if !list::is_list(bytes) {
-        return Edited::Refused(8);
+        return Err(Refusal::List);
     }
     if number == 0 {
-        return Edited::Refused(9);
+        return Err(Refusal::Record);
     }
     if !list::in_range(star) {
-        return Edited::Refused(9);
+        return Err(Refusal::Record);
     }
     let n = list::count(bytes);
     if list::index_of(bytes, number) < n {
-        return Edited::Refused(18);
+        return Err(Refusal::NumberPresent);
     }
     let i = list::index_of(bytes, 0);
     if i >= n {
-        return Edited::Refused(19);
+        return Err(Refusal::NoEmptyPlace);
     }
     list::write_star(bytes, i * list::WIDTH, star);
-    Edited::Done
+    Ok(())
 }
 
 // ---- gather
@@ -82,35 +76,30 @@ fn put_kept(out: &mut [u8], at: usize, star: Star) -> usize
 fn bring_forward(bytes: &mut [u8]) -> usize
     ensures { Wrote bytes.old 0 (list_bytes (kept (stars bytes.old))) bytes.new result }
 {
-    let n = list::count(bytes);
     let mut at = 0;
-    let mut i = 0;
-    while i < n {
+    for i in 0..list::count(bytes) {
         at = put_kept(bytes, at, list::nth(bytes, i));
-        i += 1;
     }
     at
 }
 
-// Zeros from the offset on to the end.
+// Zeros from the offset on to the end, and the offset after them.
 pub fn put_zeros(out: &mut [u8], at: usize) -> usize
     ensures { Wrote out.old at (replicate (length out.old - at) 0) out.new result }
 {
-    let mut offset = lent::within(at, out.len());
-    while offset < out.len() {
-        offset = lent::put_byte(out, offset, 0);
-    }
-    offset
+    let start = lent::within(at, out.len());
+    out[start..].fill(0);
+    out.len()
 }
 
 // Every record whose number is not 0 brought forward, in range or not, and zero bytes behind them. Refusal: 8 for bytes that are no list.
-pub fn gather(bytes: &mut [u8]) -> Edited
+pub fn gather(bytes: &mut [u8]) -> Result<(), Refusal>
     ensures { Edit (gather_rule bytes.old) bytes.old bytes.new result }
 {
     if !list::is_list(bytes) {
-        return Edited::Refused(8);
+        return Err(Refusal::List);
     }
     let at = bring_forward(bytes);
     put_zeros(bytes, at);
-    Edited::Done
+    Ok(())
 }

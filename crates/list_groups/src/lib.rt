@@ -9,51 +9,47 @@ ghost use Rattle.list_groups.specs.rules.Reading.{read_number, read_at};
 ghost use Rattle.list_groups.specs.rules.Fold.{folded, unfolded};
 ghost use Rattle.list_groups.specs.rules.Read.{shown_read};
 
-// A number and the offset after it, or a refusal.
-#[derive(Clone, Copy)]
-pub enum Read {
-    Number(u32, usize),
-    Refused(u8),
-}
+use quantity::Refusal;
 
-// The number that stands from the offset on.
+// Groups that may stand before a number's last one.
+const BEFORE_LAST: u32 = 4;
+
+// The number that stands from the offset on, and the offset after it.
 // Refusals: 12 for a number that is not in its shortest length or above 32 bits, 13 where the bytes end first.
-pub fn number_at(bytes: &[u8], at: usize) -> Read
+pub fn number_at(bytes: &[u8], at: usize) -> Result<(u32, usize), Refusal>
     ensures { shown_read result ≡ read_at read_number bytes.now at }
 {
-    let mut more: u32 = 4;
     let mut least: u32 = 0;
     let mut low: u32 = 0;
     let mut weight: u32 = 1;
     let mut p = at;
-    while 0 < more {
+    for _ in 0..BEFORE_LAST {
         if p >= bytes.len() {
-            return Read::Refused(13);
+            return Err(Refusal::End);
         }
         let b = signed::wide(bytes[p]);
         if b < 128 {
             if b < least {
-                return Read::Refused(12);
+                return Err(Refusal::Spelling);
             }
-            return Read::Number(low + weight * b, p + 1);
+            return Ok((low + weight * b, p + 1));
         }
-        more -= 1;
         least = 1;
         low += weight * (b - 128);
         weight *= 128;
         p += 1;
     }
     if p >= bytes.len() {
-        return Read::Refused(13);
+        return Err(Refusal::End);
     }
     let b = signed::wide(bytes[p]);
     if b < 16 {
         if b < least {
-            return Read::Refused(12);
+            return Err(Refusal::Spelling);
         }
-        return Read::Number(low + weight * b, p + 1);
+        return Ok((low + weight * b, p + 1));
     }
-    Read::Refused(12)
+    Err(Refusal::Spelling)
 }
 
 // How many groups a number has.
@@ -81,6 +77,7 @@ pub fn put_number(out: &mut [u8], at: usize, n: u32) -> usize
 {
     let mut offset = lent::within(at, out.len());
     let mut rest = n;
+    // Stays a while loop: it goes by what is left of the number, and counts nothing.
     while 128 <= rest {
         offset = lent::put_byte(out, offset, (128 + rest % 128) as u8);
         rest /= 128;

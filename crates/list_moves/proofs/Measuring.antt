@@ -16,25 +16,21 @@ use Rattle.list_moves.specs.rules.Moves.{size_of}
 use Rattle.list_radio.specs.laws.Star.{at_most_twenty_five}
 use Rattle.list_moves.specs.laws.Moves.{groups_more, ranges_more}
 
-pub record Measuring (s : List ℕ) (n size i : ℕ) : Type 0 where
+pub record Measuring (s : List ℕ) (size i : ℕ) : Type 0 where
   pub list : is_list s ≡ true
-  pub many : n ≡ count_of s
-  pub so_far : i ≤ n
+  pub so_far : i ≤ count_of s
   pub ranges : all_in_range (stars s) ≡ all_in_range (drop i (stars s))
   pub is : size ≡ length (spell_all star_groups (take i (stars s)))
   pub small : size ≤ 25 * i
 
-pub begin : (s : List ℕ) (n : ℕ) → is_list s ≡ true → n ≡ count_of s → Measuring s n 0 0
-begin s n l e = record { list = l; many = e; so_far = omega arith; ranges = refl; is = refl; small = omega arith }
+pub begin : (s : List ℕ) → is_list s ≡ true → Measuring s 0 0
+begin s l = record { list = l; so_far = omega arith; ranges = refl; is = refl; small = omega arith }
 
-module _ (s : List ℕ) (n size i : ℕ) (m : Measuring s n size i) where
+module _ (s : List ℕ) (size i : ℕ) (m : Measuring s size i) where
   pub bounded : size ≤ 75000
-  bounded = omega (arith, m.small, m.so_far, m.many, few s m.list)
+  bounded = omega (arith, m.small, m.so_far, few s m.list)
 
-  module _ (h : i < n) (r : Star) (e : r ≡ nth s i) where
-    index : i < count_of s
-    index = omega (arith, m.many)
-
+  module _ (index : i < count_of s) (r : Star) (e : r ≡ nth s i) where
     here : (t : Bool) → in_range r ≡ t → all_in_range (stars s) ≡ (t && all_in_range (drop (i + 1) (stars s)))
     here t b =
         m.ranges
@@ -45,11 +41,10 @@ module _ (s : List ℕ) (n size i : ℕ) (m : Measuring s n size i) where
     unfolding size_of
     out_of_range b = sym (ap (λ (t : Bool). cond t (answered (length (spell_all star_groups (stars s)))) (refused 9)) (here false b))
 
-    pub on : (k : ℕ) → in_range r ≡ true → k ≡ length (star_groups r) → Measuring s n (size + k) (i + 1)
+    pub on : (k : ℕ) → in_range r ≡ true → k ≡ length (star_groups r) → Measuring s (size + k) (i + 1)
     on k b l =
         record {
           list = m.list;
-          many = m.many;
           so_far = omega arith;
           ranges = here true b;
           is =
@@ -59,10 +54,10 @@ module _ (s : List ℕ) (n size i : ℕ) (m : Measuring s n size i) where
           small = omega (arith, m.small, at_most_twenty_five r);
         }
 
-  pub measured : n ≤ i → answered size ≡ size_of (stars s)
+  pub measured : count_of s ≤ i → answered size ≡ size_of (stars s)
   unfolding size_of
   measured h =
-      let at_end_lem : i ≡ count_of s = omega (arith, m.so_far, m.many) in
+      let at_end_lem : i ≡ count_of s = omega (arith, m.so_far) in
       let none = ap all_in_range (drop_of_length-le (stars s) {i = i} (omega (arith, length_stars s))) in
       sym
       (ap (λ (t : Bool). cond t (answered (length (spell_all star_groups (stars s)))) (refused 9)) (m.ranges ∙ none)

@@ -4,55 +4,19 @@
 #![tactic(auto)]
 
 ghost use Rattle.std.specs.Prelude.{◌≡◌, [], ◌∷◌, length, drop};
-ghost use Rattle.quantity.specs.rules.Answer.{with};
+ghost use Rattle.quantity.specs.rules.Answer.{checked, shown, with};
 ghost use Rattle.lent.specs.rules.Writing.{Wrote};
 ghost use Rattle.lent.specs.rules.Put.{Put};
 ghost use Rattle.list_groups.specs.rules.Reading.{read_number, read_at};
 ghost use Rattle.list_groups.specs.rules.Several.{read_all};
+ghost use Rattle.list_groups.specs.rules.Read.{shown_read};
 ghost use Rattle.list_radio.specs.rules.Star.{star_groups, read_star};
 ghost use Rattle.list_radio.specs.rules.Radio.{head_bytes, mark_refusal, is_moving, read_count, stars_of};
-ghost use Rattle.list_radio.specs.rules.Reader.{shown_opened, open_rule, shown_place, shown_rates, ranged_at};
-ghost use Rattle.list_radio.specs.rules.Reader.{shown_received, star_at_rule, shown_accepted, accept_rule};
+ghost use Rattle.list_radio.specs.rules.Reader.{open_rule, shown_place, shown_rates, ranged_at, star_at_rule, accept_rule};
 ghost use Rattle.list_radio.specs.rules.Put.{head_text, star_text};
 
-use lent::Written;
 use list::Star;
-use list_groups::Read;
-
-// How many stars and the offset of the first, or a refusal.
-#[derive(Clone, Copy)]
-pub enum Opened {
-    Stars(u32, usize),
-    Refused(u8),
-}
-
-// A star's first three numbers and the offset after them, or a refusal.
-#[derive(Clone, Copy)]
-enum Place {
-    Numbers(u32, u32, u32, usize),
-    Refused(u8),
-}
-
-// Its last two and the offset after them, or a refusal.
-#[derive(Clone, Copy)]
-enum Rates {
-    Numbers(u32, u32, usize),
-    Refused(u8),
-}
-
-// A star and the offset after it, or a refusal.
-#[derive(Clone, Copy)]
-pub enum Received {
-    Star(Star, usize),
-    Refused(u8),
-}
-
-// How many stars an accepted list has, or a refusal.
-#[derive(Clone, Copy)]
-pub enum Accepted {
-    Stars(u32),
-    Refused(u8),
-}
+use quantity::Refusal;
 
 // The first byte of a radio list, and of one whose stars stand still.
 const MARK: u8 = 3;
@@ -69,17 +33,21 @@ pub const MOST_BYTES: usize = 3 + 21 * list::MOST_STARS;
 // last star may have yearly changes of five groups each, and is refused by 9 after the last of them.
 pub const READ: usize = MOST_BYTES + 4;
 
-// 0 where the first byte stands, 13 for an empty list, 11 for another first byte.
-fn mark_refusal(bytes: &[u8]) -> u8
-    ensures { result ≡ mark_refusal bytes.now }
+// Refusals: 13 for an empty list, 11 for another first byte than a radio list has.
+fn mark_refusal(bytes: &[u8]) -> Result<(), Refusal>
+    ensures { checked result ≡ mark_refusal bytes.now }
 {
     if bytes.len() == 0 {
-        return 13;
+        return Err(Refusal::End);
     }
     if bytes[0] == MARK {
-        return 0;
+        return Ok(());
     }
-    if bytes[0] == STILL_MARK { 0 } else { 11 }
+    if bytes[0] == STILL_MARK {
+        Ok(())
+    } else {
+        Err(Refusal::FirstByte)
+    }
 }
 
 // Whether the first byte is that of stars with yearly changes.
@@ -92,66 +60,56 @@ pub fn is_moving(bytes: &[u8]) -> bool
     bytes[0] == MARK
 }
 
-// The count that stands after the first byte.
-fn count_at(bytes: &[u8], at: usize) -> Opened
-    ensures { shown_opened result ≡ read_at read_count bytes.now at }
+// The count that stands after the first byte, and the offset after it.
+fn count_at(bytes: &[u8], at: usize) -> Result<(u32, usize), Refusal>
+    ensures { shown_read result ≡ read_at read_count bytes.now at }
 {
-    match list_groups::number_at(bytes, at) {
-        Read::Refused(k) => Opened::Refused(k),
-        Read::Number(n, next) => {
-            if n <= MOST_STARS {
-                Opened::Stars(n, next)
-            } else {
-                Opened::Refused(8)
-            }
-        }
+    let (n, next) = list_groups::number_at(bytes, at)?;
+    if n <= MOST_STARS {
+        Ok((n, next))
+    } else {
+        Err(Refusal::List)
     }
 }
 
 // How many stars, and the offset of the first.
 // Refusals: 13 for an empty list, 11 for another first byte, 12 or 13 of the count, 8 for a count above what a list may have.
-pub fn open(bytes: &[u8]) -> Opened
-    ensures { shown_opened result ≡ open_rule bytes.now }
+pub fn open(bytes: &[u8]) -> Result<(u32, usize), Refusal>
+    ensures { shown_read result ≡ open_rule bytes.now }
 {
-    let refusal = mark_refusal(bytes);
-    if refusal != 0 {
-        return Opened::Refused(refusal);
-    }
+    mark_refusal(bytes)?;
     count_at(bytes, 1)
 }
 
-// Three numbers that stand from an offset on.
-fn place_at(bytes: &[u8], at: usize) -> Place
+// Three numbers that stand from an offset on, and the offset after them.
+fn place_at(bytes: &[u8], at: usize) -> Result<(u32, u32, u32, usize), Refusal>
     ensures { shown_place result ≡ read_at (read_all read_number 3) bytes.now at }
 {
-    match list_groups::number_at(bytes, at) {
-        Read::Refused(k) => Place::Refused(k),
-        Read::Number(number, a) => match list_groups::number_at(bytes, a) {
-            Read::Refused(k) => Place::Refused(k),
-            Read::Number(asc, b) => match list_groups::number_at(bytes, b) {
-                Read::Refused(k) => Place::Refused(k),
-                Read::Number(dec, next) => Place::Numbers(number, asc, dec, next),
-            },
-        },
-    }
+    let (number, a) = list_groups::number_at(bytes, at)?;
+    let (asc, b) = list_groups::number_at(bytes, a)?;
+    let (dec, next) = list_groups::number_at(bytes, b)?;
+    Ok((number, asc, dec, next))
 }
 
-// Two numbers that stand from an offset on.
-fn rates_at(bytes: &[u8], at: usize) -> Rates
+// Two numbers that stand from an offset on, and the offset after them.
+fn rates_at(bytes: &[u8], at: usize) -> Result<(u32, u32, usize), Refusal>
     ensures { shown_rates result ≡ read_at (read_all read_number 2) bytes.now at }
 {
-    match list_groups::number_at(bytes, at) {
-        Read::Refused(k) => Rates::Refused(k),
-        Read::Number(asc_rate, a) => match list_groups::number_at(bytes, a) {
-            Read::Refused(k) => Rates::Refused(k),
-            Read::Number(dec_rate, next) => Rates::Numbers(asc_rate, dec_rate, next),
-        },
-    }
+    let (asc_rate, a) = list_groups::number_at(bytes, at)?;
+    let (dec_rate, next) = list_groups::number_at(bytes, a)?;
+    Ok((asc_rate, dec_rate, next))
 }
 
 // The star of its numbers, of which the last three are folded, and the offset after them; 9 for a star out of range.
-fn star_of(number: u32, asc: u32, dec: u32, asc_rate: u32, dec_rate: u32, next: usize) -> Received
-    ensures { shown_received result ≡ ranged_at (number ∷ asc ∷ dec ∷ asc_rate ∷ dec_rate ∷ []) next }
+fn star_of(
+    number: u32,
+    asc: u32,
+    dec: u32,
+    asc_rate: u32,
+    dec_rate: u32,
+    next: usize,
+) -> Result<(Star, usize), Refusal>
+    ensures { shown_read result ≡ ranged_at (number ∷ asc ∷ dec ∷ asc_rate ∷ dec_rate ∷ []) next }
 {
     let star = Star {
         number,
@@ -161,92 +119,67 @@ fn star_of(number: u32, asc: u32, dec: u32, asc_rate: u32, dec_rate: u32, next: 
         dec_rate: list_groups::unfold(dec_rate),
     };
     if list::in_range(star) {
-        Received::Star(star, next)
+        Ok((star, next))
     } else {
-        Received::Refused(9)
+        Err(Refusal::Record)
     }
 }
 
-// The star that stands from an offset on, with yearly changes or without, whatever the first byte.
-pub fn star_from(bytes: &[u8], at: usize, moving: bool) -> Received
-    ensures { shown_received result ≡ read_at (read_star moving) bytes.now at }
+// The star that stands from an offset on, with yearly changes or without, whatever the first byte, and the offset after it.
+pub fn star_from(bytes: &[u8], at: usize, moving: bool) -> Result<(Star, usize), Refusal>
+    ensures { shown_read result ≡ read_at (read_star moving) bytes.now at }
 {
-    match place_at(bytes, at) {
-        Place::Refused(k) => Received::Refused(k),
-        Place::Numbers(number, asc, dec, a) => {
-            if !moving {
-                return star_of(number, asc, dec, 0, 0, a);
-            }
-            match rates_at(bytes, a) {
-                Rates::Refused(k) => Received::Refused(k),
-                Rates::Numbers(asc_rate, dec_rate, next) => {
-                    star_of(number, asc, dec, asc_rate, dec_rate, next)
-                }
-            }
-        }
+    let (number, asc, dec, a) = place_at(bytes, at)?;
+    if !moving {
+        return star_of(number, asc, dec, 0, 0, a);
     }
+    let (asc_rate, dec_rate, next) = rates_at(bytes, a)?;
+    star_of(number, asc, dec, asc_rate, dec_rate, next)
 }
 
 // The star at an offset, and the offset after it.
 // Refusals: 13 for an empty list, 11 for another first byte, then 12 or 13 number by number, then 9 for a star out of range.
-pub fn star_at(bytes: &[u8], offset: usize) -> Received
-    ensures { shown_received result ≡ star_at_rule bytes.now offset }
+pub fn star_at(bytes: &[u8], offset: usize) -> Result<(Star, usize), Refusal>
+    ensures { shown_read result ≡ star_at_rule bytes.now offset }
 {
-    let refusal = mark_refusal(bytes);
-    if refusal != 0 {
-        return Received::Refused(refusal);
-    }
+    mark_refusal(bytes)?;
     star_from(bytes, offset, is_moving(bytes))
 }
 
-// Whether so many stars stand from an offset on, with yearly changes or without, and nothing after them.
-pub fn check_stars(bytes: &[u8], n: u32, first: usize, moving: bool) -> Accepted
-    ensures { shown_accepted result ≡ with length (stars_of moving n (drop first bytes.now)) }
+// How many stars there are, where so many stand from an offset on, with yearly changes or without, and nothing after them.
+// Refusals: as `star_at` at each star, then 13 for bytes over.
+pub fn check_stars(bytes: &[u8], n: u32, first: usize, moving: bool) -> Result<u32, Refusal>
+    ensures { shown result ≡ with length (stars_of moving n (drop first bytes.now)) }
 {
     let mut p = first;
-    let mut i: u32 = 0;
-    while i < n {
-        match star_from(bytes, p, moving) {
-            Received::Refused(k) => {
-                return Accepted::Refused(k);
-            }
-            Received::Star(_, next) => {
-                p = next;
-            }
-        }
-        i += 1;
+    for _ in 0..n {
+        let (_, next) = star_from(bytes, p, moving)?;
+        p = next;
     }
     if p < bytes.len() {
-        return Accepted::Refused(13);
+        return Err(Refusal::End);
     }
-    Accepted::Stars(n)
+    Ok(n)
 }
 
 // How many stars a whole list has.
 // Refusals: the first met, as `open`, as `star_at` at each star, then 13 for bytes over.
-pub fn accept(bytes: &[u8]) -> Accepted
-    ensures { shown_accepted result ≡ accept_rule bytes.now }
+pub fn accept(bytes: &[u8]) -> Result<u32, Refusal>
+    ensures { shown result ≡ accept_rule bytes.now }
 {
-    match open(bytes) {
-        Opened::Refused(k) => Accepted::Refused(k),
-        Opened::Stars(n, first) => check_stars(bytes, n, first, is_moving(bytes)),
-    }
+    let (n, first) = open(bytes)?;
+    check_stars(bytes, n, first, is_moving(bytes))
 }
 
 // How many bytes a star takes.
 pub fn star_size(star: Star) -> usize
     ensures { result ≡ length (star_groups star) }
 {
-    let number = star.number;
-    let asc = star.asc;
-    let dec = star.dec;
-    let asc_rate = star.asc_rate;
-    let dec_rate = star.dec_rate;
-    list_groups::count(number)
-        + list_groups::count(asc)
-        + list_groups::count(list_groups::fold(dec))
-        + list_groups::count(list_groups::fold(asc_rate))
-        + list_groups::count(list_groups::fold(dec_rate))
+    list_groups::count(star.number)
+        + list_groups::count(star.asc)
+        + list_groups::count(list_groups::fold(star.dec))
+        + list_groups::count(list_groups::fold(star.asc_rate))
+        + list_groups::count(list_groups::fold(star.dec_rate))
 }
 
 // A star's bytes from the offset on, in range or not, and the offset after them.
@@ -270,28 +203,28 @@ pub fn write_head(out: &mut [u8], at: usize, n: u32) -> usize
 
 // The head of a list with so many stars, from the offset on.
 // Refusals: 8 for a count above what a list may have, then 8 for no room.
-pub fn put_head(out: &mut [u8], offset: usize, count: u32) -> Written
+pub fn put_head(out: &mut [u8], offset: usize, count: u32) -> Result<usize, Refusal>
     ensures { Put (head_text count) out.old offset out.new result }
 {
     if count > MOST_STARS {
-        return Written::Refused(8);
+        return Err(Refusal::List);
     }
     if !lent::has_room(out.len(), offset, 1 + list_groups::count(count)) {
-        return Written::Refused(8);
+        return Err(Refusal::List);
     }
-    Written::To(write_head(out, offset, count))
+    Ok(write_head(out, offset, count))
 }
 
 // A star, from the offset on.
 // Refusals: 9 for a star out of range, then 8 for no room.
-pub fn put_star(out: &mut [u8], offset: usize, star: Star) -> Written
+pub fn put_star(out: &mut [u8], offset: usize, star: Star) -> Result<usize, Refusal>
     ensures { Put (star_text star) out.old offset out.new result }
 {
     if !list::in_range(star) {
-        return Written::Refused(9);
+        return Err(Refusal::Record);
     }
     if !lent::has_room(out.len(), offset, star_size(star)) {
-        return Written::Refused(8);
+        return Err(Refusal::List);
     }
-    Written::To(write_star(out, offset, star))
+    Ok(write_star(out, offset, star))
 }

@@ -5,7 +5,8 @@
 ghost use Rattle.std.specs.Prelude.{◌≡◌};
 ghost use Rattle.list.specs.rules.Reader.{shown_stored, read_rule};
 
-use list::Stored;
+use list::Star;
+use quantity::Refusal;
 
 #[derive(Clone, Copy)]
 pub struct Reader<'a> {
@@ -22,14 +23,14 @@ pub fn make<'a>(bytes: &'a [u8], offset: usize) -> Reader<'a>
 
 // What stands at the reader's offset: a star, in range or not, or at the end none.
 // Refusals: 8 for bytes that are no list, and for an offset past the end or not at a record's start.
-pub fn next<'a>(reader: Reader<'a>) -> Stored
+pub fn next<'a>(reader: Reader<'a>) -> Result<Option<(Star, usize)>, Refusal>
     ensures { shown_stored result ≡ read_rule reader.entry.bytes.now reader.entry.offset }
 {
     list::star_at(reader.bytes, reader.offset)
 }
 
 // What stands at an offset of the bytes, through a reader. Whoever calls this one holds no reader.
-pub fn stored_at(bytes: &[u8], offset: usize) -> Stored
+pub fn stored_at(bytes: &[u8], offset: usize) -> Result<Option<(Star, usize)>, Refusal>
     ensures { shown_stored result ≡ read_rule bytes.now offset }
 {
     next(make(bytes, offset))

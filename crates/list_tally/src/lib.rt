@@ -3,7 +3,10 @@
 #![tactic(auto)]
 
 ghost use Rattle.std.specs.Prelude.{◌≡◌};
+ghost use Rattle.quantity.specs.rules.Answer.{checked};
 ghost use Rattle.list_tally.specs.rules.Tally.{count_of, refusal_at, count_after, empty, raise_rule};
+
+use quantity::Refusal;
 
 // The highest known status: 0, or a number of the table of refusals.
 pub const HIGHEST_STATUS: u8 = 19;
@@ -17,11 +20,11 @@ pub struct Tally {
     pub counts: [u32; 20],
 }
 
-// A tally beside the refusal number, where 0 is none.
+// A tally after a status, and whether the status was refused, which leaves the tally as it was.
 #[derive(Clone, Copy)]
 pub struct Raised {
     pub tally: Tally,
-    pub refusal: u8,
+    pub check: Result<(), Refusal>,
 }
 
 // The count that a status raises: its own where it is known, and else the first, which then stays.
@@ -36,13 +39,17 @@ fn count_of(status: u8) -> usize
 }
 
 // Refusals of a status whose count is n: 9 for one that is not known, then 8 for a count that is full.
-fn refusal_at(status: u8, n: u32) -> u8
-    ensures { result ≡ refusal_at status n }
+fn refusal_at(status: u8, n: u32) -> Result<(), Refusal>
+    ensures { checked result ≡ refusal_at status n }
 {
     if status > HIGHEST_STATUS {
-        return 9;
+        return Err(Refusal::Record);
     }
-    if n < FULLEST { 0 } else { 8 }
+    if n < FULLEST {
+        Ok(())
+    } else {
+        Err(Refusal::List)
+    }
 }
 
 // The count n after a status: one more where nothing is refused.
@@ -87,8 +94,8 @@ impl Tally {
         let mut tally = self;
         let k = count_of(status);
         let n = tally.counts[k];
-        let refusal = refusal_at(status, n);
+        let check = refusal_at(status, n);
         tally.counts[k] = count_after(status, n);
-        Raised { tally, refusal }
+        Raised { tally, check }
     }
 }

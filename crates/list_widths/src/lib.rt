@@ -6,12 +6,12 @@ ghost use Rattle.std.specs.Prelude.{◌≡◌, ◌+◌, ◌≤◌, length, get_o
 ghost use Rattle.lent.specs.rules.Writing.{Wrote};
 ghost use Rattle.lent.specs.rules.Put.{Put};
 ghost use Rattle.lent.specs.rules.Texts.{texts};
-ghost use Rattle.list.specs.rules.Stars.{stars, nought, all_are, all_in_range};
+ghost use Rattle.list.specs.rules.Stars.{count_of, stars, nought, all_are, all_in_range};
 ghost use Rattle.list_widths.specs.rules.Narrow.{narrow_width, narrow_at, narrow_bytes, is_still, is_narrow, narrow_count, narrow_stars};
 ghost use Rattle.list_widths.specs.rules.Widths.{to_wide, to_narrow, wide_record, narrow_record};
 
-use lent::Written;
 use list::Star;
+use quantity::Refusal;
 
 // Bytes of a record of before.
 pub const NARROW_WIDTH: usize = 12;
@@ -24,10 +24,7 @@ const MOST_NARROW_BYTES: usize = NARROW_WIDTH * list::MOST_STARS;
 fn is_narrow(bytes: &[u8]) -> bool
     ensures { result ≡ is_narrow bytes.now }
 {
-    if bytes.len() <= MOST_NARROW_BYTES {
-        return bytes.len() % NARROW_WIDTH == 0;
-    }
-    false
+    bytes.len() <= MOST_NARROW_BYTES && bytes.len() % NARROW_WIDTH == 0
 }
 
 // How many stars.
@@ -65,10 +62,7 @@ fn narrow_nth(bytes: &[u8], i: usize) -> Star
 fn is_still(star: Star) -> bool
     ensures { result ≡ is_still star }
 {
-    if signed::size(star.asc_rate) == 0 {
-        return signed::size(star.dec_rate) == 0;
-    }
-    false
+    signed::size(star.asc_rate) == 0 && signed::size(star.dec_rate) == 0
 }
 
 // A star's record of before from the offset on, and the offset after it.
@@ -86,46 +80,36 @@ fn write_narrow(out: &mut [u8], at: usize, star: Star) -> usize
 fn narrow_in_range(bytes: &[u8]) -> bool
     ensures { result ≡ all_in_range (narrow_stars bytes.now) }
 {
-    let n = narrow_count(bytes);
-    let mut i = 0;
-    while i < n {
-        if !list::in_range(narrow_nth(bytes, i)) {
-            return false;
-        }
-        i += 1;
-    }
-    true
+    (0..narrow_count(bytes)).all(|i| list::in_range(narrow_nth(bytes, i)))
 }
 
-// The records of so many stars of a list of before, from the slice's start on.
-fn write_up(out: &mut [u8], bytes: &[u8], n: usize) -> usize
-    ensures { Wrote out.old 0 (texts n (wide_record bytes.now)) out.new result }
+// The records of the stars of a list of before, from the slice's start on.
+fn write_up(out: &mut [u8], bytes: &[u8]) -> usize
+    ensures { Wrote out.old 0 (texts (narrow_count bytes.now) (wide_record bytes.now)) out.new result }
 {
     let mut offset = 0;
-    let mut i: usize = 0;
-    while i < n {
+    for i in 0..narrow_count(bytes) {
         offset = list::write_star(out, offset, narrow_nth(bytes, i));
-        i += 1;
     }
     offset
 }
 
 // A list of records of 12 bytes as a list of 20, its stars standing still, from the slice's start on: how many bytes were written.
 // Refusals: 8 for bytes that are no such list, 9 for a record out of range, then 8 for a slice that is shorter than the answer.
-pub fn list_12_to_20(bytes: &[u8], out: &mut [u8]) -> Written
+pub fn list_12_to_20(bytes: &[u8], out: &mut [u8]) -> Result<usize, Refusal>
     ensures { Put (to_wide bytes.now) out.old 0 out.new result }
 {
     if !is_narrow(bytes) {
-        return Written::Refused(8);
+        return Err(Refusal::List);
     }
     if !narrow_in_range(bytes) {
-        return Written::Refused(9);
+        return Err(Refusal::Record);
     }
     let n = narrow_count(bytes);
     if out.len() < n * list::WIDTH {
-        return Written::Refused(8);
+        return Err(Refusal::List);
     }
-    Written::To(write_up(out, bytes, n))
+    Ok(write_up(out, bytes))
 }
 
 // ---- down
@@ -134,41 +118,23 @@ pub fn list_12_to_20(bytes: &[u8], out: &mut [u8]) -> Written
 fn all_in_range(bytes: &[u8]) -> bool
     ensures { result ≡ all_in_range (stars bytes.now) }
 {
-    let n = list::count(bytes);
-    let mut i = 0;
-    while i < n {
-        if !list::in_range(list::nth(bytes, i)) {
-            return false;
-        }
-        i += 1;
-    }
-    true
+    (0..list::count(bytes)).all(|i| list::in_range(list::nth(bytes, i)))
 }
 
 // Whether every star of a list stands still.
 fn all_still(bytes: &[u8]) -> bool
     ensures { result ≡ all_are is_still (stars bytes.now) }
 {
-    let n = list::count(bytes);
-    let mut i = 0;
-    while i < n {
-        if !is_still(list::nth(bytes, i)) {
-            return false;
-        }
-        i += 1;
-    }
-    true
+    (0..list::count(bytes)).all(|i| is_still(list::nth(bytes, i)))
 }
 
-// The records of before of so many stars of a list, from the slice's start on.
-fn write_down(out: &mut [u8], bytes: &[u8], n: usize) -> usize
-    ensures { Wrote out.old 0 (texts n (narrow_record bytes.now)) out.new result }
+// The records of before of the stars of a list, from the slice's start on.
+fn write_down(out: &mut [u8], bytes: &[u8]) -> usize
+    ensures { Wrote out.old 0 (texts (count_of bytes.now) (narrow_record bytes.now)) out.new result }
 {
     let mut offset = 0;
-    let mut i: usize = 0;
-    while i < n {
+    for i in 0..list::count(bytes) {
         offset = write_narrow(out, offset, list::nth(bytes, i));
-        i += 1;
     }
     offset
 }
@@ -176,21 +142,21 @@ fn write_down(out: &mut [u8], bytes: &[u8], n: usize) -> usize
 // A list of records of 20 bytes as a list of 12, from the slice's start on: how many bytes were written.
 // Refusals: 8 for bytes that are no list, 9 for a record out of range, 17 for a yearly change that is not zero, then 8 for a slice that is
 // shorter than the answer.
-pub fn list_20_to_12(bytes: &[u8], out: &mut [u8]) -> Written
+pub fn list_20_to_12(bytes: &[u8], out: &mut [u8]) -> Result<usize, Refusal>
     ensures { Put (to_narrow bytes.now) out.old 0 out.new result }
 {
     if !list::is_list(bytes) {
-        return Written::Refused(8);
+        return Err(Refusal::List);
     }
     if !all_in_range(bytes) {
-        return Written::Refused(9);
+        return Err(Refusal::Record);
     }
     if !all_still(bytes) {
-        return Written::Refused(17);
+        return Err(Refusal::MovingStar);
     }
     let n = list::count(bytes);
     if out.len() < n * NARROW_WIDTH {
-        return Written::Refused(8);
+        return Err(Refusal::List);
     }
-    Written::To(write_down(out, bytes, n))
+    Ok(write_down(out, bytes))
 }

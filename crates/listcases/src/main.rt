@@ -3,10 +3,10 @@
 // What a line holds stands above the function that prints it.
 #![tactic(auto)]
 
-use list::{Found, Star, Stored};
+use list::Star;
 use list_tally::Tally;
+use quantity::Refusal;
 use std::io::Stdout;
-use text_sheet::Sheet;
 
 fn next(to: Stdout, n: u64) {
     let _ = to.write_all(b" ");
@@ -22,9 +22,9 @@ fn next_signed(to: Stdout, z: i32) {
     let _ = to.print(signed::size(z) as u64);
 }
 
-fn refusal(to: Stdout, n: u8) {
+fn refused(to: Stdout, refusal: Refusal) {
     let _ = to.write_all(b" refused");
-    next(to, n as u64);
+    next(to, refusal.number() as u64);
 }
 
 fn end(to: Stdout) {
@@ -46,7 +46,7 @@ fn length_case(to: Stdout, buffer: &[u8], n: usize) {
 fn offset_case(to: Stdout, bytes: &[u8], offset: usize) {
     let _ = to.print(offset as u64);
     match list_reader::stored_at(bytes, offset) {
-        Stored::Next(star, after) => {
+        Ok(Some((star, after))) => {
             next(to, star.number as u64);
             next(to, star.asc as u64);
             next_signed(to, star.dec);
@@ -54,8 +54,8 @@ fn offset_case(to: Stdout, bytes: &[u8], offset: usize) {
             next_signed(to, star.dec_rate);
             next(to, after as u64);
         }
-        Stored::End => {}
-        Stored::Refused(n) => refusal(to, n),
+        Ok(None) => {}
+        Err(refusal) => refused(to, refusal),
     }
     end(to);
 }
@@ -64,14 +64,14 @@ fn offset_case(to: Stdout, bytes: &[u8], offset: usize) {
 fn find_case(to: Stdout, bytes: &[u8], sought: u32) {
     let _ = to.print(sought as u64);
     match list::find(bytes, sought) {
-        Found::At(i, star) => {
+        Ok((i, star)) => {
             next(to, i as u64);
             next(to, star.asc as u64);
             next_signed(to, star.dec);
             next_signed(to, star.asc_rate);
             next_signed(to, star.dec_rate);
         }
-        Found::Refused(n) => refusal(to, n),
+        Err(refusal) => refused(to, refusal),
     }
     end(to);
 }
@@ -79,10 +79,10 @@ fn find_case(to: Stdout, bytes: &[u8], sought: u32) {
 // The sheet itself, with yearly changes or without.
 fn sheet_case(to: Stdout, bytes: &[u8], rates: bool, out: &mut [u8]) {
     match text_sheet::render(bytes, rates, out) {
-        Sheet::Bytes(k) => {
+        Ok(k) => {
             let _ = to.write_all(&out[..k]);
         }
-        Sheet::Refused(n) => refusal(to, n),
+        Err(refusal) => refused(to, refusal),
     }
 }
 
@@ -90,8 +90,8 @@ fn sheet_case(to: Stdout, bytes: &[u8], rates: bool, out: &mut [u8]) {
 fn size_case(to: Stdout, bytes: &[u8], out: &mut [u8]) {
     let _ = to.print(out.len() as u64);
     match text_sheet::render(bytes, true, out) {
-        Sheet::Bytes(k) => next(to, k as u64),
-        Sheet::Refused(n) => refusal(to, n),
+        Ok(k) => next(to, k as u64),
+        Err(refusal) => refused(to, refusal),
     }
     end(to);
 }
@@ -181,7 +181,7 @@ fn records_after(bytes: &mut [u8]) {
 fn raise_case(to: Stdout, tally: Tally, status: u8) -> Tally {
     let _ = to.print(status as u64);
     let raised = tally.raise(status);
-    next(to, raised.refusal as u64);
+    next(to, quantity::status_of(raised.check) as u64);
     let now = raised.tally;
     next(to, now.counts[0] as u64);
     next(to, now.counts[10] as u64);

@@ -4,17 +4,12 @@
 // sights.
 #![tactic(auto)]
 
-ghost use Rattle.std.specs.Prelude.{◌≤◌, ◌≡◌};
-ghost use Rattle.report_night.specs.rules.Report.{length_of};
+ghost use Rattle.std.specs.Prelude.{◌≤◌};
 
-use arguments::Named;
 use edition::Edition;
 use report_marks::Pad;
-use report_night::Told;
 use std::rt::Env;
-use text_date::Moment;
-use text_degrees::ReadDegrees;
-use text_dut1::Dut1;
+use text_fields::UnclearAt;
 
 // Bytes to read where sights are expected, one more than a text may have.
 const READ: usize = 300001;
@@ -38,26 +33,6 @@ fn too_long(err: &impl Print) {
 
 // ---- the night
 
-// How long a text is; where there is none, 0.
-fn length_of(told: Told) -> usize
-    ensures { result ≡ length_of told }
-{
-    match told {
-        Told::Text(k) => k,
-        Told::Unclear(_) => 0,
-    }
-}
-
-// Why there is no text.
-fn explain(err: &impl Print, told: Told) {
-    match told {
-        Told::Text(_) => {}
-        Told::Unclear(line) => {
-            no_sight(err, line);
-        }
-    }
-}
-
 // The text of a night, or why there is none.
 fn print_night<'a>(
     rt: &impl Print,
@@ -69,10 +44,14 @@ fn print_night<'a>(
     dut1: i32,
 ) {
     let mut out = [0u8; report_night::ROOM];
-    let told = report_night::put_night(&mut out, edition, pad, bytes, text, dut1);
-    let k = length_of(told);
-    arguments::write(rt, err, &out[..k]);
-    explain(err, told);
+    match report_night::put_night(&mut out, edition, pad, bytes, text, dut1) {
+        Ok(k) => {
+            arguments::write(rt, err, &out[..k]);
+        }
+        Err(UnclearAt(line)) => {
+            no_sight(err, line);
+        }
+    }
 }
 
 // With the sights on their descriptor.
@@ -102,7 +81,7 @@ fn print(rt: &(impl Input + Print), err: &impl Print, edition: Edition, pad: Pad
 
 // With all read but the edition, which argument i names.
 fn on_place(rt: &(impl Env + Input + Print), err: &impl Print, i: usize, pad: Pad, dut1: i32) {
-    let Named::Is(edition) = arguments::edition_of(rt, err, i, b"the last argument") else {
+    let Some(edition) = arguments::edition_of(rt, err, i, b"the last argument") else {
         return;
     };
     print(rt, err, edition, pad, dut1);
@@ -112,13 +91,13 @@ fn on_place(rt: &(impl Env + Input + Print), err: &impl Print, i: usize, pad: Pa
 fn read_pad(rt: &(impl Env + Input + Print), err: &impl Print, before: usize, utc: bool, dut1: i32)
     requires { before ≤ 2 }
 {
-    let Moment::Is(day1) = arguments::day_of(rt, err, before + 1, b"JD1", 0) else {
+    let Ok(day1) = arguments::day_of(rt, err, before + 1, b"JD1", 0) else {
         return;
     };
-    let ReadDegrees::Are(long) = arguments::degrees_of(rt, err, before + 2, b"LONGITUDE") else {
+    let Some(long) = arguments::degrees_of(rt, err, before + 2, b"LONGITUDE") else {
         return;
     };
-    let ReadDegrees::Are(lat) = arguments::degrees_of(rt, err, before + 3, b"LATITUDE") else {
+    let Some(lat) = arguments::degrees_of(rt, err, before + 3, b"LATITUDE") else {
         return;
     };
     on_place(
@@ -138,7 +117,7 @@ fn read_pad(rt: &(impl Env + Input + Print), err: &impl Print, before: usize, ut
 fn main(rt: HostRuntime) {
     let err = rt.stderr();
     if arguments::is_argument(&rt, 1, b"--dut1") {
-        let Dut1::Is(dut1) = arguments::dut1_of(&rt, &err, 2) else {
+        let Some(dut1) = arguments::dut1_of(&rt, &err, 2) else {
             return;
         };
         read_pad(&rt, &err, 2, false, dut1);

@@ -3,26 +3,23 @@
 #![tactic(auto)]
 
 ghost use Rattle.std.specs.Prelude.{◌≡◌};
-ghost use Rattle.quantity.specs.rules.Answer.{shown_two};
+ghost use Rattle.quantity.specs.rules.Answer.{checked, shown_two};
 ghost use Rattle.nutation.specs.rules.Day.{nutation_rule};
 ghost use Rattle.nutation.specs.rules.Point.{nutation_at, nutation_in_refusal, nutation_in_eq_coords_in, nutation_in_eq_coords_rule};
 
 use elementary::Direction;
 use nutation_args::Nutations;
-use quantity::{EqPoint, Rad, Shift, Two};
+use quantity::{EqPoint, Rad, Refusal, Shift};
 
 // ---- nutation on a day
 
 // Nutation in longitude and in obliquity on a day (Meeus, chapter 22). Refusals: 1; 2.
-pub fn nutation(day: f64) -> Two
+pub fn nutation(day: f64) -> Result<(f64, f64), Refusal>
     ensures { shown_two result ≡ nutation_rule day }
 {
-    let refusal = quantity::day_refusal(day);
-    if refusal != 0 {
-        return Two::Refused(refusal);
-    }
+    quantity::day_refusal(day)?;
     let n = nutation_table::nutation_on(day);
-    Two::Are(n.long.0, n.oblq.0)
+    Ok((n.long.0, n.oblq.0))
 }
 
 // ---- nutation of a point (Meeus 23.1)
@@ -41,8 +38,8 @@ pub fn nutation_at(d: Direction, n: Nutations, sin_oblq: f64, cos_oblq: f64) -> 
 }
 
 // Refusals of a point and three angles: 1; 3; 4.
-fn nutation_in_refusal(p: EqPoint, long: Rad, oblq: Rad, tru_oblq: Rad) -> u8
-    ensures { result ≡ nutation_in_refusal p long oblq tru_oblq }
+fn nutation_in_refusal(p: EqPoint, long: Rad, oblq: Rad, tru_oblq: Rad) -> Result<(), Refusal>
+    ensures { checked result ≡ nutation_in_refusal p long oblq tru_oblq }
 {
     quantity::lower(
         quantity::lower(
@@ -66,10 +63,7 @@ fn nutation_in(p: EqPoint, long: Rad, oblq: Rad, tru_oblq: Rad) -> Shift
     let e = elementary::fold(tru_oblq);
     nutation_at(
         elementary::toward(p),
-        Nutations {
-            long: long,
-            oblq: oblq,
-        },
+        Nutations { long, oblq },
         e.sine(),
         e.cosine(),
     )
@@ -82,13 +76,10 @@ pub fn nutation_in_eq_coords(
     nut_in_long: Rad,
     nut_in_oblq: Rad,
     tru_oblq: Rad,
-) -> Two
+) -> Result<(f64, f64), Refusal>
     ensures { shown_two result ≡ nutation_in_eq_coords_rule eq_point nut_in_long nut_in_oblq tru_oblq }
 {
-    let refusal = nutation_in_refusal(eq_point, nut_in_long, nut_in_oblq, tru_oblq);
-    if refusal != 0 {
-        return Two::Refused(refusal);
-    }
+    nutation_in_refusal(eq_point, nut_in_long, nut_in_oblq, tru_oblq)?;
     let s = nutation_in(eq_point, nut_in_long, nut_in_oblq, tru_oblq);
-    Two::Are(s.asc.0, s.dec.0)
+    Ok((s.asc.0, s.dec.0))
 }

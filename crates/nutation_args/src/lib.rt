@@ -97,12 +97,12 @@ fn moon_from(t: f64, d: Rad, m: Rad, m1: Rad, f: Rad, node: Rad) -> Moon
     ensures { result ≡ moon_from t d m m1 f node }
 {
     Moon {
-        t: t,
-        d: d,
-        m: m,
-        m1: m1,
-        f: f,
-        node: node,
+        t,
+        d,
+        m,
+        m1,
+        f,
+        node,
     }
 }
 

@@ -10,7 +10,7 @@ ghost use Rattle.nutation_ceiling.specs.rules.Ceiling.{largest, long_largest, ob
 
 use helpers::time;
 use nutation_args::{Nutations, Row, Sums};
-use quantity::{Deg, Two};
+use quantity::{Deg, Refusal};
 
 // ---- one row
 
@@ -60,10 +60,8 @@ fn sum_over(table: [[i32; 9]; 63], u: f64) -> Sums
         long: Deg(0.0),
         oblq: Deg(0.0),
     };
-    let mut i: usize = 0;
-    while i < 63 {
+    for i in 0..63 {
         s = with_largest(nutation_table::row_of(table[i]), u, s);
-        i += 1;
     }
     s
 }
@@ -76,13 +74,10 @@ fn ceiling_on(day: f64) -> Nutations
 }
 
 // The most, in size, that nutation in longitude and in obliquity can be on a day, in radians. Refusals: 1; 2.
-pub fn nutation_ceiling(day: f64) -> Two
+pub fn nutation_ceiling(day: f64) -> Result<(f64, f64), Refusal>
     ensures { shown_two result ≡ nutation_ceiling_rule day }
 {
-    let refusal = quantity::day_refusal(day);
-    if refusal != 0 {
-        return Two::Refused(refusal);
-    }
+    quantity::day_refusal(day)?;
     let n = ceiling_on(day);
-    Two::Are(n.long.0, n.oblq.0)
+    Ok((n.long.0, n.oblq.0))
 }

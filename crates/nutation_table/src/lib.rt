@@ -100,10 +100,8 @@ fn sum_over(table: [[i32; 9]; 63], a: Moon) -> Sums
         long: Deg(0.0),
         oblq: Deg(0.0),
     };
-    let mut i: usize = 0;
-    while i < 63 {
+    for i in 0..63 {
         s = nutation_args::with_row(row_of(table[i]), a, s);
-        i += 1;
     }
     s
 }

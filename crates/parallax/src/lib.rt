@@ -3,7 +3,7 @@
 #![tactic(auto)]
 
 ghost use Rattle.std.specs.Prelude.{◌≡◌};
-ghost use Rattle.quantity.specs.rules.Answer.{shown_radians, shown_point};
+ghost use Rattle.quantity.specs.rules.Answer.{checked, shown};
 ghost use Rattle.parallax.specs.rules.Horizontal.{sun_parallax, eq_hz_parallax_in, eq_hz_parallax_rule};
 ghost use Rattle.parallax.specs.rules.Observer.{centre_of, observer_refusal};
 ghost use Rattle.parallax.specs.rules.Equatorial.{eastward, ahead, topocent_dec, topocent_from, topocent_at, topocent_in, topocent_refusal};
@@ -12,7 +12,7 @@ ghost use Rattle.parallax.specs.rules.Equatorial.{topocent_eq_coords_rule};
 use elementary::Folded;
 use helpers::angle;
 use helpers_earth::Earth;
-use quantity::{Deg, EqPoint, GeographPoint, Point, Rad, Radians, Two};
+use quantity::{Deg, EqPoint, GeographPoint, Rad, Refusal};
 
 // ---- horizontal parallax (Meeus, chapter 40)
 
@@ -24,20 +24,17 @@ fn sun_parallax() -> f64
 }
 
 // The equatorial horizontal parallax of a distance that is not refused.
-fn eq_hz_parallax_in(dist: f64) -> Radians
-    ensures { shown_radians result ≡ eq_hz_parallax_in dist }
+fn eq_hz_parallax_in(dist: f64) -> Result<Rad, Refusal>
+    ensures { shown result ≡ eq_hz_parallax_in dist }
 {
     elementary_arc::arcsine_in(sun_parallax() / dist)
 }
 
 // The equatorial horizontal parallax of a body, from its distance to the Earth. Refusals: 1; 5.
-pub fn eq_hz_parallax(dist_to_earth: f64) -> Radians
-    ensures { shown_radians result ≡ eq_hz_parallax_rule dist_to_earth }
+pub fn eq_hz_parallax(dist_to_earth: f64) -> Result<Rad, Refusal>
+    ensures { shown result ≡ eq_hz_parallax_rule dist_to_earth }
 {
-    let refusal = quantity::distance_refusal(dist_to_earth);
-    if refusal != 0 {
-        return Radians::Refused(refusal);
-    }
+    quantity::distance_refusal(dist_to_earth)?;
     eq_hz_parallax_in(dist_to_earth)
 }
 
@@ -56,15 +53,20 @@ pub fn centre_of(rho_sin: f64, rho_cos: f64, parallax: Rad) -> Centre
     ensures { result ≡ centre_of rho_sin rho_cos parallax }
 {
     Centre {
-        rho_sin: rho_sin,
-        rho_cos: rho_cos,
+        rho_sin,
+        rho_cos,
         parallax: elementary::fold(parallax).sine(),
     }
 }
 
 // Refusals of the parallax, the observer's place and height, and a sidereal time: 1; 3; 4; 5.
-pub fn observer_refusal(parallax: Rad, site: GeographPoint, height: f64, sidereal: Rad) -> u8
-    ensures { result ≡ observer_refusal parallax site height sidereal }
+pub fn observer_refusal(
+    parallax: Rad,
+    site: GeographPoint,
+    height: f64,
+    sidereal: Rad,
+) -> Result<(), Refusal>
+    ensures { checked result ≡ observer_refusal parallax site height sidereal }
 {
     quantity::lower(
         quantity::lower(
@@ -98,8 +100,8 @@ fn ahead(c: Centre, h: Folded, d: Folded) -> f64
 }
 
 // The topocentric declination, from the change of right ascension.
-fn topocent_dec(c: Centre, d: Folded, change: Rad, x: f64) -> Radians
-    ensures { shown_radians result ≡ topocent_dec c d change x }
+fn topocent_dec(c: Centre, d: Folded, change: Rad, x: f64) -> Result<Rad, Refusal>
+    ensures { shown result ≡ topocent_dec c d change x }
 {
     elementary_arc::arctangent_in(
         (d.sine() - c.rho_sin * c.parallax) * elementary::fold(change).cosine(),
@@ -108,42 +110,42 @@ fn topocent_dec(c: Centre, d: Folded, change: Rad, x: f64) -> Radians
 }
 
 // The topocentric point, from its change of right ascension.
-fn topocent_from(c: Centre, d: Folded, asc: Rad, change: Rad, x: f64) -> Point
-    ensures { shown_point result ≡ topocent_from c d asc change x }
+fn topocent_from(c: Centre, d: Folded, asc: Rad, change: Rad, x: f64) -> Result<EqPoint, Refusal>
+    ensures { shown result ≡ topocent_from c d asc change x }
 {
-    match topocent_dec(c, d, change, x) {
-        Radians::Are(dec) => Point::Is(EqPoint {
-            asc: asc.0 + change.0,
-            dec: dec.0,
-        }),
-        Radians::Refused(n) => Point::Refused(n),
-    }
+    let dec = topocent_dec(c, d, change, x)?;
+    Ok(EqPoint {
+        asc: asc.0 + change.0,
+        dec: dec.0,
+    })
 }
 
 // The topocentric point, from the hour angle h and the declination d.
-fn topocent_at(c: Centre, h: Folded, d: Folded, asc: Rad) -> Point
-    ensures { shown_point result ≡ topocent_at c h d asc }
+fn topocent_at(c: Centre, h: Folded, d: Folded, asc: Rad) -> Result<EqPoint, Refusal>
+    ensures { shown result ≡ topocent_at c h d asc }
 {
     let x = ahead(c, h, d);
-    match elementary_arc::arctangent_in(eastward(c, h), x) {
-        Radians::Are(change) => topocent_from(c, d, asc, change, x),
-        Radians::Refused(n) => Point::Refused(n),
-    }
+    let change = elementary_arc::arctangent_in(eastward(c, h), x)?;
+    topocent_from(c, d, asc, change, x)
 }
 
 // The topocentric point of arguments that are not refused.
-fn topocent_in(p: EqPoint, parallax: Rad, site: GeographPoint, height: f64, sidereal: Rad) -> Point
-    ensures { shown_point result ≡ topocent_in p parallax site height sidereal }
+fn topocent_in(
+    p: EqPoint,
+    parallax: Rad,
+    site: GeographPoint,
+    height: f64,
+    sidereal: Rad,
+) -> Result<EqPoint, Refusal>
+    ensures { shown result ≡ topocent_in p parallax site height sidereal }
 {
-    match Earth::rho_in(Rad(site.lat), height) {
-        Two::Are(s, c) => topocent_at(
-            centre_of(s, c, parallax),
-            elementary::fold(coords::hour_angle(sidereal, Rad(site.long), Rad(p.asc))),
-            elementary::fold(Rad(p.dec)),
-            Rad(p.asc),
-        ),
-        Two::Refused(n) => Point::Refused(n),
-    }
+    let (s, c) = Earth::rho_in(Rad(site.lat), height)?;
+    topocent_at(
+        centre_of(s, c, parallax),
+        elementary::fold(coords::hour_angle(sidereal, Rad(site.long), Rad(p.asc))),
+        elementary::fold(Rad(p.dec)),
+        Rad(p.asc),
+    )
 }
 
 // Refusals of all arguments: 1; 3; 4; 5.
@@ -153,8 +155,8 @@ fn topocent_refusal(
     site: GeographPoint,
     height: f64,
     sidereal: Rad,
-) -> u8
-    ensures { result ≡ topocent_refusal p parallax site height sidereal }
+) -> Result<(), Refusal>
+    ensures { checked result ≡ topocent_refusal p parallax site height sidereal }
 {
     quantity::lower(
         quantity::lower(
@@ -173,19 +175,16 @@ pub fn topocent_eq_coords(
     geograph_point: GeographPoint,
     observer_ht: f64,
     greenw_sidr: Rad,
-) -> Point
-    ensures { shown_point result ≡ topocent_eq_coords_rule eq_point eq_hz_parllx geograph_point observer_ht greenw_sidr }
+) -> Result<EqPoint, Refusal>
+    ensures { shown result ≡ topocent_eq_coords_rule eq_point eq_hz_parllx geograph_point observer_ht greenw_sidr }
 {
-    let refusal = topocent_refusal(
+    topocent_refusal(
         eq_point,
         eq_hz_parllx,
         geograph_point,
         observer_ht,
         greenw_sidr,
-    );
-    if refusal != 0 {
-        return Point::Refused(refusal);
-    }
+    )?;
     topocent_in(
         eq_point,
         eq_hz_parllx,

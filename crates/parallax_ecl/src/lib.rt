@@ -3,7 +3,7 @@
 #![tactic(auto)]
 
 ghost use Rattle.std.specs.Prelude.{◌≡◌};
-ghost use Rattle.quantity.specs.rules.Answer.{shown_radians, shown_three};
+ghost use Rattle.quantity.specs.rules.Answer.{checked, shown, shown_three};
 ghost use Rattle.parallax_ecl.specs.rules.Ecliptic.{nearby, long_top, upward, lat_of_crate, lat_published, lat_top, semidiameter_in, ecliptic_from};
 ghost use Rattle.parallax_ecl.specs.rules.Ecliptic.{ecliptic_along, ecliptic_at, ecliptic_in, topopcent_refusal, topopcent_ecl_coords_rule};
 
@@ -12,7 +12,7 @@ use elementary::Folded;
 use helpers::angle;
 use helpers_earth::Earth;
 use parallax::Centre;
-use quantity::{EclPoint, GeographPoint, Rad, Radians, Three, Two};
+use quantity::{EclPoint, GeographPoint, Rad, Refusal};
 
 // ---- ecliptic coordinates (Meeus, chapter 40)
 
@@ -24,8 +24,8 @@ fn nearby(c: Centre, l: Folded, b: Folded, s: Folded) -> f64
 }
 
 // The topocentric longitude.
-fn long_top(c: Centre, l: Folded, b: Folded, s: Folded, e: Folded, n: f64) -> Radians
-    ensures { shown_radians result ≡ long_top c l b s e n }
+fn long_top(c: Centre, l: Folded, b: Folded, s: Folded, e: Folded, n: f64) -> Result<Rad, Refusal>
+    ensures { shown result ≡ long_top c l b s e n }
 {
     elementary_arc::arctangent_in(
         l.sine() * b.cosine()
@@ -42,25 +42,25 @@ fn upward(c: Centre, b: Folded, s: Folded, e: Folded) -> f64
 }
 
 // The crate's topocentric latitude, from the cosine of the longitude: beyond the pole where N is below zero.
-fn lat_of_crate(up: f64, cos_long: f64, n: f64) -> Radians
-    ensures { shown_radians result ≡ lat_of_crate up cos_long n }
+fn lat_of_crate(up: f64, cos_long: f64, n: f64) -> Result<Rad, Refusal>
+    ensures { shown result ≡ lat_of_crate up cos_long n }
 {
     elementary_arc::arctangent_in(cos_long * up, n)
 }
 
 // Meeus's. Refusals: 6 where the cosine is zero.
-fn lat_published(up: f64, cos_long: f64, n: f64) -> Radians
-    ensures { shown_radians result ≡ lat_published up cos_long n }
+fn lat_published(up: f64, cos_long: f64, n: f64) -> Result<Rad, Refusal>
+    ensures { shown result ≡ lat_published up cos_long n }
 {
     if cos_long == 0.0 {
-        return Radians::Refused(6);
+        return Err(Refusal::Zero);
     }
     elementary_arc::arctangent_in(up, n / cos_long)
 }
 
 // The topocentric latitude. Refusals: 6.
-fn lat_top(edition: Edition, up: f64, cos_long: f64, n: f64) -> Radians
-    ensures { shown_radians result ≡ lat_top edition up cos_long n }
+fn lat_top(edition: Edition, up: f64, cos_long: f64, n: f64) -> Result<Rad, Refusal>
+    ensures { shown result ≡ lat_top edition up cos_long n }
 {
     match edition {
         Edition::Crate => lat_of_crate(up, cos_long, n),
@@ -69,8 +69,8 @@ fn lat_top(edition: Edition, up: f64, cos_long: f64, n: f64) -> Radians
 }
 
 // The topocentric semidiameter. Refusals: 7.
-fn semidiameter_in(cos_long: f64, lat: Rad, semidiameter: Rad, n: f64) -> Radians
-    ensures { shown_radians result ≡ semidiameter_in cos_long lat semidiameter n }
+fn semidiameter_in(cos_long: f64, lat: Rad, semidiameter: Rad, n: f64) -> Result<Rad, Refusal>
+    ensures { shown result ≡ semidiameter_in cos_long lat semidiameter n }
 {
     elementary_arc::arcsine_in(
         cos_long * elementary::fold(lat).cosine() * elementary::fold(semidiameter).sine() / n,
@@ -78,24 +78,32 @@ fn semidiameter_in(cos_long: f64, lat: Rad, semidiameter: Rad, n: f64) -> Radian
 }
 
 // All three, from the longitude and the latitude. Refusals: 7.
-fn ecliptic_from(long: Rad, cos_long: f64, lat: Rad, semidiameter: Rad, n: f64) -> Three
+fn ecliptic_from(
+    long: Rad,
+    cos_long: f64,
+    lat: Rad,
+    semidiameter: Rad,
+    n: f64,
+) -> Result<(f64, f64, f64), Refusal>
     ensures { shown_three result ≡ ecliptic_from long cos_long lat semidiameter n }
 {
-    match semidiameter_in(cos_long, lat, semidiameter, n) {
-        Radians::Are(s) => Three::Are(angle::within_two_PI(long).0, lat.0, s.0),
-        Radians::Refused(k) => Three::Refused(k),
-    }
+    let s = semidiameter_in(cos_long, lat, semidiameter, n)?;
+    Ok((angle::within_two_PI(long).0, lat.0, s.0))
 }
 
 // All three, from the longitude. Refusals: 6; 7.
-fn ecliptic_along(edition: Edition, up: f64, long: Rad, semidiameter: Rad, n: f64) -> Three
+fn ecliptic_along(
+    edition: Edition,
+    up: f64,
+    long: Rad,
+    semidiameter: Rad,
+    n: f64,
+) -> Result<(f64, f64, f64), Refusal>
     ensures { shown_three result ≡ ecliptic_along edition up long semidiameter n }
 {
     let cos_long = elementary::fold(long).cosine();
-    match lat_top(edition, up, cos_long, n) {
-        Radians::Are(lat) => ecliptic_from(long, cos_long, lat, semidiameter, n),
-        Radians::Refused(k) => Three::Refused(k),
-    }
+    let lat = lat_top(edition, up, cos_long, n)?;
+    ecliptic_from(long, cos_long, lat, semidiameter, n)
 }
 
 // All three, from the longitude l, the latitude b, the sidereal time s and the obliquity e.
@@ -108,17 +116,15 @@ fn ecliptic_at(
     s: Folded,
     e: Folded,
     semidiameter: Rad,
-) -> Three
+) -> Result<(f64, f64, f64), Refusal>
     ensures { shown_three result ≡ ecliptic_at edition c l b s e semidiameter }
 {
     let n = nearby(c, l, b, s);
     if n == 0.0 {
-        return Three::Refused(6);
+        return Err(Refusal::Zero);
     }
-    match long_top(c, l, b, s, e, n) {
-        Radians::Are(long) => ecliptic_along(edition, upward(c, b, s, e), long, semidiameter, n),
-        Radians::Refused(k) => Three::Refused(k),
-    }
+    let long = long_top(c, l, b, s, e, n)?;
+    ecliptic_along(edition, upward(c, b, s, e), long, semidiameter, n)
 }
 
 // All three, of arguments that are not refused. Refusals: 6; 7.
@@ -131,21 +137,19 @@ fn ecliptic_in(
     sidereal: Rad,
     oblq: Rad,
     semidiameter: Rad,
-) -> Three
+) -> Result<(f64, f64, f64), Refusal>
     ensures { shown_three result ≡ ecliptic_in edition p parallax site height sidereal oblq semidiameter }
 {
-    match Earth::rho_in(Rad(site.lat), height) {
-        Two::Are(s, c) => ecliptic_at(
-            edition,
-            parallax::centre_of(s, c, parallax),
-            elementary::fold(Rad(p.long)),
-            elementary::fold(Rad(p.lat)),
-            elementary::fold(sidereal),
-            elementary::fold(oblq),
-            semidiameter,
-        ),
-        Two::Refused(k) => Three::Refused(k),
-    }
+    let (s, c) = Earth::rho_in(Rad(site.lat), height)?;
+    ecliptic_at(
+        edition,
+        parallax::centre_of(s, c, parallax),
+        elementary::fold(Rad(p.long)),
+        elementary::fold(Rad(p.lat)),
+        elementary::fold(sidereal),
+        elementary::fold(oblq),
+        semidiameter,
+    )
 }
 
 // Refusals of all arguments: 1; 3; 4; 5.
@@ -157,8 +161,8 @@ fn topopcent_refusal(
     sidereal: Rad,
     oblq: Rad,
     semidiameter: Rad,
-) -> u8
-    ensures { result ≡ topopcent_refusal p parallax site height sidereal oblq semidiameter }
+) -> Result<(), Refusal>
+    ensures { checked result ≡ topopcent_refusal p parallax site height sidereal oblq semidiameter }
 {
     quantity::lower(
         quantity::lower(
@@ -188,11 +192,11 @@ pub fn topopcent_ecl_coords(
     loc_sidr: Rad,
     eclip_oblq: Rad,
     geocent_semdia: Rad,
-) -> Three
+) -> Result<(f64, f64, f64), Refusal>
     ensures { shown_three result ≡ topopcent_ecl_coords_rule edition ecl_point eq_hz_parllx geograph_point observer_ht loc_sidr eclip_oblq
         geocent_semdia }
 {
-    let refusal = topopcent_refusal(
+    topopcent_refusal(
         ecl_point,
         eq_hz_parllx,
         geograph_point,
@@ -200,10 +204,7 @@ pub fn topopcent_ecl_coords(
         loc_sidr,
         eclip_oblq,
         geocent_semdia,
-    );
-    if refusal != 0 {
-        return Three::Refused(refusal);
-    }
+    )?;
     ecliptic_in(
         edition,
         ecl_point,

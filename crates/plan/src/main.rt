@@ -4,54 +4,17 @@
 // from an almanac, which is worked out else.
 #![tactic(auto)]
 
-ghost use Rattle.std.specs.Prelude.{◌≤◌};
+ghost use Rattle.std.specs.Prelude.{◌≤◌, length};
 
-use arguments::{Days, Named};
 use edition::Edition;
 use quantity::Deg;
 use std::rt::Env;
-use text_answers::Style;
-use text_degrees::ReadDegrees;
-
-// The plan of a list at its day's own sidereal time.
-fn print_plan(
-    rt: &impl Print,
-    err: &impl Print,
-    table: bool,
-    edition: Edition,
-    bytes: &[u8],
-    day1: f64,
-    day2: f64,
-    long: Deg,
-    lat: Deg,
-    alt: Deg,
-) {
-    let mut out = [0u8; report::ROOM];
-    let k = report::put_plan(&mut out, table, edition, bytes, day1, day2, long, lat, alt);
-    arguments::write(rt, err, &out[..k]);
-}
-
-// The plan of a list for an observer.
-fn print_list(
-    rt: &impl Print,
-    err: &impl Print,
-    style: Style,
-    edition: Edition,
-    bytes: &[u8],
-    day1: f64,
-    day2: f64,
-) {
-    let mut out = [0u8; report::ROOM];
-    let k = report::put_report(&mut out, style, edition, bytes, day1, day2);
-    arguments::write(rt, err, &out[..k]);
-}
 
 // The plan of a list with a sidereal time, where one is given, or without.
-fn print_either(
-    rt: &impl Print,
-    err: &impl Print,
+fn put_either(
+    out: &mut [u8],
     table: bool,
-    given: ReadDegrees,
+    given: Option<Deg>,
     edition: Edition,
     bytes: &[u8],
     day1: f64,
@@ -59,24 +22,44 @@ fn print_either(
     long: Deg,
     lat: Deg,
     alt: Deg,
-) {
+) -> usize
+    ensures { result ≤ length out.new }
+{
     match given {
-        ReadDegrees::Are(sidereal) => {
+        Some(sidereal) => {
             let o = transit::observer_in_degrees(sidereal, long, lat, alt);
-            print_list(
-                rt,
-                err,
+            report::put_report(
+                out,
                 report::plan_style(table, o),
                 edition,
                 bytes,
                 day1,
                 day2,
-            );
+            )
         }
-        ReadDegrees::Unclear => {
-            print_plan(rt, err, table, edition, bytes, day1, day2, long, lat, alt);
-        }
+        None => report::put_plan(out, table, edition, bytes, day1, day2, long, lat, alt),
     }
+}
+
+// The plan of a list.
+fn print_list(
+    rt: &impl Print,
+    err: &impl Print,
+    table: bool,
+    given: Option<Deg>,
+    edition: Edition,
+    bytes: &[u8],
+    day1: f64,
+    day2: f64,
+    long: Deg,
+    lat: Deg,
+    alt: Deg,
+) {
+    let mut out = [0u8; report::ROOM];
+    let k = put_either(
+        &mut out, table, given, edition, bytes, day1, day2, long, lat, alt,
+    );
+    arguments::write(rt, err, &out[..k]);
 }
 
 // The list on standard input, with all else read.
@@ -84,7 +67,7 @@ fn print(
     rt: &(impl Input + Print),
     err: &impl Print,
     table: bool,
-    given: ReadDegrees,
+    given: Option<Deg>,
     edition: Edition,
     day1: f64,
     day2: f64,
@@ -94,7 +77,7 @@ fn print(
 ) {
     let mut input = [0u8; list::READ];
     let n = arguments::read(&mut rt.reader(), &mut input);
-    print_either(
+    print_list(
         rt,
         err,
         table,
@@ -113,13 +96,8 @@ fn print(
 fn before_days(table: bool, almanac: bool) -> usize
     ensures { result ≤ 3 }
 {
-    if table {
-        if almanac {
-            return 3;
-        }
-        return 1;
-    }
-    if almanac { 2 } else { 0 }
+    let words = if table { 1 } else { 0 };
+    if almanac { words + 2 } else { words }
 }
 
 // The argument behind `--sidereal`.
@@ -135,20 +113,20 @@ fn on_days(
     err: &impl Print,
     table: bool,
     before: usize,
-    given: ReadDegrees,
+    given: Option<Deg>,
     edition: Edition,
     day1: f64,
     day2: f64,
 )
     requires { before ≤ 3 }
 {
-    let ReadDegrees::Are(long) = arguments::degrees_of(rt, err, before + 3, b"LONGITUDE") else {
+    let Some(long) = arguments::degrees_of(rt, err, before + 3, b"LONGITUDE") else {
         return;
     };
-    let ReadDegrees::Are(lat) = arguments::degrees_of(rt, err, before + 4, b"LATITUDE") else {
+    let Some(lat) = arguments::degrees_of(rt, err, before + 4, b"LATITUDE") else {
         return;
     };
-    let ReadDegrees::Are(alt) = arguments::degrees_of(rt, err, before + 5, b"ALTITUDE") else {
+    let Some(alt) = arguments::degrees_of(rt, err, before + 5, b"ALTITUDE") else {
         return;
     };
     print(rt, err, table, given, edition, day1, day2, long, lat, alt);
@@ -160,15 +138,14 @@ fn read_days(
     err: &impl Print,
     table: bool,
     before: usize,
-    given: ReadDegrees,
+    given: Option<Deg>,
 )
     requires { before ≤ 3 }
 {
-    let Days::Are(day1, day2) = arguments::days_of(rt, err, before + 1, before + 2, b"DATE", 0)
-    else {
+    let Some((day1, day2)) = arguments::days_of(rt, err, before + 1, before + 2, b"DATE", 0) else {
         return;
     };
-    let Named::Is(edition) = arguments::edition_of(rt, err, before + 6, b"after ALTITUDE") else {
+    let Some(edition) = arguments::edition_of(rt, err, before + 6, b"after ALTITUDE") else {
         return;
     };
     on_days(rt, err, table, before, given, edition, day1, day2);
@@ -181,11 +158,11 @@ fn main(rt: HostRuntime) {
     let almanac = arguments::is_argument(&rt, at - 1, b"--sidereal");
     let before = before_days(table, almanac);
     if !almanac {
-        read_days(&rt, &err, table, before, ReadDegrees::Unclear);
+        read_days(&rt, &err, table, before, None);
         return;
     }
-    let ReadDegrees::Are(sidereal) = arguments::degrees_of(&rt, &err, at, b"SIDEREAL") else {
+    let Some(sidereal) = arguments::degrees_of(&rt, &err, at, b"SIDEREAL") else {
         return;
     };
-    read_days(&rt, &err, table, before, ReadDegrees::Are(sidereal));
+    read_days(&rt, &err, table, before, Some(sidereal));
 }

@@ -4,7 +4,7 @@
 #![tactic(auto)]
 
 ghost use Rattle.std.specs.Prelude.{◌≡◌};
-ghost use Rattle.quantity.specs.rules.Answer.{shown_two};
+ghost use Rattle.quantity.specs.rules.Answer.{checked, shown_two};
 ghost use Rattle.precess.specs.rules.Annual.{annual_m, annual_n, annual_at, annual_in, annual_refusal, annual_precess_rule};
 ghost use Rattle.precess.specs.rules.Equatorial.{arcs_of, precessed_from, precessed_in, precess_eq_coords_rule, precess_eq_coords_FK5_rule};
 ghost use Rattle.precess.specs.rules.Two.{precessed_two_from, precessed_two};
@@ -13,7 +13,7 @@ use edition::Edition;
 use elementary::{Direction, Folded};
 use helpers::{angle, time};
 use precess_angles::EqPrecession;
-use quantity::{Deg, EqPoint, Places, Rad, Two};
+use quantity::{Deg, EqPoint, Places, Rad, Refusal};
 
 // ---- annual precession (Meeus, chapter 21)
 
@@ -32,14 +32,14 @@ fn annual_n(c: f64) -> Deg
 }
 
 // The yearly change of a place, from m and n.
-fn annual_at(m: Rad, n: Rad, a: Folded, d: Folded) -> Two
+fn annual_at(m: Rad, n: Rad, a: Folded, d: Folded) -> Result<(f64, f64), Refusal>
     ensures { shown_two result ≡ annual_at m n a d }
 {
-    Two::Are(m.0 + n.0 * a.sine() * d.tangent(), n.0 * a.cosine())
+    Ok((m.0 + n.0 * a.sine() * d.tangent(), n.0 * a.cosine()))
 }
 
 // The yearly change of arguments that are not refused.
-fn annual_in(asc: Rad, dec: Rad, day: f64) -> Two
+fn annual_in(asc: Rad, dec: Rad, day: f64) -> Result<(f64, f64), Refusal>
     ensures { shown_two result ≡ annual_in asc dec day }
 {
     let c = time::century(day);
@@ -52,8 +52,8 @@ fn annual_in(asc: Rad, dec: Rad, day: f64) -> Two
 }
 
 // Refusals of a right ascension, a declination and a day: 1; 2; 3; 4.
-fn annual_refusal(asc: Rad, dec: Rad, day: f64) -> u8
-    ensures { result ≡ annual_refusal asc dec day }
+fn annual_refusal(asc: Rad, dec: Rad, day: f64) -> Result<(), Refusal>
+    ensures { checked result ≡ annual_refusal asc dec day }
 {
     quantity::lower(
         quantity::lower(quantity::angle_refusal(asc), quantity::steep_refusal(dec)),
@@ -62,13 +62,10 @@ fn annual_refusal(asc: Rad, dec: Rad, day: f64) -> u8
 }
 
 // The annual precession in right ascension and declination towards a day. Refusals: 1; 2; 3; 4 past 1.57 for declination.
-pub fn annual_precess(asc: Rad, dec: Rad, day: f64) -> Two
+pub fn annual_precess(asc: Rad, dec: Rad, day: f64) -> Result<(f64, f64), Refusal>
     ensures { shown_two result ≡ annual_precess_rule asc dec day }
 {
-    let refusal = annual_refusal(asc, dec, day);
-    if refusal != 0 {
-        return Two::Refused(refusal);
-    }
+    annual_refusal(asc, dec, day)?;
     annual_in(asc, dec, day)
 }
 
@@ -98,7 +95,7 @@ fn arcs_of(d: Direction, precession: EqPrecession) -> Arcs
 }
 
 // A place after precession. Refusals: 14; 7.
-fn precessed_from(d: Direction, precession: EqPrecession) -> Two
+fn precessed_from(d: Direction, precession: EqPrecession) -> Result<(f64, f64), Refusal>
     ensures { shown_two result ≡ precessed_from d precession }
 {
     let zeta = precession.zeta;
@@ -110,7 +107,7 @@ fn precessed_from(d: Direction, precession: EqPrecession) -> Two
 }
 
 // A place under a night's precession, of arguments that are not refused. Refusals: 14; 7.
-pub fn precessed_in(asc: Rad, dec: Rad, precession: EqPrecession) -> Two
+pub fn precessed_in(asc: Rad, dec: Rad, precession: EqPrecession) -> Result<(f64, f64), Refusal>
     ensures { shown_two result ≡ precessed_in asc dec precession }
 {
     let p = EqPoint {
@@ -137,8 +134,8 @@ fn precessed_two_from(d: Direction, e: Direction, precession: EqPrecession) -> P
         second_asc: p.second_asc + zeta.0,
         first_dec: p.first_dec,
         second_dec: p.second_dec,
-        first_refusal: precess_arcs::arcs_refusal(a.up, a.across, a.height),
-        second_refusal: precess_arcs::arcs_refusal(b.up, b.across, b.height),
+        first_check: precess_arcs::arcs_refusal(a.up, a.across, a.height),
+        second_check: precess_arcs::arcs_refusal(b.up, b.across, b.height),
     }
 }
 
@@ -167,13 +164,16 @@ pub fn precessed_two(
 }
 
 // Equatorial coordinates reduced from the first day to the second. Refusals: 1; 2; 3; then 14; 7.
-pub fn precess_eq_coords(edition: Edition, old_asc: Rad, old_dec: Rad, day1: f64, day2: f64) -> Two
+pub fn precess_eq_coords(
+    edition: Edition,
+    old_asc: Rad,
+    old_dec: Rad,
+    day1: f64,
+    day2: f64,
+) -> Result<(f64, f64), Refusal>
     ensures { shown_two result ≡ precess_eq_coords_rule edition old_asc old_dec day1 day2 }
 {
-    let refusal = precess_angles::place_refusal(old_asc, old_dec, day1, day2);
-    if refusal != 0 {
-        return Two::Refused(refusal);
-    }
+    precess_angles::place_refusal(old_asc, old_dec, day1, day2)?;
     precessed_in(
         old_asc,
         old_dec,
@@ -188,13 +188,10 @@ pub fn precess_eq_coords_FK5(
     old_dec: Rad,
     day1: f64,
     day2: f64,
-) -> Two
+) -> Result<(f64, f64), Refusal>
     ensures { shown_two result ≡ precess_eq_coords_FK5_rule edition old_asc old_dec day1 day2 }
 {
-    let refusal = precess_angles::place_refusal(old_asc, old_dec, day1, day2);
-    if refusal != 0 {
-        return Two::Refused(refusal);
-    }
+    precess_angles::place_refusal(old_asc, old_dec, day1, day2)?;
     precessed_in(
         old_asc,
         old_dec,

@@ -3,13 +3,14 @@
 #![tactic(auto)]
 
 ghost use Rattle.std.specs.Prelude.{◌≡◌};
+ghost use Rattle.quantity.specs.rules.Answer.{checked};
 ghost use Rattle.precess_angles.specs.rules.Days.{span_of, days_refusal, place_refusal};
 ghost use Rattle.precess_angles.specs.rules.Equatorial.{eq_xi, eq_zeta, eq_theta, eq_angles_of, precession_by, eq_precession_of};
 ghost use Rattle.precess_angles.specs.rules.Fk4.{fk4_century, fk4_span, fk4_xi, fk4_zeta, fk4_theta, degrees_as_radians, fk4_angle, fk4_angles_of, fk4_precession_of};
 
 use edition::Edition;
 use helpers::{angle, time};
-use quantity::{Deg, Rad};
+use quantity::{Deg, Rad, Refusal};
 
 // ---- the days
 
@@ -21,15 +22,15 @@ pub fn span(day1: f64, day2: f64) -> f64
 }
 
 // Refusals of two days: 1; 2.
-pub fn days_refusal(day1: f64, day2: f64) -> u8
-    ensures { result ≡ days_refusal day1 day2 }
+pub fn days_refusal(day1: f64, day2: f64) -> Result<(), Refusal>
+    ensures { checked result ≡ days_refusal day1 day2 }
 {
     quantity::lower(quantity::day_refusal(day1), quantity::day_refusal(day2))
 }
 
 // Refusals of a longitude, a latitude and two days: 1; 2; 3.
-pub fn place_refusal(long: Rad, lat: Rad, day1: f64, day2: f64) -> u8
-    ensures { result ≡ place_refusal long lat day1 day2 }
+pub fn place_refusal(long: Rad, lat: Rad, day1: f64, day2: f64) -> Result<(), Refusal>
+    ensures { checked result ≡ place_refusal long lat day1 day2 }
 {
     quantity::lower(
         quantity::lower(
@@ -114,8 +115,8 @@ fn precession_by(angles: EqAngles) -> EqPrecession
     let theta = angles.theta;
     let t = elementary::sin_cos_of(theta);
     EqPrecession {
-        xi: xi,
-        zeta: zeta,
+        xi,
+        zeta,
         sine: t.sine,
         cosine: t.cosine,
     }

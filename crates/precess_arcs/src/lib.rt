@@ -3,20 +3,26 @@
 #![tactic(auto)]
 
 ghost use Rattle.std.specs.Prelude.{◌≡◌};
-ghost use Rattle.precess_arcs.specs.rules.Arcs.{arcs_refusal, arcs_two};
+ghost use Rattle.precess_arcs.specs.rules.Arcs.{arcs_check, arcs_two};
+
+use quantity::Refusal;
 
 // Refusals of a place's arcs: 14; 7; and 1 of a NaN.
-pub fn arcs_refusal(up: f64, across: f64, height: f64) -> u8
-    ensures { result ≡ arcs_refusal up across height }
+pub fn arcs_refusal(up: f64, across: f64, height: f64) -> Result<(), Refusal>
+    ensures { result ≡ arcs_check up across height }
 {
     if elementary_arc::both_zero(up, across) {
-        return 14;
+        return Err(Refusal::NoDirection);
     }
     let size = double::size(height);
     if size <= 1.0 {
-        return 0;
+        return Ok(());
     }
-    if 1.0 < size { 7 } else { 1 }
+    if 1.0 < size {
+        Err(Refusal::Arcsine)
+    } else {
+        Err(Refusal::NotFinite)
+    }
 }
 
 // The arcs of two places, in radians.

@@ -3,7 +3,7 @@
 #![tactic(auto)]
 
 ghost use Rattle.std.specs.Prelude.{◌≡◌};
-ghost use Rattle.quantity.specs.rules.Answer.{shown_two, shown_three, shown_radians};
+ghost use Rattle.quantity.specs.rules.Answer.{checked, shown_two, shown_three, shown};
 ghost use Rattle.precess_ecl.specs.rules.Ecliptic.{ecl_nu, ecl_pi, ecl_rho, ecl_precession_by, ecl_precession_of};
 ghost use Rattle.precess_ecl.specs.rules.Ecliptic.{ecl_precessed_from, ecl_precessed_in, precess_ecl_coords_rule};
 ghost use Rattle.precess_ecl.specs.rules.Orbit.{leaned_of, new_inclination, new_node, node_and_perihelion, orbit_from, orbit_in, orbit_refusal};
@@ -11,7 +11,7 @@ ghost use Rattle.precess_ecl.specs.rules.Orbit.{precess_orb_elements_rule};
 
 use elementary::Folded;
 use helpers::{angle, time};
-use quantity::{Deg, One, Rad, Radians, Three, Two};
+use quantity::{Deg, Rad, Refusal};
 
 // ---- ecliptic coordinates (Meeus 21.5 to 21.7)
 
@@ -66,11 +66,11 @@ fn ecl_precession_by(nu: Rad, pi: Rad, rho: Rad) -> EclPrecession
 {
     let t = elementary::sin_cos_of(nu);
     EclPrecession {
-        nu: nu,
+        nu,
         sine: t.sine,
         cosine: t.cosine,
-        pi: pi,
-        rho: rho,
+        pi,
+        rho,
     }
 }
 
@@ -88,7 +88,11 @@ fn ecl_precession(day1: f64, day2: f64) -> EclPrecession
 }
 
 // A place after precession: p is Pi less its longitude, b its latitude. Refusals: 7.
-fn ecl_precessed_from(p: Folded, b: Folded, precession: EclPrecession) -> Two
+fn ecl_precessed_from(
+    p: Folded,
+    b: Folded,
+    precession: EclPrecession,
+) -> Result<(f64, f64), Refusal>
     ensures { shown_two result ≡ ecl_precessed_from p b precession }
 {
     let sp = p.sine();
@@ -108,7 +112,7 @@ fn ecl_precessed_from(p: Folded, b: Folded, precession: EclPrecession) -> Two
 }
 
 // A place under the precession of two days, of arguments that are not refused. Refusals: 7.
-fn ecl_precessed_in(long: Rad, lat: Rad, precession: EclPrecession) -> Two
+fn ecl_precessed_in(long: Rad, lat: Rad, precession: EclPrecession) -> Result<(f64, f64), Refusal>
     ensures { shown_two result ≡ ecl_precessed_in long lat precession }
 {
     ecl_precessed_from(
@@ -119,13 +123,15 @@ fn ecl_precessed_in(long: Rad, lat: Rad, precession: EclPrecession) -> Two
 }
 
 // Ecliptic coordinates reduced from the first day to the second. Refusals: 1; 2; 3; then 7.
-pub fn precess_ecl_coords(old_long: Rad, old_lat: Rad, day1: f64, day2: f64) -> Two
+pub fn precess_ecl_coords(
+    old_long: Rad,
+    old_lat: Rad,
+    day1: f64,
+    day2: f64,
+) -> Result<(f64, f64), Refusal>
     ensures { shown_two result ≡ precess_ecl_coords_rule old_long old_lat day1 day2 }
 {
-    let refusal = precess_angles::place_refusal(old_long, old_lat, day1, day2);
-    if refusal != 0 {
-        return Two::Refused(refusal);
-    }
+    precess_angles::place_refusal(old_long, old_lat, day1, day2)?;
     ecl_precessed_in(old_long, old_lat, ecl_precession(day1, day2))
 }
 
@@ -150,27 +156,24 @@ fn lean(i: Folded, n: Folded, precession: EclPrecession) -> Leaned
 }
 
 // The new inclination; nu where the old one is zero, of either sign. Refusals: 7.
-fn new_inclination(inc: Rad, l: Leaned, precession: EclPrecession) -> Radians
-    ensures { shown_radians result ≡ new_inclination inc l precession }
+fn new_inclination(inc: Rad, l: Leaned, precession: EclPrecession) -> Result<Rad, Refusal>
+    ensures { shown result ≡ new_inclination inc l precession }
 {
     if inc.0 == 0.0 {
-        let nu = precession.nu;
-        return Radians::Are(nu);
+        return Ok(precession.nu);
     }
-    match root::square_root(l.a * l.a + l.b * l.b) {
-        One::Is(s) => elementary_arc::arcsine_in(s),
-        One::Refused(n) => Radians::Refused(n),
-    }
+    let s = root::square_root(l.a * l.a + l.b * l.b)?;
+    elementary_arc::arcsine_in(s)
 }
 
 // The new node; half a turn on where the old inclination is zero. Where it has no direction the new inclination is zero, and
 // `orbit_from` refuses by 6 before it looks at the node.
-fn new_node(inc: Rad, l: Leaned, precession: EclPrecession) -> Radians
-    ensures { shown_radians result ≡ new_node inc l precession }
+fn new_node(inc: Rad, l: Leaned, precession: EclPrecession) -> Result<Rad, Refusal>
+    ensures { shown result ≡ new_node inc l precession }
 {
     let phi = precession.pi.0 + precession.rho.0;
     if inc.0 == 0.0 {
-        return Radians::Are(Rad(phi + quantity::PI));
+        return Ok(Rad(phi + quantity::PI));
     }
     quantity::added_to(Rad(phi), elementary_arc::arctangent_in(l.a, l.b))
 }
@@ -178,12 +181,12 @@ fn new_node(inc: Rad, l: Leaned, precession: EclPrecession) -> Radians
 // The new node and perihelion, where the new inclination's sine s is not zero. Refusals: 7.
 fn node_and_perihelion(
     s: f64,
-    node: Radians,
+    node: Result<Rad, Refusal>,
     perih: Rad,
     n: Folded,
     precession: EclPrecession,
-) -> Two
-    ensures { shown_two result ≡ node_and_perihelion s (shown_radians node) perih n precession }
+) -> Result<(f64, f64), Refusal>
+    ensures { shown_two result ≡ node_and_perihelion s (shown node) perih n precession }
 {
     quantity::both(
         node,
@@ -195,34 +198,41 @@ fn node_and_perihelion(
 }
 
 // The elements with their new inclination i. Refusals: 6 where its sine is zero; then 7.
-fn orbit_from(i: Rad, node: Radians, perih: Rad, n: Folded, precession: EclPrecession) -> Three
-    ensures { shown_three result ≡ orbit_from i (shown_radians node) perih n precession }
+fn orbit_from(
+    i: Rad,
+    node: Result<Rad, Refusal>,
+    perih: Rad,
+    n: Folded,
+    precession: EclPrecession,
+) -> Result<(f64, f64, f64), Refusal>
+    ensures { shown_three result ≡ orbit_from i (shown node) perih n precession }
 {
     let s = elementary::fold(i).sine();
     if s == 0.0 {
-        return Three::Refused(6);
+        return Err(Refusal::Zero);
     }
-    match node_and_perihelion(s, node, perih, n, precession) {
-        Two::Are(x, w) => Three::Are(i.0, w, x),
-        Two::Refused(k) => Three::Refused(k),
-    }
+    let (x, w) = node_and_perihelion(s, node, perih, n, precession)?;
+    Ok((i.0, w, x))
 }
 
 // The elements of arguments that are not refused. Refusals: 7; 6; 7.
-fn orbit_in(inc: Rad, perih: Rad, node: Rad, precession: EclPrecession) -> Three
+fn orbit_in(
+    inc: Rad,
+    perih: Rad,
+    node: Rad,
+    precession: EclPrecession,
+) -> Result<(f64, f64, f64), Refusal>
     ensures { shown_three result ≡ orbit_in inc perih node precession }
 {
     let n = elementary::fold(Rad(node.0 - precession.pi.0));
     let l = lean(elementary::fold(inc), n, precession);
-    match new_inclination(inc, l, precession) {
-        Radians::Are(i) => orbit_from(i, new_node(inc, l, precession), perih, n, precession),
-        Radians::Refused(k) => Three::Refused(k),
-    }
+    let i = new_inclination(inc, l, precession)?;
+    orbit_from(i, new_node(inc, l, precession), perih, n, precession)
 }
 
 // Refusals of three angles and two days: 1; 2; 3.
-fn orbit_refusal(inc: Rad, perih: Rad, node: Rad, day1: f64, day2: f64) -> u8
-    ensures { result ≡ orbit_refusal inc perih node day1 day2 }
+fn orbit_refusal(inc: Rad, perih: Rad, node: Rad, day1: f64, day2: f64) -> Result<(), Refusal>
+    ensures { checked result ≡ orbit_refusal inc perih node day1 day2 }
 {
     quantity::lower(
         quantity::lower(
@@ -244,13 +254,10 @@ pub fn precess_orb_elements(
     old_long_ascend_node: Rad,
     day1: f64,
     day2: f64,
-) -> Three
+) -> Result<(f64, f64, f64), Refusal>
     ensures { shown_three result ≡ precess_orb_elements_rule old_inc old_arg_perih old_long_ascend_node day1 day2 }
 {
-    let refusal = orbit_refusal(old_inc, old_arg_perih, old_long_ascend_node, day1, day2);
-    if refusal != 0 {
-        return Three::Refused(refusal);
-    }
+    orbit_refusal(old_inc, old_arg_perih, old_long_ascend_node, day1, day2)?;
     orbit_in(
         old_inc,
         old_arg_perih,

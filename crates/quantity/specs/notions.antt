@@ -5,3 +5,4 @@ pub mod Code
 pub mod Stated
 pub mod Varies
 pub mod Wrong
+pub mod Named

@@ -8,13 +8,19 @@ ghost use Rattle.lent.specs.rules.Put.{Put};
 ghost use Rattle.list_widths.specs.rules.Widths.{to_wide, to_narrow};
 ghost use Rattle.list_moves.specs.rules.Moves.{to_list, to_radio};
 
-use lent::Written;
+use quantity::Refusal;
 
 // Bytes of the longest form, at most.
 const ROOM: usize = list_radio::MOST_BYTES;
 
 // The list in its other form, from the slice's start on.
-fn put_moved(out: &mut [u8], up: bool, down: bool, unpack: bool, bytes: &[u8]) -> Written
+fn put_moved(
+    out: &mut [u8],
+    up: bool,
+    down: bool,
+    unpack: bool,
+    bytes: &[u8],
+) -> Result<usize, Refusal>
     ensures { Put (cond up (to_wide bytes.now) (cond down (to_narrow bytes.now) (cond unpack (to_list bytes.now)
         (to_radio bytes.now)))) out.old 0 out.new result }
 {
@@ -40,11 +46,11 @@ fn main(rt: HostRuntime) {
     let n = arguments::read(&mut rt.reader(), &mut input);
     let mut out = [0u8; ROOM];
     match put_moved(&mut out, up, down, unpack, &input[..n]) {
-        Written::To(k) => {
+        Ok(k) => {
             arguments::write(&rt, &err, &out[..k]);
         }
-        Written::Refused(k) => {
-            arguments::refuse(&err, k);
+        Err(refusal) => {
+            arguments::refuse(&err, refusal.number());
         }
     }
 }

@@ -4,7 +4,6 @@
 
 ghost use Rattle.std.specs.Prelude.{◌≤◌};
 
-use arguments::{Days, Named};
 use edition::Edition;
 use text_answers::Style;
 
@@ -53,11 +52,10 @@ fn main(rt: HostRuntime) {
     let err = rt.stderr();
     let table = arguments::is_argument(&rt, 1, b"--table");
     let before = before_days(table);
-    let Days::Are(day1, day2) = arguments::days_of(&rt, &err, before + 1, before + 2, b"JD2", 0)
-    else {
+    let Some((day1, day2)) = arguments::days_of(&rt, &err, before + 1, before + 2, b"JD2", 0) else {
         return;
     };
-    let Named::Is(edition) = arguments::edition_of(&rt, &err, before + 3, b"third argument") else {
+    let Some(edition) = arguments::edition_of(&rt, &err, before + 3, b"third argument") else {
         return;
     };
     print(&rt, &err, style_of(table), edition, day1, day2);

@@ -29,11 +29,7 @@ pub fn put_report(
     let mut asc = [0u64; list::MOST_STARS];
     let mut dec = [0u64; list::MOST_STARS];
     let done = batch::batch(edition, bytes, day1, day2, &mut status, &mut asc, &mut dec);
-    let refusal = done.refusal;
-    let tally = done.tally;
-    text_answers::put_answers(
-        out, style, edition, bytes, &status, &asc, &dec, refusal, tally,
-    )
+    text_answers::put_answers(out, style, edition, bytes, &status, &asc, &dec, done)
 }
 
 // The style of a plan, a table or lines.
@@ -41,9 +37,10 @@ pub fn plan_style(table: bool, o: Observer) -> Style
     ensures { result ≡ plan_style table o }
 {
     if table {
-        return Style::PlanTable(o);
+        Style::PlanTable(o)
+    } else {
+        Style::Plan(o)
     }
-    Style::Plan(o)
 }
 
 // The list's plan on the second day, for a site and a standard altitude in degrees, as text from the slice's start on; and the offset after
@@ -75,21 +72,21 @@ pub fn put_rotated(out: &mut [u8], edition: Edition, bytes: &[u8], day1: f64, da
     let mut asc = [0u64; list::MOST_STARS];
     let mut dec = [0u64; list::MOST_STARS];
     let done = rotation_list::rotate(edition, bytes, day1, day2, &mut status, &mut asc, &mut dec);
-    let refusal = done.refusal;
-    let tally = done.tally;
-    if refusal != 0 {
-        return text_number::put_refused(out, 0, refusal);
+    match done {
+        Ok(tally) => {
+            let a = lent::put(out, 0, b"precession alone\n");
+            text_answers::put_list(
+                out,
+                a,
+                Style::Lines,
+                edition,
+                bytes,
+                &status,
+                &asc,
+                &dec,
+                tally,
+            )
+        }
+        Err(refusal) => text_number::put_refused(out, 0, refusal.number()),
     }
-    let a = lent::put(out, 0, b"precession alone\n");
-    text_answers::put_list(
-        out,
-        a,
-        Style::Lines,
-        edition,
-        bytes,
-        &status,
-        &asc,
-        &dec,
-        tally,
-    )
 }

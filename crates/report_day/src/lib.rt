@@ -4,7 +4,7 @@
 
 ghost use Rattle.std.specs.Prelude.{◌≡◌};
 ghost use Rattle.lent.specs.rules.Writing.{Wrote};
-ghost use Rattle.report_day.specs.rules.Digits.{parts_of, digit_of, left_of, count_after, digits_text, exact_text};
+ghost use Rattle.report_day.specs.rules.Digits.{parts_of, digit_of, left_of, digits_text, exact_text};
 ghost use Rattle.report_day.specs.rules.Day.{millionths_of, six_digits, degrees_text, angle_text, open_text, day_text, day_of};
 
 use quantity::Rad;
@@ -35,27 +35,18 @@ fn left_of(left: u64) -> u64
     (left % 4294967296) * 10 % 4294967296
 }
 
-// How many digits follow at most after one of n: none where nothing is left.
-fn count_after(n: u64, left: u64) -> u64
-    ensures { result ≡ count_after n left }
-{
-    if left == 0 {
-        return 0;
-    }
-    if n == 0 { 0 } else { n - 1 }
-}
-
 // Each `put_` writes its text from the offset on, and answers the offset after it. This one: the digits of so many parts, at most 32.
 fn put_digits(out: &mut [u8], at: usize, parts: u64) -> usize
     ensures { Wrote out.old at (digits_text 32 parts) out.new result }
 {
     let mut offset = lent::within(at, out.len());
     let mut left = parts;
-    let mut n: u64 = 32;
-    while n != 0 {
+    for i in 0..32u64 {
         offset = lent::put_byte(out, offset, digit_of(left));
         left = left_of(left);
-        n = count_after(n, left);
+        if left == 0 {
+            return offset;
+        }
     }
     offset
 }
@@ -143,15 +134,14 @@ fn put_text(out: &mut [u8], day: f64, mean: Rad, apparent: Rad, utc: bool) -> us
 pub fn put_day(out: &mut [u8], day: f64, utc: bool) -> usize
     ensures { Wrote out.old 0 (day_of day utc) out.new result }
 {
-    let refusal = quantity::day_refusal(day);
-    if refusal != 0 {
-        return text_number::put_refused(out, 0, refusal);
+    match quantity::day_refusal(day) {
+        Ok(()) => put_text(
+            out,
+            day,
+            sidereal::mean_on(day),
+            sidereal::apparent_on(day),
+            utc,
+        ),
+        Err(refusal) => text_number::put_refused(out, 0, refusal.number()),
     }
-    put_text(
-        out,
-        day,
-        sidereal::mean_on(day),
-        sidereal::apparent_on(day),
-        utc,
-    )
 }

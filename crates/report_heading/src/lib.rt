@@ -3,7 +3,7 @@
 #![tactic(auto)]
 
 ghost use Rattle.std.specs.Prelude.{◌≡◌};
-ghost use Rattle.quantity.specs.rules.Answer.{shown_three, shown_degrees};
+ghost use Rattle.quantity.specs.rules.Answer.{shown_three, shown};
 ghost use Rattle.list.specs.rules.Find.{shown_found};
 ghost use Rattle.lent.specs.rules.Writing.{Wrote};
 ghost use Rattle.report_heading.specs.rules.Sight.{star_text, sky_text, lines_text, beside_text, read_text};
@@ -11,14 +11,14 @@ ghost use Rattle.report_heading.specs.rules.Sight.{bearings_text, bearings_of, f
 
 use edition::Edition;
 use helpers::angle;
-use list::{Found, Star};
-use quantity::{Deg, Degrees, Three};
+use list::Star;
+use quantity::{Deg, Refusal};
 
-// What a circle reads at the star and at the mark, or that it was not read.
+// What a circle reads at the star and at the mark.
 #[derive(Clone, Copy)]
-pub enum Readings {
-    None,
-    At(Deg, Deg),
+pub struct Readings {
+    pub star: Deg,
+    pub mark: Deg,
 }
 
 // What a sight is given by, besides a list: the star's number, the day of the list's places, the day of the sight, the observer's
@@ -85,18 +85,18 @@ fn put_beside(
     heading: Deg,
     az: Deg,
     alt: Deg,
-    mark: Degrees,
+    mark: Result<Deg, Refusal>,
 ) -> usize
-    ensures { Wrote out.old 0 (beside_text edition sight heading az alt (shown_degrees mark)) out.new result }
+    ensures { Wrote out.old 0 (beside_text edition sight heading az alt (shown mark)) out.new result }
 {
     match mark {
-        Degrees::Are(x) => {
+        Ok(x) => {
             let utc = sight.utc;
             let a = put_lines(out, edition, sight, heading, az, alt);
             let b = text_heading::put_mark(out, a, x);
             report_day::put_open(out, b, utc)
         }
-        Degrees::Refused(n) => text_heading::put_mark_refusal(out, 0, n),
+        Err(refusal) => text_heading::put_mark_refusal(out, 0, refusal.number()),
     }
 }
 
@@ -108,18 +108,18 @@ fn put_read(
     heading: Deg,
     az: Deg,
     alt: Deg,
-    readings: Readings,
+    readings: Option<Readings>,
 ) -> usize
     ensures { Wrote out.old 0 (read_text edition sight heading az alt readings) out.new result }
 {
     match readings {
-        Readings::None => {
+        None => {
             let utc = sight.utc;
             let a = put_lines(out, edition, sight, heading, az, alt);
             report_day::put_open(out, a, utc)
         }
-        Readings::At(star, mark) => {
-            let answer = heading::mark_heading(heading, star, mark);
+        Some(read) => {
+            let answer = heading::mark_heading(heading, read.star, read.mark);
             put_beside(out, edition, sight, heading, az, alt, answer)
         }
     }
@@ -130,21 +130,19 @@ fn put_bearings(
     out: &mut [u8],
     edition: Edition,
     sight: Sight,
-    bearings: Three,
-    readings: Readings,
+    bearings: Result<(f64, f64, f64), Refusal>,
+    readings: Option<Readings>,
 ) -> usize
     ensures { Wrote out.old 0 (bearings_text edition sight (shown_three bearings) readings) out.new result }
 {
     match bearings {
-        Three::Are(h, az, alt) => {
-            put_read(out, edition, sight, Deg(h), Deg(az), Deg(alt), readings)
-        }
-        Three::Refused(n) => text_heading::put_sight_refusal(out, 0, n),
+        Ok((h, az, alt)) => { put_read(out, edition, sight, Deg(h), Deg(az), Deg(alt), readings) }
+        Err(refusal) => text_heading::put_sight_refusal(out, 0, refusal.number()),
     }
 }
 
 // A star's bearings from its record.
-pub fn bearings_of(edition: Edition, star: Star, sight: Sight) -> Three
+pub fn bearings_of(edition: Edition, star: Star, sight: Sight) -> Result<(f64, f64, f64), Refusal>
     ensures { shown_three result ≡ bearings_of edition star sight }
 {
     let long = sight.long;
@@ -167,17 +165,17 @@ fn put_found(
     out: &mut [u8],
     edition: Edition,
     sight: Sight,
-    found: Found,
-    readings: Readings,
+    found: Result<(usize, Star), Refusal>,
+    readings: Option<Readings>,
 ) -> usize
     ensures { Wrote out.old 0 (found_text edition sight (shown_found found) readings) out.new result }
 {
     match found {
-        Found::At(_, star) => {
+        Ok((_, star)) => {
             let bearings = bearings_of(edition, star, sight);
             put_bearings(out, edition, sight, bearings, readings)
         }
-        Found::Refused(n) => text_heading::put_sight_refusal(out, 0, n),
+        Err(refusal) => text_heading::put_sight_refusal(out, 0, refusal.number()),
     }
 }
 
@@ -188,7 +186,7 @@ pub fn put_sight(
     edition: Edition,
     bytes: &[u8],
     sight: Sight,
-    readings: Readings,
+    readings: Option<Readings>,
 ) -> usize
     ensures { Wrote out.old 0 (sight_text edition bytes.now sight readings) out.new result }
 {

@@ -3,19 +3,17 @@
 #![tactic(auto)]
 
 ghost use Rattle.std.specs.Prelude.{◌<◌, ◌≡◌, length};
-ghost use Rattle.quantity.specs.rules.Answer.{shown_three, shown_degrees};
+ghost use Rattle.quantity.specs.rules.Answer.{shown_three, shown};
 ghost use Rattle.text_fields.specs.rules.Stored.{places_of, EntriesStored};
 ghost use Rattle.text_fields.specs.notions.Stored.{EntryStored};
-ghost use Rattle.text_night.specs.rules.Sight.{sight, sight_rule};
+ghost use Rattle.text_night.specs.rules.Sight.{sight_rule};
 ghost use Rattle.text_night.specs.rules.Sights.{entry_of};
-ghost use Rattle.report_marks.specs.rules.Marked.{mark_of, marked_by, sight_on, marked_of, status_of, bits_of, columns};
+ghost use Rattle.report_marks.specs.rules.Marked.{shown_marked, mark_of, marked_by, sight_on, marked_of, status_of, bits_of, columns};
 
 use edition::Edition;
-use list::Found;
-use quantity::{Deg, Degrees, Three};
+use quantity::{Deg, Refusal};
 use report_heading::Sight;
-use text_fields::Sights;
-use text_night::Next;
+use text_fields::{Stopped, UnclearAt};
 
 // What all sights share: the day of the list's places, the observer's longitude, west positive, and latitude; and whether UT1 is taken for
 // UTC.
@@ -27,33 +25,36 @@ pub struct Pad {
     pub utc: bool,
 }
 
-// What a sight came to: the mark's heading; the refusal of the star's; or that of the mark's from it.
-#[derive(Clone, Copy)]
-enum Marked {
-    Is(Deg),
-    SightRefused(u8),
-    MarkRefused(u8),
+// Why a sight has no heading of the mark: the refusal of the star's, or that of the mark's from it.
+#[derive(Clone, Copy, PartialEq, Eq)]
+enum Unmarked {
+    Sight(Refusal),
+    Mark(Refusal),
 }
 
 // ---- a sight
 
 // By the mark's heading.
-fn mark_of(mark: Degrees) -> Marked
-    ensures { result ≡ mark_of (shown_degrees mark) }
+fn mark_of(mark: Result<Deg, Refusal>) -> Result<Deg, Unmarked>
+    ensures { shown_marked result ≡ mark_of (shown mark) }
 {
     match mark {
-        Degrees::Are(x) => Marked::Is(x),
-        Degrees::Refused(n) => Marked::MarkRefused(n),
+        Ok(x) => Ok(x),
+        Err(refusal) => Err(Unmarked::Mark(refusal)),
     }
 }
 
 // By the star's bearings, and by what a circle reads at the star and at the mark.
-fn marked_by(bearings: Three, star: Deg, mark: Deg) -> Marked
-    ensures { result ≡ marked_by (shown_three bearings) star mark }
+fn marked_by(
+    bearings: Result<(f64, f64, f64), Refusal>,
+    star: Deg,
+    mark: Deg,
+) -> Result<Deg, Unmarked>
+    ensures { shown_marked result ≡ marked_by (shown_three bearings) star mark }
 {
     match bearings {
-        Three::Are(h, _, _) => mark_of(heading::mark_heading(Deg(h), star, mark)),
-        Three::Refused(n) => Marked::SightRefused(n),
+        Ok((h, _, _)) => mark_of(heading::mark_heading(Deg(h), star, mark)),
+        Err(refusal) => Err(Unmarked::Sight(refusal)),
     }
 }
 
@@ -82,11 +83,11 @@ fn marked_of(
     number: u32,
     star: Deg,
     mark: Deg,
-) -> Marked
-    ensures { result ≡ marked_of edition pad bytes.now day number star mark }
+) -> Result<Deg, Unmarked>
+    ensures { shown_marked result ≡ marked_of edition pad bytes.now day number star mark }
 {
     match list::find(bytes, number) {
-        Found::At(_, record) => {
+        Ok((_, record)) => {
             let sight = sight_on(pad, number, day);
             marked_by(
                 report_heading::bearings_of(edition, record, sight),
@@ -94,29 +95,29 @@ fn marked_of(
                 mark,
             )
         }
-        Found::Refused(n) => Marked::SightRefused(n),
+        Err(refusal) => Err(Unmarked::Sight(refusal)),
     }
 }
 
 // Its status: 0, or the number of its refusal.
-fn status_of(m: Marked) -> u8
-    ensures { result ≡ status_of m }
+fn status_of(came: Result<Deg, Unmarked>) -> u8
+    ensures { result ≡ status_of (shown_marked came) }
 {
-    match m {
-        Marked::Is(_) => 0,
-        Marked::SightRefused(n) => n,
-        Marked::MarkRefused(n) => n,
+    match came {
+        Ok(_) => 0,
+        Err(Unmarked::Sight(refusal)) => refusal.number(),
+        Err(Unmarked::Mark(refusal)) => refusal.number(),
     }
 }
 
 // The bits of its heading; where it is refused 1 for the mark's, and 0 for the star's.
-fn bits_of(m: Marked) -> u64
-    ensures { result ≡ bits_of m }
+fn bits_of(came: Result<Deg, Unmarked>) -> u64
+    ensures { result ≡ bits_of (shown_marked came) }
 {
-    match m {
-        Marked::Is(x) => double::pattern(x.0),
-        Marked::SightRefused(_) => 0,
-        Marked::MarkRefused(_) => 1,
+    match came {
+        Ok(x) => double::pattern(x.0),
+        Err(Unmarked::Sight(_)) => 0,
+        Err(Unmarked::Mark(_)) => 1,
     }
 }
 
@@ -133,22 +134,27 @@ fn store_sight(
     bits: &mut [u64],
     i: usize,
     at_line: usize,
-    day: f64,
-    number: u32,
-    s: Deg,
-    m: Deg,
+    sight: text_night::Sight,
 )
     requires i_in_bounds { i < length line.old }
     requires i_in_bounds_2 { i < length star.old }
     requires i_in_bounds_3 { i < length status.old }
     requires i_in_bounds_4 { i < length bits.old }
-    ensures { EntryStored (columns edition pad bytes.now) (entry_of (sight day number s m) at_line) i
+    ensures { EntryStored (columns edition pad bytes.now) (entry_of sight at_line) i
         line.old star.old status.old bits.old
         line.new star.new status.new bits.new }
 {
-    let came = marked_of(edition, pad, bytes, day, number, s, m);
+    let came = marked_of(
+        edition,
+        pad,
+        bytes,
+        sight.day,
+        sight.number,
+        sight.star,
+        sight.mark,
+    );
     line[i] = at_line as u64;
-    star[i] = number;
+    star[i] = sight.number;
     status[i] = status_of(came);
     bits[i] = bits_of(came);
 }
@@ -165,7 +171,7 @@ pub fn read_night<'a>(
     star: &mut [u32],
     status: &mut [u8],
     bits: &mut [u64],
-) -> Sights
+) -> Result<usize, Stopped>
     ensures { EntriesStored (sight_rule dut1) entry_of (columns edition pad bytes.now)
         (places_of (length line.old) (length star.old) (length status.old) (length bits.old))
         text.now line.old star.old status.old bits.old result
@@ -175,24 +181,25 @@ pub fn read_night<'a>(
     let mut at = 0;
     let mut passed = 0;
     let mut n = 0;
+    // The text ends it, and `n` counts the sights that are stored.
     loop {
         match text_night::next_sight(text, at, dut1) {
-            Next::Sight(day, number, s, m, lines, next) => {
+            Ok(Some(met)) => {
                 if n >= places {
-                    return Sights::Full;
+                    return Err(Stopped::Full);
                 }
-                passed += lines;
+                passed += met.passed;
                 store_sight(
-                    edition, pad, bytes, line, star, status, bits, n, passed, day, number, s, m,
+                    edition, pad, bytes, line, star, status, bits, n, passed, met.what,
                 );
-                at = next;
+                at = met.next;
                 n += 1;
             }
-            Next::Unclear(lines) => {
-                return Sights::Unclear(passed + lines);
+            Ok(None) => {
+                return Ok(n);
             }
-            Next::End => {
-                return Sights::Are(n);
+            Err(UnclearAt(lines)) => {
+                return Err(Stopped::Unclear(passed + lines));
             }
         }
     }

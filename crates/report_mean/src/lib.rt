@@ -8,7 +8,6 @@ ghost use Rattle.report_mean.specs.rules.Refused.{refusal_text, refused_text, re
 ghost use Rattle.report_mean.specs.rules.Text.{meant_text, none_agree_text, no_mean_text, agreed_text, sights_text, lent_text};
 
 use edition::Edition;
-use heading_mean::Mean;
 use quantity::Deg;
 use report_marks::Pad;
 use residual_sheet::Sheet;
@@ -56,14 +55,12 @@ fn put_refused_at<'a>(
 fn first_refused(status: &[u8]) -> usize
     ensures { result ≡ first_refused status.now }
 {
-    let mut i: usize = 0;
-    while i < status.len() {
+    for i in 0..status.len() {
         if status[i] != 0 {
             return i;
         }
-        i += 1;
     }
-    i
+    status.len()
 }
 
 // ---- the mean
@@ -132,8 +129,8 @@ fn put_agreed<'a>(
     ensures { Wrote out.old 0 (agreed_text edition pad line.now star.now heading.now) out.new result }
 {
     match heading_mean::mean_heading(heading) {
-        Mean::Is(mean, sheet) => put_meant(out, edition, pad, mean, sheet, line, star, heading),
-        Mean::Refused(n) => put_no_mean(out, n, line, star, heading),
+        Ok((mean, sheet)) => put_meant(out, edition, pad, mean, sheet, line, star, heading),
+        Err(refusal) => put_no_mean(out, refusal.number(), line, star, heading),
     }
 }
 

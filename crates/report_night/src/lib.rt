@@ -7,14 +7,7 @@ ghost use Rattle.report_night.specs.rules.Report.{Reported, report_of};
 use edition::Edition;
 use list::MOST_STARS;
 use report_marks::Pad;
-use text_fields::Sights;
-
-// How long the text is; or the line that cannot be read.
-#[derive(Clone, Copy)]
-pub enum Told {
-    Text(usize),
-    Unclear(usize),
-}
+use text_fields::{Stopped, UnclearAt};
 
 // Bytes of the longest text, at most: so many a sight, and those of the place, the edition, the mean and what stays open.
 pub const ROOM: usize = 420 + text_headings::SIGHT_ROOM * MOST_STARS;
@@ -28,7 +21,7 @@ pub fn put_night<'a>(
     bytes: &'a [u8],
     text: &'a [u8],
     dut1: i32,
-) -> Told
+) -> Result<usize, UnclearAt>
     ensures { Reported out.old (report_of edition pad bytes.now text.now dut1) result out.new }
 {
     let mut line = [0u64; MOST_STARS];
@@ -46,7 +39,7 @@ pub fn put_night<'a>(
         &mut status,
         &mut bits,
     ) {
-        Sights::Are(n) => Told::Text(report_mean::put_lent(
+        Ok(n) => Ok(report_mean::put_lent(
             out,
             edition,
             pad,
@@ -55,7 +48,7 @@ pub fn put_night<'a>(
             &status[..n],
             &bits[..n],
         )),
-        Sights::Unclear(k) => Told::Unclear(k),
-        Sights::Full => Told::Text(lent::put(out, 0, b"refused 8: more than 3000 sights\n")),
+        Err(Stopped::Unclear(k)) => Err(UnclearAt(k)),
+        Err(Stopped::Full) => Ok(lent::put(out, 0, b"refused 8: more than 3000 sights\n")),
     }
 }

@@ -3,3 +3,4 @@ pub mod Matched
 pub mod Report
 pub mod Room
 pub mod Wrong
+pub mod Unique

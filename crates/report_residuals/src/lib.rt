@@ -11,9 +11,10 @@ ghost use Rattle.report_residuals.specs.rules.Report.{report_of, matched_report,
 ghost use Rattle.report_residuals.specs.notions.Matched.{Matched};
 
 use edition::Edition;
-use list::{Found, MOST_STARS};
-use residual_sheet::{Sheet, Sheets};
-use text_fields::Sights;
+use list::MOST_STARS;
+use quantity::Refusal;
+use residual_sheet::Sheet;
+use text_fields::Stopped;
 
 // What is written: the sheet for people with who is left out of it; the figures alone; each sight; or who is left out alone.
 #[derive(Clone, Copy)]
@@ -24,15 +25,14 @@ pub enum Style {
     Left,
 }
 
-// How long the text is; or the refusal of the list and its days; the line that cannot be read; more sights than a list has stars; the
-// refusal of the sheet, as 3 for a measured angle past 64 radians.
-#[derive(Clone, Copy)]
-pub enum Told {
-    Text(usize),
-    ListRefused(u8),
+// Why there is no text: the refusal of the list and its days; the line that cannot be read; more sights than a list has stars; the refusal
+// of the sheet, as 3 for a measured angle past 64 radians.
+#[derive(Clone, Copy, PartialEq, Eq)]
+pub enum Untold {
+    List(Refusal),
     Unclear(usize),
     TooMany,
-    SheetRefused(u8),
+    Sheet(Refusal),
 }
 
 // What the star of a sight came to: its status, and the bits of its angles.
@@ -59,13 +59,13 @@ fn came_to<'a>(
     ensures { result ≡ lent_came bytes.now status.now asc.now dec.now number }
 {
     match list::find(bytes, number) {
-        Found::At(i, _) => Came {
+        Ok((i, _)) => Came {
             status: text_sights::status_at(status, i),
             asc: text_sights::number_at(asc, i),
             dec: text_sights::number_at(dec, i),
         },
-        Found::Refused(n) => Came {
-            status: n,
+        Err(refusal) => Came {
+            status: refusal.number(),
             asc: 0,
             dec: 0,
         },
@@ -90,14 +90,11 @@ fn match_sights<'a>(
         sight_status.old sight_asc.old sight_dec.old
         sight_status.new sight_asc.new sight_dec.new }
 {
-    let n = star.len();
-    let mut i = 0;
-    while i < n {
+    for i in 0..star.len() {
         let came = came_to(bytes, status, asc, dec, star[i]);
         sight_status[i] = came.status;
         sight_asc[i] = came.asc;
         sight_dec[i] = came.dec;
-        i += 1;
     }
 }
 
@@ -149,12 +146,12 @@ fn put_sheets<'a>(
     dec: &'a [u64],
     measured_asc: &'a [u64],
     measured_dec: &'a [u64],
-) -> Told
+) -> Result<usize, Untold>
     ensures { Reported out.old (sheets_report style line.now star.now status.now asc.now
         dec.now measured_asc.now measured_dec.now) result out.new }
 {
     match residual_sheet::residuals(status, asc, dec, measured_asc, measured_dec) {
-        Sheets::Are(a, d) => Told::Text(put_style(
+        Ok((a, d)) => Ok(put_style(
             out,
             style,
             a,
@@ -167,7 +164,7 @@ fn put_sheets<'a>(
             measured_asc,
             measured_dec,
         )),
-        Sheets::Refused(n) => Told::SheetRefused(n),
+        Err(refusal) => Err(Untold::Sheet(refusal)),
     }
 }
 
@@ -183,7 +180,7 @@ fn put_matched<'a>(
     star: &'a [u32],
     measured_asc: &'a [u64],
     measured_dec: &'a [u64],
-) -> Told
+) -> Result<usize, Untold>
     requires { length star.now ≤ most_stars }
     ensures { Reported out.old (matched_report style bytes.now status.now asc.now dec.now
         line.now star.now measured_asc.now measured_dec.now) result out.new }
@@ -224,7 +221,7 @@ fn put_sighted<'a>(
     asc: &'a [u64],
     dec: &'a [u64],
     text: &'a [u8],
-) -> Told
+) -> Result<usize, Untold>
     ensures { Reported out.old (sighted_report style bytes.now status.now asc.now dec.now
         text.now) result out.new }
 {
@@ -239,7 +236,7 @@ fn put_sighted<'a>(
         &mut measured_asc,
         &mut measured_dec,
     ) {
-        Sights::Are(n) => put_matched(
+        Ok(n) => put_matched(
             out,
             style,
             bytes,
@@ -251,8 +248,8 @@ fn put_sighted<'a>(
             &measured_asc[..n],
             &measured_dec[..n],
         ),
-        Sights::Unclear(k) => Told::Unclear(k),
-        Sights::Full => Told::TooMany,
+        Err(Stopped::Unclear(k)) => Err(Untold::Unclear(k)),
+        Err(Stopped::Full) => Err(Untold::TooMany),
     }
 }
 
@@ -266,16 +263,14 @@ pub fn put_report<'a>(
     day1: f64,
     day2: f64,
     text: &'a [u8],
-) -> Told
+) -> Result<usize, Untold>
     ensures { Reported out.old (report_of style edition bytes.now day1 day2 text.now) result out.new }
 {
     let mut status = [0u8; MOST_STARS];
     let mut asc = [0u64; MOST_STARS];
     let mut dec = [0u64; MOST_STARS];
-    let done = batch::batch(edition, bytes, day1, day2, &mut status, &mut asc, &mut dec);
-    let refusal = done.refusal;
-    if refusal != 0 {
-        return Told::ListRefused(refusal);
+    match batch::batch(edition, bytes, day1, day2, &mut status, &mut asc, &mut dec) {
+        Ok(_) => put_sighted(out, style, bytes, &status, &asc, &dec, text),
+        Err(refusal) => Err(Untold::List(refusal)),
     }
-    put_sighted(out, style, bytes, &status, &asc, &dec, text)
 }

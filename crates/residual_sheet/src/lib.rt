@@ -5,6 +5,7 @@
 #![tactic(auto)]
 
 ghost use Rattle.std.specs.Prelude.{◌≤◌, max, ◌≡◌, length};
+ghost use Rattle.quantity.specs.rules.Answer.{checked};
 ghost use Rattle.double.specs.rules.Operations.{bits};
 ghost use Rattle.quantity.specs.rules.Angle.{rad};
 ghost use Rattle.quantity.specs.rules.Refusal.{lower, angle_refusal};
@@ -16,7 +17,7 @@ ghost use Rattle.residual_sheet.specs.rules.Running.{above, below, place_after, 
 
 use helpers::angle;
 use list::MOST_STARS;
-use quantity::{PI, Rad};
+use quantity::{PI, Rad, Refusal};
 
 // A whole number of milliarcseconds by its size, and whether a minus sign stands before it, as it never does before 0.
 #[derive(Clone, Copy)]
@@ -34,13 +35,6 @@ pub struct Sheet {
     pub largest: i64,
     pub place: i64,
     pub aside: i64,
-}
-
-// The sheet of right ascension and that of declination, or a refusal.
-#[derive(Clone, Copy)]
-pub enum Sheets {
-    Are(Sheet, Sheet),
-    Refused(u8),
 }
 
 // The figures as they grow: the sum in two parts, of what is not below zero and of what is.
@@ -127,13 +121,6 @@ fn below(x: Residual) -> u64
     if x.minus { x.size } else { 0 }
 }
 
-// The larger of two sizes.
-fn larger(m: u64, n: u64) -> u64
-    ensures { result ≡ max m n }
-{
-    if m < n { n } else { m }
-}
-
 // The place of the largest after a residual of size n at place i.
 fn place_after(count: u64, largest: u64, place: u64, n: u64, i: u64) -> u64
     ensures { result ≡ place_after count largest place n i }
@@ -169,7 +156,7 @@ pub fn onward(r: Running, i: u64, status: u8, x: Residual) -> Running
         above: r.above + above(x),
         below: r.below + below(x),
         squares: r.squares + n * n,
-        largest: larger(r.largest, n),
+        largest: r.largest.max(n),
         place: place_after(r.count, r.largest, r.place, n, i),
         aside: r.aside,
     }
@@ -196,13 +183,11 @@ fn running_of(across: bool, status: &[u8], computed: &[u64], measured: &[u64]) -
         place: 0,
         aside: 0,
     };
-    let mut i: usize = 0;
-    while i < n {
+    for i in 0..n {
         let c = f64::from_bits(computed[i]);
         let m = f64::from_bits(measured[i]);
         let x = residual_of(across, Rad(c), Rad(m));
         r = onward(r, i as u64, status[i], x);
-        i += 1;
     }
     r
 }
@@ -240,27 +225,19 @@ fn coordinate_sheet(across: bool, status: &[u8], computed: &[u64], measured: &[u
 // ---- the call
 
 // Refusals of slices of these lengths: 8 where they are unequal, or have more entries than a list has stars.
-fn lengths_refusal(n: usize, a: usize, b: usize, c: usize, d: usize) -> u8
-    ensures { result ≡ lengths_refusal n a b c d }
+fn lengths_refusal(n: usize, a: usize, b: usize, c: usize, d: usize) -> Result<(), Refusal>
+    ensures { checked result ≡ lengths_refusal n a b c d }
 {
-    if a != n {
-        return 8;
+    if a == n && b == n && c == n && d == n && n <= MOST_STARS {
+        Ok(())
+    } else {
+        Err(Refusal::List)
     }
-    if b != n {
-        return 8;
-    }
-    if c != n {
-        return 8;
-    }
-    if d != n {
-        return 8;
-    }
-    if n <= MOST_STARS { 0 } else { 8 }
 }
 
 // The lower of a refusal and that of a float, which is lent as its bits: 1; 3 past 64.0. Most floats are within the limit, and change nothing.
-fn refusal_after(refusal: u8, b: u64) -> u8
-    ensures { result ≡ lower refusal (angle_refusal (rad (bits b))) }
+fn refusal_after(refusal: Result<(), Refusal>, b: u64) -> Result<(), Refusal>
+    ensures { checked result ≡ lower (checked refusal) (angle_refusal (rad (bits b))) }
 {
     let x = double::of_pattern(b);
     if double::size(x) <= 64.0 {
@@ -270,14 +247,12 @@ fn refusal_after(refusal: u8, b: u64) -> u8
 }
 
 // Refusals of all floats of a slice: 1; 3 past 64.0.
-fn floats_refusal(s: &[u64]) -> u8
-    ensures { result ≡ floats_refusal s.now }
+fn floats_refusal(s: &[u64]) -> Result<(), Refusal>
+    ensures { checked result ≡ floats_refusal s.now }
 {
-    let mut refusal = 0;
-    let mut i: usize = 0;
-    while i < s.len() {
-        refusal = refusal_after(refusal, s[i]);
-        i += 1;
+    let mut refusal = Ok(());
+    for b in s {
+        refusal = refusal_after(refusal, *b);
     }
     refusal
 }
@@ -289,20 +264,17 @@ fn residuals_refusal(
     dec: &[u64],
     measured_asc: &[u64],
     measured_dec: &[u64],
-) -> u8
-    ensures { result ≡ residuals_refusal status.now asc.now dec.now measured_asc.now
+) -> Result<(), Refusal>
+    ensures { checked result ≡ residuals_refusal status.now asc.now dec.now measured_asc.now
         measured_dec.now }
 {
-    let lengths = lengths_refusal(
+    lengths_refusal(
         status.len(),
         asc.len(),
         dec.len(),
         measured_asc.len(),
         measured_dec.len(),
-    );
-    if lengths != 0 {
-        return lengths;
-    }
+    )?;
     let computed = quantity::lower(floats_refusal(asc), floats_refusal(dec));
     let measured = quantity::lower(floats_refusal(measured_asc), floats_refusal(measured_dec));
     quantity::lower(computed, measured)
@@ -317,15 +289,12 @@ pub fn residuals(
     dec: &[u64],
     measured_asc: &[u64],
     measured_dec: &[u64],
-) -> Sheets
+) -> Result<(Sheet, Sheet), Refusal>
     ensures { shown_sheets result ≡ residuals_rule status.now asc.now dec.now
         measured_asc.now measured_dec.now }
 {
-    let refusal = residuals_refusal(status, asc, dec, measured_asc, measured_dec);
-    if refusal != 0 {
-        return Sheets::Refused(refusal);
-    }
+    residuals_refusal(status, asc, dec, measured_asc, measured_dec)?;
     let a = coordinate_sheet(true, status, asc, measured_asc);
     let d = coordinate_sheet(false, status, dec, measured_dec);
-    Sheets::Are(a, d)
+    Ok((a, d))
 }

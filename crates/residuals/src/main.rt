@@ -3,12 +3,10 @@
 // `--figures`, `--sights` or `--left` stands before the days, it is the figures, each sight, or who is left out; else a sheet for people.
 #![tactic(auto)]
 
-ghost use Rattle.std.specs.Prelude.{◌≤◌, ◌≡◌};
-ghost use Rattle.report_residuals.specs.rules.Text.{length_of};
+ghost use Rattle.std.specs.Prelude.{◌≤◌};
 
-use arguments::{Days, Named};
 use edition::Edition;
-use report_residuals::{Style, Told};
+use report_residuals::{Style, Untold};
 use std::rt::Env;
 
 // Bytes to read where measured places are expected, one more than a text may have.
@@ -84,37 +82,23 @@ fn too_long(err: &impl Print) {
 
 // ---- the night
 
-// How long a text is; where there is none, 0.
-fn length_of(told: Told) -> usize
-    ensures { result ≡ length_of told }
-{
-    match told {
-        Told::Text(k) => k,
-        Told::ListRefused(_) => 0,
-        Told::Unclear(_) => 0,
-        Told::TooMany => 0,
-        Told::SheetRefused(_) => 0,
-    }
-}
-
 // Why there is no text.
-fn explain(rt: &impl Print, err: &impl Print, people: bool, told: Told) {
-    match told {
-        Told::Text(_) => {}
-        Told::ListRefused(n) => {
-            refuse_list(rt, err, people, n);
+fn explain(rt: &impl Print, err: &impl Print, people: bool, untold: Untold) {
+    match untold {
+        Untold::List(refusal) => {
+            refuse_list(rt, err, people, refusal.number());
         }
-        Told::Unclear(line) => {
+        Untold::Unclear(line) => {
             no_sight(err, line);
         }
-        Told::TooMany => {
+        Untold::TooMany => {
             refuse(rt, people, 8, b": more than 3000 sights");
         }
-        Told::SheetRefused(n) => {
+        Untold::Sheet(refusal) => {
             refuse(
                 rt,
                 people,
-                n,
+                refusal.number(),
                 b": a measured angle is past 3666 degrees: check them",
             );
         }
@@ -133,10 +117,14 @@ fn print_night<'a>(
     text: &'a [u8],
 ) {
     let mut out = [0u8; report_residuals::ROOM];
-    let told = report_residuals::put_report(&mut out, style, edition, bytes, day1, day2, text);
-    let k = length_of(told);
-    arguments::write(rt, err, &out[..k]);
-    explain(rt, err, before_days(style) == 0, told);
+    match report_residuals::put_report(&mut out, style, edition, bytes, day1, day2, text) {
+        Ok(k) => {
+            arguments::write(rt, err, &out[..k]);
+        }
+        Err(untold) => {
+            explain(rt, err, before_days(style) == 0, untold);
+        }
+    }
 }
 
 // With the measured places on their descriptor.
@@ -176,11 +164,10 @@ fn main(rt: HostRuntime) {
     let err = rt.stderr();
     let style = style_of(&rt);
     let before = before_days(style);
-    let Days::Are(day1, day2) = arguments::days_of(&rt, &err, before + 1, before + 2, b"JD2", 0)
-    else {
+    let Some((day1, day2)) = arguments::days_of(&rt, &err, before + 1, before + 2, b"JD2", 0) else {
         return;
     };
-    let Named::Is(edition) = arguments::edition_of(&rt, &err, before + 3, b"after JD2") else {
+    let Some(edition) = arguments::edition_of(&rt, &err, before + 3, b"after JD2") else {
         return;
     };
     print(&rt, &err, style, edition, day1, day2);

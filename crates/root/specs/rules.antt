@@ -3,4 +3,3 @@
 pub mod Nearest
 pub mod Whole
 pub mod Root
-pub mod Bits

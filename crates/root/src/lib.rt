@@ -7,21 +7,13 @@ ghost use Rattle.std.specs.Prelude.{◌≡◌, ◌+◌, ◌*◌, ◌/◌, ◌%�
 ghost use Rattle.std.specs.Float.Ieee.{le, lt};
 ghost use Rattle.double.specs.rules.Operations.{bits, zero};
 ghost use Rattle.double.specs.rules.Pattern.{pattern_of};
-ghost use Rattle.quantity.specs.rules.Answer.{shown, with};
+ghost use Rattle.quantity.specs.rules.Answer.{checked, shown, with};
 ghost use Rattle.root.specs.rules.Nearest.{twice_root_squared};
 ghost use Rattle.root.specs.rules.Whole.{whole_root, IsDigit};
 ghost use Rattle.root.specs.notions.Steps.{taken, Tried};
 ghost use Rattle.root.specs.rules.Root.{root_pattern, root_of, root_refusal, root_rule};
-ghost use Rattle.root.specs.rules.Bits.{shown_bits};
 
-use quantity::One;
-
-// The bits of an answer, or its refusal number.
-#[derive(Clone, Copy)]
-pub enum Bits {
-    Are(u64),
-    Refused(u8),
-}
+use quantity::Refusal;
 
 // 2^−1022, the least double that has its 53 digits, and the greatest double.
 const LEAST_NORMAL: f64 = 2.2250738585072014e-308;
@@ -168,44 +160,39 @@ pub fn root_of(x: f64) -> f64
 }
 
 // Refusals of the root: 1; 5 below zero.
-fn root_refusal(x: f64) -> u8
-    ensures { result ≡ root_refusal x }
+fn root_refusal(x: f64) -> Result<(), Refusal>
+    ensures { checked result ≡ root_refusal x }
 {
     if double::is_finite(x) {
-        if x < 0.0 { 5 } else { 0 }
+        if x < 0.0 { Err(Refusal::Range) } else { Ok(()) }
     } else {
-        1
+        Err(Refusal::NotFinite)
     }
 }
 
 // The square root. Given: any number. Answered: the double nearest to its root; that of −0 is −0.
 // Refusals: 1; 5 below zero. A normal number above zero is answered without a look at those.
-pub fn square_root(x: f64) -> One
+pub fn square_root(x: f64) -> Result<f64, Refusal>
     ensures { shown result ≡ root_rule x }
 {
     if LEAST_NORMAL <= x {
         if x <= GREATEST {
-            return One::Is(normal_root(x));
+            return Ok(normal_root(x));
         }
     }
-    let refusal = root_refusal(x);
-    if refusal != 0 {
-        return One::Refused(refusal);
-    }
-    One::Is(root_of(x))
+    root_refusal(x)?;
+    Ok(root_of(x))
 }
 
 // The square root as its bits, for who stores it: no NaN need be asked for on the way.
-pub fn square_root_bits(x: f64) -> Bits
-    ensures { shown_bits result ≡ with pattern_of (root_rule x) }
+pub fn square_root_bits(x: f64) -> Result<u64, Refusal>
+    ensures { shown result ≡ with pattern_of (root_rule x) }
 {
     if LEAST_NORMAL <= x {
         if x <= GREATEST {
-            return Bits::Are(normal_bits(x));
+            return Ok(normal_bits(x));
         }
     }
-    match square_root(x) {
-        One::Is(y) => Bits::Are(double::pattern(y)),
-        One::Refused(n) => Bits::Refused(n),
-    }
+    let y = square_root(x)?;
+    Ok(double::pattern(y))
 }

@@ -6,8 +6,7 @@ ghost use Rattle.std.specs.Prelude.{◌<◌, ◌^◌};
 use std::io::Stdout;
 
 fn print_line(out: Stdout, n: u64) {
-    let _ = out.print(n);
-    let _ = out.write_all(b"\n");
+    let _ = println!(out; "{n}");
 }
 
 // 29 binary digits of the root of 2^57.

@@ -2,7 +2,6 @@
 // edition that the third names: the crate's where there is none. It is precession alone, and the first line says so.
 #![tactic(auto)]
 
-use arguments::{Days, Named};
 use edition::Edition;
 
 // The text of a list.
@@ -28,10 +27,10 @@ fn print(rt: &(impl Input + Print), err: &impl Print, edition: Edition, day1: f6
 
 fn main(rt: HostRuntime) {
     let err = rt.stderr();
-    let Days::Are(day1, day2) = arguments::days_of(&rt, &err, 1, 2, b"JD2", 0) else {
+    let Some((day1, day2)) = arguments::days_of(&rt, &err, 1, 2, b"JD2", 0) else {
         return;
     };
-    let Named::Is(edition) = arguments::edition_of(&rt, &err, 3, b"third argument") else {
+    let Some(edition) = arguments::edition_of(&rt, &err, 3, b"third argument") else {
         return;
     };
     print(&rt, &err, edition, day1, day2);

@@ -127,8 +127,8 @@ pub fn rotated_two(m: [[f64; 3]; 3], d: Direction, e: Direction) -> Places
     let up2 = w[1];
     let across2 = w[0];
     let height2 = w[2];
-    let first_refusal = precess_arcs::arcs_refusal(up, across, height);
-    let second_refusal = precess_arcs::arcs_refusal(up2, across2, height2);
+    let first_check = precess_arcs::arcs_refusal(up, across, height);
+    let second_check = precess_arcs::arcs_refusal(up2, across2, height2);
     let root = elementary_arc::arcsine_root(height);
     let root2 = elementary_arc::arcsine_root(height2);
     let arcs = precess_arcs::arcs_two(up, across, height, root, up2, across2, height2, root2);
@@ -137,7 +137,7 @@ pub fn rotated_two(m: [[f64; 3]; 3], d: Direction, e: Direction) -> Places
         second_asc: arcs.second_asc,
         first_dec: arcs.first_dec,
         second_dec: arcs.second_dec,
-        first_refusal,
-        second_refusal,
+        first_check,
+        second_check,
     }
 }

@@ -10,8 +10,7 @@ use edition::Edition;
 use elementary::{Direction, TwoSinCos};
 use list::Star;
 use list_tally::Tally;
-use quantity::Places;
-use star_store::Tallied;
+use quantity::{Places, Refusal};
 
 // Two stars' places, from the sines and cosines of the stars' angles; and of two more stars the sines and cosines, and what each is refused
 // for before its place is taken: 10 for an empty place; 9 for a record out of range; then 3 for a shifted declination past HALF in size.
@@ -20,8 +19,8 @@ struct Turn {
     places: Places,
     ascs: TwoSinCos,
     decs: TwoSinCos,
-    first_refusal: u8,
-    second_refusal: u8,
+    first_check: Result<(), Refusal>,
+    second_check: Result<(), Refusal>,
 }
 
 // Two stars' places under a rotation, side by side, and meanwhile the next two stars after so many years: neither half waits for the other,
@@ -67,8 +66,8 @@ fn two_turned(
     let next_decs = elementary::two_sin_cos_of(first_dec, second_dec);
     let root2 = elementary_arc::arcsine_root(height2);
     let next_ascs = elementary::two_sin_cos_of(first_asc, second_asc);
-    let first_refusal = star_store::star_refusal(first, first_dec);
-    let second_refusal = star_store::star_refusal(second, second_dec);
+    let first_check = star_store::star_refusal(first, first_dec);
+    let second_check = star_store::star_refusal(second, second_dec);
     let arcs = precess_arcs::arcs_two(up, across, height, root, up2, across2, height2, root2);
     Turn {
         places: Places {
@@ -76,13 +75,13 @@ fn two_turned(
             second_asc: arcs.second_asc,
             first_dec: arcs.first_dec,
             second_dec: arcs.second_dec,
-            first_refusal: first_arcs,
-            second_refusal: second_arcs,
+            first_check: first_arcs,
+            second_check: second_arcs,
         },
         ascs: next_ascs,
         decs: next_decs,
-        first_refusal,
-        second_refusal,
+        first_check,
+        second_check,
     }
 }
 
@@ -109,15 +108,12 @@ pub fn rotate(
     status: &mut [u8],
     asc: &mut [u64],
     dec: &mut [u64],
-) -> Tallied
+) -> Result<Tally, Refusal>
     ensures { Rotated edition bytes.now day1 day2 status.old asc.old dec.old result
         status.new asc.new dec.new }
 {
-    let refusal = star_store::store_refusal(bytes, day1, day2, status.len(), asc.len(), dec.len());
+    star_store::store_refusal(bytes, day1, day2, status.len(), asc.len(), dec.len())?;
     let tally = Tally::new();
-    if refusal != 0 {
-        return Tallied { refusal, tally };
-    }
     let m = rotation::rotation_of(edition, day1, day2);
     let years = star_place::years_between(day1, day2);
     let n = list::count(bytes);
@@ -130,12 +126,13 @@ pub fn rotate(
         list::nth(bytes, 1),
         years,
     );
+    // Stays a counted loop: it goes on by two, and where it ends says which star is left over.
     let mut i = 0;
     while i + 1 < n {
         let j = i + 1;
         let k = j + 1;
-        let first_refusal = t.first_refusal;
-        let second_refusal = t.second_refusal;
+        let first_check = t.first_check;
+        let second_check = t.second_check;
         t = two_turned(
             &m,
             t.ascs,
@@ -151,7 +148,7 @@ pub fn rotate(
             dec,
             &mut counts,
             i,
-            star_store::earlier(first_refusal, p.first_refusal),
+            star_store::earlier(first_check, p.first_check),
             p.first_asc,
             p.first_dec,
         );
@@ -161,14 +158,14 @@ pub fn rotate(
             dec,
             &mut counts,
             j,
-            star_store::earlier(second_refusal, p.second_refusal),
+            star_store::earlier(second_check, p.second_check),
             p.second_asc,
             p.second_dec,
         );
         i = k;
     }
     if i < n {
-        let first_refusal = t.first_refusal;
+        let first_check = t.first_check;
         let star = list::nth(bytes, i);
         let last = two_turned(&m, t.ascs, t.decs, star, star, years);
         let p = last.places;
@@ -178,13 +175,10 @@ pub fn rotate(
             dec,
             &mut counts,
             i,
-            star_store::earlier(first_refusal, p.first_refusal),
+            star_store::earlier(first_check, p.first_check),
             p.first_asc,
             p.first_dec,
         );
     }
-    Tallied {
-        refusal: 0,
-        tally: Tally { counts },
-    }
+    Ok(Tally { counts })
 }

@@ -5,7 +5,7 @@
 ghost use Rattle.std.specs.Prelude.{◌≡◌};
 ghost use Rattle.double.specs.rules.Operations.{◌⊕◌, ◌⊗◌};
 ghost use Rattle.quantity.specs.rules.Angle.{rad};
-ghost use Rattle.quantity.specs.rules.Answer.{shown_radians};
+ghost use Rattle.quantity.specs.rules.Answer.{shown};
 ghost use Rattle.elementary.specs.rules.Sine.{cosine_of};
 ghost use Rattle.helpers.specs.rules.Angle.{within_two_PI};
 ghost use Rattle.chain.specs.rules.Obliquity.{true_obliquity};
@@ -14,7 +14,7 @@ ghost use Rattle.sidereal.specs.rules.Apparent.{apparent_from, apparent_of, appa
 
 use helpers::{angle, time};
 use nutation_args::Nutations;
-use quantity::{Deg, Rad, Radians};
+use quantity::{Deg, Rad, Refusal};
 
 // ---- mean
 
@@ -33,14 +33,11 @@ pub fn mean_on(day: f64) -> Rad
 }
 
 // Mean sidereal time at Greenwich. Refusals: 1; 2.
-pub fn mean_sidereal(day: f64) -> Radians
-    ensures { shown_radians result ≡ mean_sidereal_rule day }
+pub fn mean_sidereal(day: f64) -> Result<Rad, Refusal>
+    ensures { shown result ≡ mean_sidereal_rule day }
 {
-    let refusal = quantity::day_refusal(day);
-    if refusal != 0 {
-        return Radians::Refused(refusal);
-    }
-    Radians::Are(mean_on(day))
+    quantity::day_refusal(day)?;
+    Ok(mean_on(day))
 }
 
 // ---- apparent
@@ -88,12 +85,9 @@ pub fn apparent_on(day: f64) -> Rad
 }
 
 // Apparent sidereal time at Greenwich. Refusals: 1; 2.
-pub fn apparent_sidereal(day: f64) -> Radians
-    ensures { shown_radians result ≡ apparent_sidereal_rule day }
+pub fn apparent_sidereal(day: f64) -> Result<Rad, Refusal>
+    ensures { shown result ≡ apparent_sidereal_rule day }
 {
-    let refusal = quantity::day_refusal(day);
-    if refusal != 0 {
-        return Radians::Refused(refusal);
-    }
-    Radians::Are(apparent_on(day))
+    quantity::day_refusal(day)?;
+    Ok(apparent_on(day))
 }

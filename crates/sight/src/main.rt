@@ -6,13 +6,9 @@
 
 ghost use Rattle.std.specs.Prelude.{◌≤◌};
 
-use arguments::{Days, Named};
 use edition::Edition;
 use report_heading::{Readings, Sight};
 use std::rt::Env;
-use text_degrees::ReadDegrees;
-use text_dut1::Dut1;
-use text_whole::Unsigned;
 
 // ---- a sight
 
@@ -23,7 +19,7 @@ fn print_sight(
     edition: Edition,
     bytes: &[u8],
     sight: Sight,
-    readings: Readings,
+    readings: Option<Readings>,
 ) {
     let mut out = [0u8; report_heading::ROOM];
     let k = report_heading::put_sight(&mut out, edition, bytes, sight, readings);
@@ -36,7 +32,7 @@ fn print(
     err: &impl Print,
     edition: Edition,
     sight: Sight,
-    readings: Readings,
+    readings: Option<Readings>,
 ) {
     let mut input = [0u8; list::READ];
     let n = arguments::read(&mut rt.reader(), &mut input);
@@ -49,9 +45,9 @@ fn on_readings(
     err: &impl Print,
     i: usize,
     sight: Sight,
-    readings: Readings,
+    readings: Option<Readings>,
 ) {
-    let Named::Is(edition) = arguments::edition_of(rt, err, i, b"the last argument") else {
+    let Some(edition) = arguments::edition_of(rt, err, i, b"the last argument") else {
         return;
     };
     print(rt, err, edition, sight, readings);
@@ -62,16 +58,16 @@ fn on_sight(rt: &(impl Env + Input + Print), err: &impl Print, before: usize, si
     requires { before ≤ 2 }
 {
     if arguments::count(rt) <= before + 7 {
-        on_readings(rt, err, before + 6, sight, Readings::None);
+        on_readings(rt, err, before + 6, sight, None);
         return;
     }
-    let ReadDegrees::Are(star) = arguments::degrees_of(rt, err, before + 6, b"STAR-READING") else {
+    let Some(star) = arguments::degrees_of(rt, err, before + 6, b"STAR-READING") else {
         return;
     };
-    let ReadDegrees::Are(mark) = arguments::degrees_of(rt, err, before + 7, b"MARK-READING") else {
+    let Some(mark) = arguments::degrees_of(rt, err, before + 7, b"MARK-READING") else {
         return;
     };
-    on_readings(rt, err, before + 8, sight, Readings::At(star, mark));
+    on_readings(rt, err, before + 8, sight, Some(Readings { star, mark }));
 }
 
 // With the number and the days read.
@@ -86,10 +82,10 @@ fn on_days(
 )
     requires { before ≤ 2 }
 {
-    let ReadDegrees::Are(long) = arguments::degrees_of(rt, err, before + 4, b"LONGITUDE") else {
+    let Some(long) = arguments::degrees_of(rt, err, before + 4, b"LONGITUDE") else {
         return;
     };
-    let ReadDegrees::Are(lat) = arguments::degrees_of(rt, err, before + 5, b"LATITUDE") else {
+    let Some(lat) = arguments::degrees_of(rt, err, before + 5, b"LATITUDE") else {
         return;
     };
     on_sight(
@@ -118,7 +114,7 @@ fn on_number(
 )
     requires { before ≤ 2 }
 {
-    let Days::Are(day1, day2) = arguments::days_of(rt, err, before + 2, before + 3, b"TIME", dut1)
+    let Some((day1, day2)) = arguments::days_of(rt, err, before + 2, before + 3, b"TIME", dut1)
     else {
         return;
     };
@@ -135,7 +131,7 @@ fn read_number(
 )
     requires { before ≤ 2 }
 {
-    let Unsigned::Is(number) = arguments::unsigned_of(rt, before + 1) else {
+    let Some(number) = arguments::unsigned_of(rt, before + 1) else {
         arguments::say(err, b"NUMBER: no whole number of 32 bits\n");
         return;
     };
@@ -145,7 +141,7 @@ fn read_number(
 fn main(rt: HostRuntime) {
     let err = rt.stderr();
     if arguments::is_argument(&rt, 1, b"--dut1") {
-        let Dut1::Is(dut1) = arguments::dut1_of(&rt, &err, 2) else {
+        let Some(dut1) = arguments::dut1_of(&rt, &err, 2) else {
             return;
         };
         read_number(&rt, &err, 2, dut1, false);

@@ -23,29 +23,21 @@ pub fn reach(z: i32) -> u32
 pub fn size(z: i32) -> u32
     ensures { result ≡ nat_abs z }
 {
-    if negative(z) { reach(z) + 1 } else { reach(z) }
+    z.unsigned_abs()
 }
 
 // The word of z.
 pub fn word_of(z: i32) -> u32
     ensures { result ≡ word_of z }
 {
-    if negative(z) {
-        4294967295 - reach(z)
-    } else {
-        reach(z)
-    }
+    z.cast_unsigned()
 }
 
 // The signed number of a word.
 pub fn signed_of(u: u32) -> i32
     ensures { result ≡ signed_of u }
 {
-    if u < 2147483648 {
-        u as i32
-    } else {
-        -1 - ((4294967295 - u) as i32)
-    }
+    u.cast_signed()
 }
 
 // A byte as a word.

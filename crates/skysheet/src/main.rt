@@ -3,15 +3,12 @@
 // the lines, prints them with their names beside the published figures, and holds them to those.
 #![tactic(auto)]
 
-use atmos::Arcminutes;
-use coords_ecl::Ecliptic;
+use atmos::Arcmin;
 use edition::Edition;
 use helpers::{angle, time};
 use helpers_earth::Earth;
 use list::Star;
-use quantity::{
-    Deg, Degrees, EclPoint, EqPoint, GeographPoint, One, Point, Rad, Radians, Three, Two,
-};
+use quantity::{Deg, EclPoint, EqPoint, GeographPoint, Rad, Refusal};
 use std::io::Stdout;
 
 const J2000: f64 = 2451545.0;
@@ -37,84 +34,74 @@ fn line(out: Stdout, x: f64) {
     end(out);
 }
 
-fn refusal(out: Stdout, n: u8) {
+fn refusal(out: Stdout, why: Refusal) {
     let _ = out.write_all(b"refused ");
-    let _ = out.print(n as u64);
+    let _ = out.print(why.number() as u64);
 }
 
-fn one(out: Stdout, a: One) {
-    match a {
-        One::Is(x) => number(out, x),
-        One::Refused(n) => refusal(out, n),
+// What an answer holds: its numbers, after one another.
+trait Numbers {
+    fn print(self, out: Stdout);
+}
+
+impl Numbers for f64 {
+    fn print(self, out: Stdout) {
+        number(out, self);
     }
-    end(out);
 }
 
-fn radians(out: Stdout, a: Radians) {
-    match a {
-        Radians::Are(x) => number(out, x.0),
-        Radians::Refused(n) => refusal(out, n),
+impl Numbers for Rad {
+    fn print(self, out: Stdout) {
+        number(out, self.0);
     }
-    end(out);
 }
 
-fn degrees(out: Stdout, a: Degrees) {
-    match a {
-        Degrees::Are(x) => number(out, x.0),
-        Degrees::Refused(n) => refusal(out, n),
+impl Numbers for Deg {
+    fn print(self, out: Stdout) {
+        number(out, self.0);
     }
-    end(out);
 }
 
-fn arcminutes(out: Stdout, a: Arcminutes) {
-    match a {
-        Arcminutes::Are(x) => number(out, x.0),
-        Arcminutes::Refused(n) => refusal(out, n),
+impl Numbers for Arcmin {
+    fn print(self, out: Stdout) {
+        number(out, self.0);
     }
-    end(out);
 }
 
-fn two(out: Stdout, a: Two) {
-    match a {
-        Two::Are(x, y) => {
-            number(out, x);
-            next(out, y);
-        }
-        Two::Refused(n) => refusal(out, n),
+impl Numbers for (f64, f64) {
+    fn print(self, out: Stdout) {
+        number(out, self.0);
+        next(out, self.1);
     }
-    end(out);
 }
 
-fn three(out: Stdout, a: Three) {
-    match a {
-        Three::Are(x, y, z) => {
-            number(out, x);
-            next(out, y);
-            next(out, z);
-        }
-        Three::Refused(n) => refusal(out, n),
+impl Numbers for (f64, f64, f64) {
+    fn print(self, out: Stdout) {
+        number(out, self.0);
+        next(out, self.1);
+        next(out, self.2);
     }
-    end(out);
 }
 
-fn point(out: Stdout, a: Point) {
-    match a {
-        Point::Is(p) => {
-            number(out, p.asc);
-            next(out, p.dec);
-        }
-        Point::Refused(n) => refusal(out, n),
+impl Numbers for EqPoint {
+    fn print(self, out: Stdout) {
+        number(out, self.asc);
+        next(out, self.dec);
     }
-    end(out);
 }
 
-fn ecliptic(out: Stdout, a: Ecliptic) {
+impl Numbers for EclPoint {
+    fn print(self, out: Stdout) {
+        number(out, self.long);
+        next(out, self.lat);
+    }
+}
+
+// An answer's line.
+fn answer<T: Numbers>(out: Stdout, a: Result<T, Refusal>) {
     match a {
-        Ecliptic::Is(p) => {
-            number(out, p.long);
-            next(out, p.lat);
-        }
-        Ecliptic::Refused(n) => refusal(out, n),
+        Ok(x) => x.print(out),
+        Err(why) => refusal(out, why),
     }
     end(out);
 }
@@ -126,38 +113,38 @@ fn deg(x: f64) -> Rad {
 }
 
 fn limits(out: Stdout) {
-    one(out, time::julian_cent(3182045.0));
-    one(out, time::julian_cent(3182045.0000000005));
-    radians(out, aberr::sol_aberr(0.0));
-    three(
+    answer(out, time::julian_cent(3182045.0));
+    answer(out, time::julian_cent(3182045.0000000005));
+    answer(out, aberr::sol_aberr(0.0));
+    answer(
         out,
         precess_ecl::precess_orb_elements(Rad(0.0), Rad(1.0), Rad(1.0), J2000, J2000),
     );
-    radians(out, coords::az_frm_eq(Rad(1.0), Rad(1.57), Rad(0.5)));
-    radians(
+    answer(out, coords::az_frm_eq(Rad(1.0), Rad(1.57), Rad(0.5)));
+    answer(
         out,
         coords::az_frm_eq(Rad(1.0), Rad(1.5700000000000003), Rad(0.5)),
     );
 }
 
 fn earth_and_ecliptic(out: Stdout) {
-    two(out, Earth::rho_sin_cos_phi(deg(33.35611111111111), 1706.0));
-    ecliptic(
+    answer(out, Earth::rho_sin_cos_phi(deg(33.35611111111111), 1706.0));
+    answer(
         out,
         coords_ecl::ecl_frm_eq(deg(116.328942), deg(28.026183), deg(23.4392911)),
     );
-    radians(
+    answer(
         out,
         coords_ecl::asc_frm_ecl(deg(113.21563), deg(6.68417), deg(23.4392911)),
     );
-    radians(
+    answer(
         out,
         coords_ecl::dec_frm_ecl(deg(113.21563), deg(6.68417), deg(23.4392911)),
     );
 }
 
 fn horizon_and_galaxy(out: Stdout) {
-    radians(
+    answer(
         out,
         coords::az_frm_eq(
             deg(64.352133),
@@ -165,7 +152,7 @@ fn horizon_and_galaxy(out: Stdout) {
             deg(38.92138888888889),
         ),
     );
-    radians(
+    answer(
         out,
         coords::alt_frm_eq(
             deg(64.352133),
@@ -173,11 +160,11 @@ fn horizon_and_galaxy(out: Stdout) {
             deg(38.92138888888889),
         ),
     );
-    radians(
+    answer(
         out,
         coords::hr_angl_frm_hz(deg(68.0337), deg(15.1249), deg(38.92138888888889)),
     );
-    radians(
+    answer(
         out,
         coords::dec_frm_hz(
             Edition::Crate,
@@ -186,11 +173,11 @@ fn horizon_and_galaxy(out: Stdout) {
             deg(38.92138888888889),
         ),
     );
-    radians(
+    answer(
         out,
         coords_gal::gal_long_frm_eq(deg(267.2489166666667), deg(-14.718944444444444)),
     );
-    radians(
+    answer(
         out,
         coords_gal::gal_lat_frm_eq(deg(267.2489166666667), deg(-14.718944444444444)),
     );
@@ -211,21 +198,21 @@ fn venus_at_boston(out: Stdout) {
         deg(-0.5667),
     );
     match times {
-        Three::Are(rise, culmination, set) => {
+        Ok((rise, culmination, set)) => {
             line(out, rise);
             line(out, culmination);
             line(out, set);
         }
-        Three::Refused(n) => refusal(out, n),
+        Err(why) => refusal(out, why),
     }
 }
 
 // The Sun at the horizon: its lower limb is seen at 0.5 degrees, its upper limb stands at 33.246 minutes of arc.
 fn sun_at_the_horizon(out: Stdout) {
-    arcminutes(out, atmos::refrac_frm_apprnt_alt(Deg(0.5)));
-    degrees(out, atmos::sight_alt(Deg(0.5)));
-    arcminutes(out, atmos::refrac_frm_true_alt(Deg(0.5541)));
-    degrees(out, atmos::plan_alt(Deg(0.5541)));
+    answer(out, atmos::refrac_frm_apprnt_alt(Deg(0.5)));
+    answer(out, atmos::sight_alt(Deg(0.5)));
+    answer(out, atmos::refrac_frm_true_alt(Deg(0.5541)));
+    answer(out, atmos::plan_alt(Deg(0.5541)));
 }
 
 // Polaris on a day: its place of J2000, 2h31m48.704s and 89d15'50.72", moved by its yearly rates.
@@ -239,7 +226,7 @@ fn polaris_at(day: f64) -> EqPoint {
 
 fn polaris(out: Stdout, day: f64) {
     let place = polaris_at(day);
-    two(
+    answer(
         out,
         precess::precess_eq_coords(Edition::Crate, Rad(place.asc), Rad(place.dec), J2000, day),
     );
@@ -255,7 +242,7 @@ fn moved(out: Stdout, asc: u32, dec: i32, asc_rate: i32, dec_rate: i32, day: f64
         dec_rate,
     };
     let years = star_place::years_between(J2000, day);
-    two(
+    answer(
         out,
         precess::precess_eq_coords(
             Edition::Crate,
@@ -276,7 +263,7 @@ fn moving_stars(out: Stdout) {
 }
 
 fn precessions(out: Stdout) {
-    two(
+    answer(
         out,
         precess::precess_eq_coords(
             Edition::Crate,
@@ -289,7 +276,7 @@ fn precessions(out: Stdout) {
     polaris(out, 2415020.3135);
     polaris(out, 2469807.5);
     polaris(out, 2488070.0);
-    two(
+    answer(
         out,
         precess_ecl::precess_ecl_coords(deg(149.48194), deg(1.76549), J2000, 1643074.5),
     );
@@ -303,13 +290,8 @@ fn rotated(out: Stdout, place: EqPoint, day: f64) {
         toward,
         toward,
     );
-    if places.second_refusal == 0 {
-        number(out, places.second_asc);
-        next(out, places.second_dec);
-    } else {
-        refusal(out, places.second_refusal);
-    }
-    end(out);
+    let second = (places.second_asc, places.second_dec);
+    answer(out, places.second_check.and(Ok(second)));
 }
 
 // theta Persei, and Polaris on its three days.
@@ -327,21 +309,23 @@ fn rotations(out: Stdout) {
     rotated(out, polaris_at(2488070.0), 2488070.0);
 }
 
+// The true obliquity on a day, from the mean one.
+fn true_obliquity(mean: Rad, day: f64) -> Result<Rad, Refusal> {
+    let (_, in_oblq) = nutation::nutation(day)?;
+    Ok(chain::true_obliquity(mean, Rad(in_oblq)))
+}
+
 // The mean obliquity on a day, then the true one.
 fn obliquities(out: Stdout, day: f64) {
     let mean = chain::mean_obliquity_on(day);
     line(out, mean.0);
-    match nutation::nutation(day) {
-        Two::Are(_, in_oblq) => number(out, chain::true_obliquity(mean, Rad(in_oblq)).0),
-        Two::Refused(n) => refusal(out, n),
-    }
-    end(out);
+    answer(out, true_obliquity(mean, day));
 }
 
 fn reductions(out: Stdout) {
-    two(out, nutation::nutation(2446895.5));
+    answer(out, nutation::nutation(2446895.5));
     obliquities(out, 2446895.5);
-    two(
+    answer(
         out,
         nutation::nutation_in_eq_coords(
             EqPoint {
@@ -353,7 +337,7 @@ fn reductions(out: Stdout) {
             deg(23.436),
         ),
     );
-    three(
+    answer(
         out,
         precess_ecl::precess_orb_elements(
             deg(47.122),
@@ -363,12 +347,12 @@ fn reductions(out: Stdout) {
             2433282.4235,
         ),
     );
-    radians(out, aberr::sol_aberr(0.99766));
+    answer(out, aberr::sol_aberr(0.99766));
 }
 
 // The exercise of chapter 40.
 fn exercise(out: Stdout, edition: Edition) {
-    three(
+    answer(
         out,
         parallax_ecl::topopcent_ecl_coords(
             edition,
@@ -390,8 +374,8 @@ fn exercise(out: Stdout, edition: Edition) {
 }
 
 fn parallaxes(out: Stdout) {
-    radians(out, parallax::eq_hz_parallax(0.37276));
-    point(
+    answer(out, parallax::eq_hz_parallax(0.37276));
+    answer(
         out,
         parallax::topocent_eq_coords(
             EqPoint {
@@ -411,24 +395,18 @@ fn parallaxes(out: Stdout) {
 }
 
 // Example 13.b back from the azimuth and altitude that it gives, unrounded.
-fn venus_back(out: Stdout, edition: Edition) {
+fn venus_back(edition: Edition) -> Result<Rad, Refusal> {
     let hour = deg(64.352133);
     let dec = deg(-6.719891666666667);
     let lat = deg(38.92138888888889);
-    match coords::az_frm_eq(hour, dec, lat) {
-        Radians::Are(az) => match coords::alt_frm_eq(hour, dec, lat) {
-            Radians::Are(alt) => {
-                radians(out, coords::dec_frm_hz(edition, az, alt, lat));
-            }
-            Radians::Refused(n) => refusal(out, n),
-        },
-        Radians::Refused(n) => refusal(out, n),
-    }
+    let az = coords::az_frm_eq(hour, dec, lat)?;
+    let alt = coords::alt_frm_eq(hour, dec, lat)?;
+    coords::dec_frm_hz(edition, az, alt, lat)
 }
 
 // Example 21.b back: from its second day, which is not J2000, to its first.
 fn persei_back(out: Stdout, edition: Edition) {
-    two(
+    answer(
         out,
         precess::precess_eq_coords(edition, deg(41.547214), deg(49.348483), 2462088.69, J2000),
     );
@@ -436,8 +414,8 @@ fn persei_back(out: Stdout, edition: Edition) {
 
 // What the editions have otherwise, in either.
 fn editions(out: Stdout) {
-    venus_back(out, Edition::Crate);
-    venus_back(out, Edition::Published);
+    answer(out, venus_back(Edition::Crate));
+    answer(out, venus_back(Edition::Published));
     persei_back(out, Edition::Crate);
     persei_back(out, Edition::Published);
     exercise(out, Edition::Published);
@@ -445,9 +423,9 @@ fn editions(out: Stdout) {
 
 // Sidereal time at Greenwich: 1987 April 10 at 0h, mean and apparent, and at 19h21m.
 fn sidereal_times(out: Stdout) {
-    radians(out, sidereal::mean_sidereal(2446895.5));
-    radians(out, sidereal::apparent_sidereal(2446895.5));
-    radians(out, sidereal::mean_sidereal(2446896.30625));
+    answer(out, sidereal::mean_sidereal(2446895.5));
+    answer(out, sidereal::apparent_sidereal(2446895.5));
+    answer(out, sidereal::mean_sidereal(2446896.30625));
 }
 
 fn main(rt: HostRuntime) {

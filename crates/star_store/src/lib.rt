@@ -6,7 +6,7 @@
 ghost use Rattle.std.specs.Prelude.{◌<◌, ◌≡◌, cond, eqb, length};
 ghost use Rattle.double.specs.rules.Operations.{zero};
 ghost use Rattle.double.specs.rules.Pattern.{pattern_of};
-ghost use Rattle.quantity.specs.rules.Answer.{answered, pair, unless};
+ghost use Rattle.quantity.specs.rules.Answer.{checked, answered, pair, unless};
 ghost use Rattle.quantity.specs.rules.Refusal.{latitude_refusal};
 ghost use Rattle.list.specs.rules.Record.{in_range};
 ghost use Rattle.list.specs.rules.Stars.{most_stars, is_kept};
@@ -16,46 +16,42 @@ ghost use Rattle.star_store.specs.notions.StarStored.{Placed, StarStored};
 
 use list::Star;
 use list_tally::Tally;
-use quantity::{HALF, Rad};
-
-// The refusal number, where 0 is none, beside the tally of every star's status.
-#[derive(Clone, Copy)]
-pub struct Tallied {
-    pub refusal: u8,
-    pub tally: Tally,
-}
+use quantity::{HALF, Rad, Refusal};
 
 // ---- one star
 
 // A star's refusals before its place is taken: 10 for an empty place; 9 for a record out of range; then 3 for a declination past HALF in
 // size.
-pub fn star_refusal(star: Star, dec: Rad) -> u8
-    ensures { result ≡ cond (is_kept star) (cond (in_range star) (latitude_refusal dec) 9) 10 }
+pub fn star_refusal(star: Star, dec: Rad) -> Result<(), Refusal>
+    ensures { checked result ≡ cond (is_kept star) (cond (in_range star) (latitude_refusal dec) 9) 10 }
 {
     if star.number == 0 {
-        return 10;
+        return Err(Refusal::NoStar);
     }
     if list::in_range(star) {
         if double::size(dec.0) <= HALF {
-            return 0;
+            return Ok(());
         }
         return quantity::latitude_refusal(dec);
     }
-    9
+    Err(Refusal::Record)
 }
 
-// The earlier of two refusals, where 0 is none.
-pub fn earlier(refusal: u8, later: u8) -> u8
-    ensures { result ≡ earlier refusal later }
+// The earlier of two refusals.
+pub fn earlier(refusal: Result<(), Refusal>, later: Result<(), Refusal>) -> Result<(), Refusal>
+    ensures { checked result ≡ earlier (checked refusal) (checked later) }
 {
-    if refusal == 0 { later } else { refusal }
+    refusal.and(later)
 }
 
 // What is stored of an angle, its bits: those of 0.0 where its place is refused.
-fn stored_bits(refusal: u8, x: f64) -> u64
-    ensures { result ≡ cond (eqb refusal 0) (pattern_of x) (pattern_of zero) }
+fn stored_bits(refusal: Result<(), Refusal>, x: f64) -> u64
+    ensures { result ≡ cond (eqb (checked refusal) 0) (pattern_of x) (pattern_of zero) }
 {
-    if refusal == 0 { double::pattern(x) } else { 0 }
+    match refusal {
+        Ok(()) => double::pattern(x),
+        Err(_) => 0,
+    }
 }
 
 // One star's status and the bits of its angles at its place in what is lent.
@@ -64,7 +60,7 @@ fn put_star(
     asc: &mut [u64],
     dec: &mut [u64],
     i: usize,
-    refusal: u8,
+    refusal: Result<(), Refusal>,
     a: f64,
     d: f64,
 )
@@ -72,10 +68,10 @@ fn put_star(
     requires i_in_bounds { i < length status.old }
     requires i_in_bounds_2 { i < length asc.old }
     requires i_in_bounds_3 { i < length dec.old }
-    ensures { Placed i (unless refusal (answered (pair a d))) status.old asc.old dec.old
+    ensures { Placed i (unless (checked refusal) (answered (pair a d))) status.old asc.old dec.old
         status.new asc.new dec.new }
 {
-    status[i] = refusal;
+    status[i] = quantity::status_of(refusal);
     asc[i] = stored_bits(refusal, a);
     dec[i] = stored_bits(refusal, d);
 }
@@ -86,7 +82,7 @@ pub fn store_star(
     asc: &mut [u64],
     dec: &mut [u64],
     i: usize,
-    refusal: u8,
+    refusal: Result<(), Refusal>,
     a: f64,
     d: f64,
     tally: Tally,
@@ -95,11 +91,11 @@ pub fn store_star(
     requires i_in_bounds { i < length status.old }
     requires i_in_bounds_2 { i < length asc.old }
     requires i_in_bounds_3 { i < length dec.old }
-    ensures { StarStored i (unless refusal (answered (pair a d))) tally status.old asc.old dec.old result
+    ensures { StarStored i (unless (checked refusal) (answered (pair a d))) tally status.old asc.old dec.old result
         status.new asc.new dec.new }
 {
     put_star(status, asc, dec, i, refusal, a, d);
-    let raised = tally.raise(refusal);
+    let raised = tally.raise(quantity::status_of(refusal));
     raised.tally
 }
 
@@ -110,7 +106,7 @@ pub fn store_star_in(
     dec: &mut [u64],
     counts: &mut [u32; 20],
     i: usize,
-    refusal: u8,
+    refusal: Result<(), Refusal>,
     a: f64,
     d: f64,
 )
@@ -118,11 +114,11 @@ pub fn store_star_in(
     requires i_in_bounds { i < length status.old }
     requires i_in_bounds_2 { i < length asc.old }
     requires i_in_bounds_3 { i < length dec.old }
-    ensures { StarStored i (unless refusal (answered (pair a d))) (record { counts = counts.entry.now }) status.old
+    ensures { StarStored i (unless (checked refusal) (answered (pair a d))) (record { counts = counts.entry.now }) status.old
         asc.old dec.old (record { counts = counts.exit.now }) status.new asc.new dec.new }
 {
     put_star(status, asc, dec, i, refusal, a, d);
-    list_tally::raise_in(counts, refusal);
+    list_tally::raise_in(counts, quantity::status_of(refusal));
 }
 
 // ---- the call
@@ -135,25 +131,17 @@ pub fn store_refusal(
     status: usize,
     asc: usize,
     dec: usize,
-) -> u8
-    ensures { result ≡ store_refusal bytes.now day1 day2 status asc dec }
+) -> Result<(), Refusal>
+    ensures { checked result ≡ store_refusal bytes.now day1 day2 status asc dec }
 {
-    let refusal = precess_angles::days_refusal(day1, day2);
-    if refusal != 0 {
-        return refusal;
-    }
+    precess_angles::days_refusal(day1, day2)?;
     if !list::is_list(bytes) {
-        return 8;
+        return Err(Refusal::List);
     }
     let n = list::count(bytes);
-    if n > status {
-        return 8;
+    if n <= status && n <= asc && n <= dec {
+        Ok(())
+    } else {
+        Err(Refusal::List)
     }
-    if n > asc {
-        return 8;
-    }
-    if n > dec {
-        return 8;
-    }
-    0
 }

@@ -5,13 +5,14 @@
 ghost use Rattle.std.specs.Prelude.{◌+◌, ◌≡◌, get_or};
 ghost use Rattle.lent.specs.rules.Writing.{Wrote};
 ghost use Rattle.lent.specs.rules.Texts.{texts};
+ghost use Rattle.quantity.specs.rules.Answer.{checked, shown};
 ghost use Rattle.list_tally.specs.rules.Status.{highest_status};
 ghost use Rattle.text_answers.specs.rules.Answers.{star_text, edition_text, heading_in, head_text, count_text, count_at, tally_text, foot_text};
 ghost use Rattle.text_answers.specs.rules.Answers.{refusal_in, refused_in, angle_at, lent_line, list_text, answers_text};
 
 use edition::Edition;
 use list_tally::Tally;
-use quantity::Rad;
+use quantity::{Rad, Refusal};
 use transit::Observer;
 
 // What is written of a star: its angles, and a tally of all, or a row of a table; its plan for an observer, in a line or in a row.
@@ -32,21 +33,17 @@ const KNOWN: usize = list_tally::HIGHEST_STATUS as usize + 1;
 pub fn byte_at(s: &[u8], i: usize) -> u8
     ensures { result ≡ get_or s.now i 0 }
 {
-    if i < s.len() {
-        return s[i];
-    }
-    0
+    s.get(i).copied().unwrap_or(0)
 }
 
 // Angle i of a slice of radians, each lent as its bits; past its end 0.0.
 pub fn angle_at(s: &[u64], i: usize) -> Rad
     ensures { result ≡ angle_at s.now i }
 {
-    if i < s.len() {
-        let x = double::of_pattern(s[i]);
-        return Rad(x);
+    match s.get(i) {
+        Some(bits) => Rad(double::of_pattern(*bits)),
+        None => Rad(0.0),
     }
-    Rad(0.0)
 }
 
 // Each `put_` writes its text from the offset on, and answers the offset after it. This one: a star in its style.
@@ -120,10 +117,8 @@ fn put_stars<'a>(
         (texts n (lent_line style bytes.now status.now asc.now dec.now)) out.new result }
 {
     let mut offset = lent::within(at, out.len());
-    let mut i: usize = 0;
-    while i < n {
+    for i in 0..n {
         offset = put_nth(out, offset, style, bytes, status, asc, dec, i);
-        i += 1;
     }
     offset
 }
@@ -145,13 +140,12 @@ fn put_heading(out: &mut [u8], at: usize, style: Style) -> usize
     ensures { Wrote out.old at (heading_in style) out.new result }
 {
     match style {
-        Style::Lines => lent::within(at, out.len()),
+        Style::Lines | Style::Plan(_) => lent::within(at, out.len()),
         Style::Table => lent::put(
             out,
             at,
             b"      star  right ascension  declination\n             h  m  s           d  '  \"\n",
         ),
-        Style::Plan(_) => lent::within(at, out.len()),
         Style::PlanTable(_) => lent::put(
             out,
             at,
@@ -181,10 +175,8 @@ fn put_counts(out: &mut [u8], at: usize, counts: &[u32; 20]) -> usize
     ensures { Wrote out.old at (texts (highest_status + 1) (count_at counts.now)) out.new result }
 {
     let mut offset = lent::within(at, out.len());
-    let mut k: usize = 0;
-    while k < KNOWN {
+    for k in 0..KNOWN {
         offset = put_count(out, offset, counts[k]);
-        k += 1;
     }
     offset
 }
@@ -205,23 +197,19 @@ fn put_foot(out: &mut [u8], at: usize, style: Style, tally: Tally) -> usize
 {
     match style {
         Style::Lines => put_tally(out, at, tally),
-        Style::Table => lent::within(at, out.len()),
-        Style::Plan(_) => lent::within(at, out.len()),
-        Style::PlanTable(_) => lent::within(at, out.len()),
+        Style::Table | Style::Plan(_) | Style::PlanTable(_) => lent::within(at, out.len()),
     }
 }
 
 // ---- a refusal
 
 // The least refusal over all arguments, with the list's.
-fn refusal_in(style: Style, n: u8) -> u8
-    ensures { result ≡ refusal_in style n }
+fn refusal_in(style: Style, check: Result<(), Refusal>) -> Result<(), Refusal>
+    ensures { checked result ≡ refusal_in style (checked check) }
 {
     match style {
-        Style::Lines => n,
-        Style::Table => n,
-        Style::Plan(o) => quantity::lower(n, transit::plan_refusal(o)),
-        Style::PlanTable(o) => quantity::lower(n, transit::plan_refusal(o)),
+        Style::Lines | Style::Table => check,
+        Style::Plan(o) | Style::PlanTable(o) => quantity::lower(check, transit::plan_refusal(o)),
     }
 }
 
@@ -230,9 +218,8 @@ fn put_refused(out: &mut [u8], style: Style, n: u8) -> usize
     ensures { Wrote out.old 0 (refused_in style n) out.new result }
 {
     match style {
-        Style::Lines => text_number::put_refused(out, 0, n),
+        Style::Lines | Style::Plan(_) => text_number::put_refused(out, 0, n),
         Style::Table => text_refusal::put_refusal(out, 0, n),
-        Style::Plan(_) => text_number::put_refused(out, 0, n),
         Style::PlanTable(_) => text_refusal::put_plan_refusal(out, 0, n),
     }
 }
@@ -259,7 +246,7 @@ pub fn put_list<'a>(
     put_foot(out, b, style, tally)
 }
 
-// The answers of a list that was reduced with such a refusal and tally, from the slice's start on; and the offset after them.
+// The answers of a list whose reduction answered so, from the slice's start on; and the offset after them.
 pub fn put_answers<'a>(
     out: &mut [u8],
     style: Style,
@@ -268,15 +255,14 @@ pub fn put_answers<'a>(
     status: &'a [u8],
     asc: &'a [u64],
     dec: &'a [u64],
-    refusal: u8,
-    tally: Tally,
+    answer: Result<Tally, Refusal>,
 ) -> usize
     ensures { Wrote out.old 0
-        (answers_text style edition bytes.now status.now asc.now dec.now refusal tally) out.new result }
+        (answers_text style edition bytes.now status.now asc.now dec.now (shown answer)) out.new result }
 {
-    let stated = refusal_in(style, refusal);
-    if stated != 0 {
-        return put_refused(out, style, stated);
+    let accepted = refusal_in(style, answer.and(Ok(()))).and(answer);
+    match accepted {
+        Ok(tally) => put_list(out, 0, style, edition, bytes, status, asc, dec, tally),
+        Err(refusal) => put_refused(out, style, refusal.number()),
     }
-    put_list(out, 0, style, edition, bytes, status, asc, dec, tally)
 }

@@ -7,7 +7,7 @@ ghost use Rattle.lent.specs.rules.Writing.{Wrote};
 ghost use Rattle.quantity.specs.rules.Answer.{shown_two};
 ghost use Rattle.text_ceiling.specs.rules.Text.{is_before, size_at, day_at, bits_text, figures_text, line_at, ceiling_text};
 
-use quantity::Two;
+use quantity::Refusal;
 
 // Bytes of the text, at most.
 pub const ROOM: usize = 2296;
@@ -25,10 +25,7 @@ fn is_before(i: u64) -> bool
 fn size_at(i: u64) -> u64
     ensures { result ≡ size_at i }
 {
-    if i < 20 {
-        return 20 - i;
-    }
-    i - 20
+    i.abs_diff(20)
 }
 
 // Its day.
@@ -52,12 +49,12 @@ fn put_bits(out: &mut [u8], at: usize, x: f64, y: f64) -> usize
 }
 
 // Both figures, or a refusal.
-fn put_figures(out: &mut [u8], at: usize, x: Two) -> usize
+fn put_figures(out: &mut [u8], at: usize, x: Result<(f64, f64), Refusal>) -> usize
     ensures { Wrote out.old at (figures_text (shown_two x)) out.new result }
 {
     match x {
-        Two::Are(long, oblq) => put_bits(out, at, long, oblq),
-        Two::Refused(n) => text_number::put_refused(out, at, n),
+        Ok((long, oblq)) => put_bits(out, at, long, oblq),
+        Err(refusal) => text_number::put_refused(out, at, refusal.number()),
     }
 }
 
@@ -75,10 +72,8 @@ pub fn put_ceiling(out: &mut [u8]) -> usize
     ensures { Wrote out.old 0 ceiling_text out.new result }
 {
     let mut offset = lent::within(0, out.len());
-    let mut i: u64 = 0;
-    while i < 41 {
+    for i in 0..41 {
         offset = put_line(out, offset, i);
-        i += 1;
     }
     offset
 }

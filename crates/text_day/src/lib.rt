@@ -4,30 +4,29 @@
 
 ghost use Rattle.std.specs.Prelude.{◌≡◌};
 ghost use Rattle.lent.specs.rules.Writing.{Wrote};
-ghost use Rattle.text_date.specs.rules.Moment.{shown_moment};
+ghost use Rattle.text_date.specs.rules.Date.{shown};
 ghost use Rattle.text_day.specs.rules.Day.{named_day, day_rule};
 ghost use Rattle.text_day.specs.rules.Reason.{reason_text, complaint_text};
 
-use text_date::{Moment, Reason};
-use text_decimal::Decimal;
+use text_date::Reason;
 
 // The day that a text says which is no decimal number.
-fn named(text: &[u8], dut1: i32) -> Moment
-    ensures { shown_moment result ≡ named_day text.now dut1 }
+fn named(text: &[u8], dut1: i32) -> Result<f64, Reason>
+    ensures { shown result ≡ named_day text.now dut1 }
 {
     if text_word::is_word(text, b"J2000") {
-        return Moment::Is(2451545.0);
+        return Ok(2451545.0);
     }
     text_date::read(text, dut1)
 }
 
 // The day that the text says, where UT1 is so many milliseconds ahead of UTC: they are added to a date, and to nothing else.
-pub fn read(text: &[u8], dut1: i32) -> Moment
-    ensures { shown_moment result ≡ day_rule text.now dut1 }
+pub fn read(text: &[u8], dut1: i32) -> Result<f64, Reason>
+    ensures { shown result ≡ day_rule text.now dut1 }
 {
     match text_decimal::read(text) {
-        Decimal::Is(x) => Moment::Is(x),
-        Decimal::Unclear => named(text, dut1),
+        Some(x) => Ok(x),
+        None => named(text, dut1),
     }
 }
 

@@ -6,6 +6,7 @@ ghost use Rattle.text_decimal.specs.rules.Decimal.{unclear, next_scale, with_dig
 
 // What was read so far: the digits as a whole number, the power of ten below them, whether a point and a digit stood there, and
 // whether all was clear.
+// `clear` stays a flag: the rule goes from byte to byte by this very struct, and what is unclear goes on through it.
 #[derive(Clone, Copy)]
 pub struct Scan {
     pub whole: u64,
@@ -13,13 +14,6 @@ pub struct Scan {
     pub point: bool,
     pub some: bool,
     pub clear: bool,
-}
-
-// A day, or that the text is none.
-#[derive(Clone, Copy)]
-pub enum Decimal {
-    Is(f64),
-    Unclear,
 }
 
 // The whole number, at most: 2^53.
@@ -67,8 +61,8 @@ fn with_digit(scan: Scan, d: u8) -> Scan
         return unclear();
     }
     Scan {
-        whole: whole,
-        scale: scale,
+        whole,
+        scale,
         point: scan.point,
         some: true,
         clear: scan.clear,
@@ -107,20 +101,20 @@ fn with_byte(scan: Scan, b: u8) -> Scan
     with_digit(scan, b - b'0')
 }
 
-// The day that was read.
-fn decimal_from(scan: Scan) -> Decimal
+// The day that was read, where the text is one.
+fn decimal_from(scan: Scan) -> Option<f64>
     ensures { shown_decimal result ≡ decimal_from scan }
 {
     if scan.clear {
         if scan.some {
-            return Decimal::Is(std::num::nearest_u64_to_f64(scan.whole) / scan.scale);
+            return Some(std::num::nearest_u64_to_f64(scan.whole) / scan.scale);
         }
     }
-    Decimal::Unclear
+    None
 }
 
-// The day that the text says.
-pub fn read(text: &[u8]) -> Decimal
+// The day that the text says, where it is one.
+pub fn read(text: &[u8]) -> Option<f64>
     ensures { shown_decimal result ≡ decimal_rule text.now }
 {
     let mut scan = Scan {
@@ -130,10 +124,8 @@ pub fn read(text: &[u8]) -> Decimal
         some: false,
         clear: true,
     };
-    let mut i = 0;
-    while i < text.len() {
-        scan = with_byte(scan, text[i]);
-        i += 1;
+    for b in text {
+        scan = with_byte(scan, *b);
     }
     decimal_from(scan)
 }

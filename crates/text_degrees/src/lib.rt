@@ -7,31 +7,20 @@ ghost use Rattle.text_decimal.specs.rules.Decimal.{shown_decimal};
 ghost use Rattle.text_degrees.specs.rules.Degrees.{with_sign, shown_read_degrees, degrees_rule};
 
 use quantity::Deg;
-use text_decimal::Decimal;
-
-// An angle, or that the text is none.
-#[derive(Clone, Copy)]
-pub enum ReadDegrees {
-    Are(Deg),
-    Unclear,
-}
 
 // The number behind a sign.
-fn with_sign(minus: bool, number: Decimal) -> ReadDegrees
+fn with_sign(minus: bool, number: Option<f64>) -> Option<Deg>
     ensures { shown_read_degrees result ≡ with_sign minus (shown_decimal number) }
 {
-    match number {
-        Decimal::Is(x) => ReadDegrees::Are(Deg(double::negated_if(minus, x))),
-        Decimal::Unclear => ReadDegrees::Unclear,
-    }
+    Some(Deg(double::negated_if(minus, number?)))
 }
 
-// The angle that the text says.
-pub fn read(text: &[u8]) -> ReadDegrees
+// The angle that the text says, where it is one.
+pub fn read(text: &[u8]) -> Option<Deg>
     ensures { shown_read_degrees result ≡ degrees_rule text.now }
 {
     if text.len() == 0 {
-        return ReadDegrees::Unclear;
+        return None;
     }
     if text[0] == b'-' {
         return with_sign(true, text_decimal::read(&text[1..]));

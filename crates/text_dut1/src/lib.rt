@@ -8,6 +8,7 @@ ghost use Rattle.text_dut1.specs.rules.Dut1.{shown_dut1, signed_in, with_sign, d
 
 // What was read so far: the digits as a whole number, the milliseconds that the last of them counts, whether a point and a digit stood there,
 // and whether all was clear.
+// `clear` stays a flag: the rule goes from byte to byte by this very struct, and what is unclear goes on through it.
 #[derive(Clone, Copy)]
 pub struct Scan {
     pub whole: u32,
@@ -15,13 +16,6 @@ pub struct Scan {
     pub point: bool,
     pub some: bool,
     pub clear: bool,
-}
-
-// Milliseconds, or that the text says none.
-#[derive(Clone, Copy)]
-pub enum Dut1 {
-    Is(i32),
-    Unclear,
 }
 
 // The milliseconds, at most.
@@ -64,7 +58,7 @@ fn with_digit(scan: Scan, d: u8) -> Scan
     }
     Scan {
         whole: whole as u32,
-        worth: worth,
+        worth,
         point: scan.point,
         some: true,
         clear: scan.clear,
@@ -114,32 +108,28 @@ fn scan_of(text: &[u8]) -> Scan
         some: false,
         clear: true,
     };
-    let mut i = 0;
-    while i < text.len() {
-        scan = with_byte(scan, text[i]);
-        i += 1;
+    for b in text {
+        scan = with_byte(scan, *b);
     }
     scan
 }
 
 // n, or −n behind a minus sign, where it is not too large.
-fn signed_in(minus: bool, n: u64) -> Dut1
+fn signed_in(minus: bool, n: u64) -> Option<i32>
     ensures { shown_dut1 result ≡ signed_in minus n }
 {
     if n > MOST {
-        return Dut1::Unclear;
+        return None;
     }
-    if n == 0 {
-        return Dut1::Is(0);
-    }
+    let z = n as i32;
     if minus {
-        return Dut1::Is(signed::signed_of(4294967295 - (n as u32 - 1)));
+        return Some(-z);
     }
-    Dut1::Is(signed::signed_of(n as u32))
+    Some(z)
 }
 
 // What was read, behind a sign.
-fn with_sign(minus: bool, scan: Scan) -> Dut1
+fn with_sign(minus: bool, scan: Scan) -> Option<i32>
     ensures { shown_dut1 result ≡ with_sign minus scan }
 {
     if scan.clear {
@@ -147,15 +137,15 @@ fn with_sign(minus: bool, scan: Scan) -> Dut1
             return signed_in(minus, scan.whole as u64 * scan.worth as u64);
         }
     }
-    Dut1::Unclear
+    None
 }
 
-// The milliseconds that the text says.
-pub fn read(text: &[u8]) -> Dut1
+// The milliseconds that the text says, where it says any.
+pub fn read(text: &[u8]) -> Option<i32>
     ensures { shown_dut1 result ≡ dut1_rule text.now }
 {
     if text.len() == 0 {
-        return Dut1::Unclear;
+        return None;
     }
     if text[0] == b'-' {
         return with_sign(true, scan_of(&text[1..]));

@@ -5,15 +5,14 @@
 #![tactic(auto)]
 
 ghost use Rattle.std.specs.Prelude.{◌≡◌, length};
-ghost use Rattle.text_whole.specs.rules.Unsigned.{shown_unsigned, unsigned_rule};
+ghost use Rattle.text_whole.specs.rules.Unsigned.{shown, unsigned_rule};
 ghost use Rattle.text_degrees.specs.rules.Degrees.{shown_read_degrees, degrees_rule};
-ghost use Rattle.text_fields.specs.rules.Fields.{is_blank, is_stop, before, is_bare, field_of, field_end};
+ghost use Rattle.text_fields.specs.rules.Fields.{is_blank, is_stop, before, is_bare, field_of, after_field, field_end};
 ghost use Rattle.text_fields.specs.rules.Lines.{line_length, first_said};
 ghost use Rattle.text_fields.specs.rules.Next.{SaidNext};
 ghost use Rattle.text_fields.specs.rules.Stored.{places_of};
 
-use text_degrees::ReadDegrees;
-use text_whole::Unsigned;
+use quantity::Deg;
 
 // What a pass over bytes ends at: a line's end, the mark of a comment, a blank, or a byte that is none.
 #[derive(Clone, Copy)]
@@ -24,18 +23,35 @@ pub enum Stop {
     Field,
 }
 
-// The next line that says something: where what it says starts and ends in the text, how many lines were read for it, its own the last, and
-// the offset after it; or that there is none.
+// A line that says something: where what it says starts and ends in the text, how many lines were read for it, its own the last, and the
+// offset after it.
 #[derive(Clone, Copy)]
-pub enum Said {
-    At(usize, usize, usize, usize),
-    End,
+pub struct Said {
+    pub start: usize,
+    pub end: usize,
+    pub passed: usize,
+    pub next: usize,
 }
 
-// All sights of a text: how many there are; the line that cannot be read; or that there is no place for the next of them.
+// What is read of a line that says something, how many lines were read for it, its own the last, and the offset after it.
 #[derive(Clone, Copy)]
-pub enum Sights {
-    Are(usize),
+pub struct Met<T> {
+    pub what: T,
+    pub passed: usize,
+    pub next: usize,
+}
+
+// A line that cannot be read.
+#[derive(Clone, Copy, PartialEq, Eq)]
+pub struct Unclear;
+
+// A line that cannot be read, with how many lines were read for it, its own the last.
+#[derive(Clone, Copy, PartialEq, Eq)]
+pub struct UnclearAt(pub usize);
+
+// Why not all sights of a text are read: the line that cannot be read, or that there is no place for the next of them.
+#[derive(Clone, Copy, PartialEq, Eq)]
+pub enum Stopped {
     Unclear(usize),
     Full,
 }
@@ -71,14 +87,12 @@ fn is_stop(stop: Stop, b: u8) -> bool
 pub fn length_before(stop: Stop, text: &[u8]) -> usize
     ensures { result ≡ length (before stop text.now) }
 {
-    let mut i = 0;
-    while i < text.len() {
-        if is_stop(stop, text[i]) {
+    for (i, b) in text.iter().enumerate() {
+        if is_stop(stop, *b) {
             return i;
         }
-        i += 1;
     }
-    i
+    text.len()
 }
 
 // Whether there is no field.
@@ -96,20 +110,33 @@ pub fn field_end(text: &[u8]) -> usize
     start + length_before(Stop::Blank, &text[start..])
 }
 
-// The number that the first field says.
-pub fn next_number(text: &[u8]) -> Unsigned
-    ensures { shown_unsigned result ≡ unsigned_rule (field_of text.now) }
+// The first field.
+pub fn first_field(text: &[u8]) -> &[u8]
+    ensures { result.now ≡ field_of text.now }
 {
     let start = length_before(Stop::Field, text);
-    text_whole::read_unsigned(&text[start..field_end(text)])
+    &text[start..field_end(text)]
 }
 
-// The angle that the first field says.
-pub fn next_degrees(text: &[u8]) -> ReadDegrees
+// What follows the first field.
+pub fn after_field(text: &[u8]) -> &[u8]
+    ensures { result.now ≡ after_field text.now }
+{
+    &text[field_end(text)..]
+}
+
+// The number that the first field says, where it says one.
+pub fn next_number(text: &[u8]) -> Option<u32>
+    ensures { shown result ≡ unsigned_rule (field_of text.now) }
+{
+    text_whole::read_unsigned(first_field(text))
+}
+
+// The angle that the first field says, where it says one.
+pub fn next_degrees(text: &[u8]) -> Option<Deg>
     ensures { shown_read_degrees result ≡ degrees_rule (field_of text.now) }
 {
-    let start = length_before(Stop::Field, text);
-    text_degrees::read(&text[start..field_end(text)])
+    text_degrees::read(first_field(text))
 }
 
 // ---- lines
@@ -129,22 +156,28 @@ fn said_length(text: &[u8]) -> usize
     length_before(Stop::Hash, &text[..length_before(Stop::LineEnd, text)])
 }
 
-// The next line that says something from an offset on, which is 0 or one that an earlier call answered.
-pub fn next_said(text: &[u8], at: usize) -> Said
+// The next line that says something from an offset on, which is 0 or one that an earlier call answered; none where no such line is left.
+pub fn next_said(text: &[u8], at: usize) -> Option<Said>
     ensures { SaidNext text.now at result }
 {
     let mut offset = at;
     let mut passed = 0;
+    // It goes on by a line at a time, so that it is no `for` over the bytes.
     while offset < text.len() {
         let end = offset + said_length(&text[offset..]);
         let next = offset + line_length(&text[offset..]);
         passed += 1;
         if !is_bare(&text[offset..end]) {
-            return Said::At(offset, end, passed, next);
+            return Some(Said {
+                start: offset,
+                end,
+                passed,
+                next,
+            });
         }
         offset = next;
     }
-    Said::End
+    None
 }
 
 // ---- places
@@ -153,5 +186,5 @@ pub fn next_said(text: &[u8], at: usize) -> Said
 pub fn fewest(a: usize, b: usize, c: usize, d: usize) -> usize
     ensures { result ≡ places_of a b c d }
 {
-    lent::within(lent::within(a, b), lent::within(c, d))
+    a.min(b).min(c.min(d))
 }

@@ -126,10 +126,8 @@ pub fn put_rows<'a>(
     ensures { Wrote out.old at (texts n (row_at line.now star.now heading.now k)) out.new result }
 {
     let mut offset = lent::within(at, out.len());
-    let mut i: usize = 0;
-    while i < n {
+    for i in 0..n {
         offset = put_row_at(out, offset, line, star, heading, k, i);
-        i += 1;
     }
     offset
 }

@@ -1,4 +1,3 @@
 -- What is proved of the text of measured places, for callers to cite. Theorems only.
-pub mod Next
 pub mod Written
 pub mod Wrong

@@ -1,4 +1,3 @@
 -- What a reader must believe of the text of measured places. Definitions only.
 pub mod Sight
-pub mod Next
 pub mod Sights

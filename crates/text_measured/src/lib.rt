@@ -4,122 +4,102 @@
 #![tactic(auto)]
 
 ghost use Rattle.std.specs.Prelude.{◌<◌, ◌≡◌, length, drop};
-ghost use Rattle.text_whole.specs.rules.Unsigned.{shown_unsigned};
+ghost use Rattle.text_whole.specs.rules.Unsigned.{shown};
 ghost use Rattle.text_degrees.specs.rules.Degrees.{shown_read_degrees};
 ghost use Rattle.text_fields.specs.rules.Lines.{lines};
-ghost use Rattle.text_fields.specs.rules.Next.{next_of};
-ghost use Rattle.text_fields.specs.rules.Walk.{told_by};
+ghost use Rattle.text_fields.specs.rules.Next.{shown_next, next_of};
+ghost use Rattle.text_fields.specs.rules.Walk.{shown_line};
 ghost use Rattle.text_fields.specs.rules.Stored.{places_of};
 ghost use Rattle.text_fields.specs.notions.Stored.{EntryStored};
-ghost use Rattle.text_measured.specs.rules.Sight.{sight, shown_line, sight_from, with_dec, with_asc, sight_rule, line_rule};
-ghost use Rattle.text_measured.specs.rules.Next.{next_at, shown_next};
+ghost use Rattle.text_measured.specs.rules.Sight.{sight_from, with_dec, with_asc, sight_rule, line_rule};
 ghost use Rattle.text_measured.specs.rules.Sights.{entry_of, columns, ReadSights};
 
 use helpers::angle;
 use quantity::Deg;
-use text_degrees::ReadDegrees;
-use text_fields::{Said, Sights, Stop};
-use text_whole::Unsigned;
+use text_fields::{Met, Stop, Stopped, Unclear, UnclearAt};
 
-// What a line says: a star's number with its right ascension and declination, nothing, or what cannot be read.
+// A star's number with its right ascension and declination.
 #[derive(Clone, Copy)]
-pub enum Line {
-    Sight(u32, Deg, Deg),
-    Bare,
-    Unclear,
-}
-
-// The next sight of a text, with how many lines were read for it, its own the last, and the offset after them; the same number for a line
-// that cannot be read; or that there is none.
-#[derive(Clone, Copy)]
-pub enum Next {
-    Sight(u32, Deg, Deg, usize, usize),
-    Unclear(usize),
-    End,
+pub struct Sight {
+    pub number: u32,
+    pub asc: Deg,
+    pub dec: Deg,
 }
 
 // ---- a line
 
 // The sight, where all three fields are clear.
-fn sight_from(number: Unsigned, asc: ReadDegrees, dec: ReadDegrees) -> Line
-    ensures { shown_line result ≡ told_by (sight_from (shown_unsigned number) (shown_read_degrees asc) (shown_read_degrees dec)) }
+fn sight_from(number: Option<u32>, asc: Option<Deg>, dec: Option<Deg>) -> Option<Sight>
+    ensures { shown result ≡ sight_from (shown number) (shown_read_degrees asc) (shown_read_degrees dec) }
 {
-    match number {
-        Unsigned::Is(n) => match asc {
-            ReadDegrees::Are(a) => match dec {
-                ReadDegrees::Are(d) => Line::Sight(n, a, d),
-                ReadDegrees::Unclear => Line::Unclear,
-            },
-            ReadDegrees::Unclear => Line::Unclear,
-        },
-        Unsigned::Unclear => Line::Unclear,
-    }
+    Some(Sight {
+        number: number?,
+        asc: asc?,
+        dec: dec?,
+    })
 }
 
 // The sight whose declination stands in the text, which has no field more.
-fn with_dec(number: Unsigned, asc: ReadDegrees, text: &[u8]) -> Line
-    ensures { shown_line result ≡ told_by (with_dec (shown_unsigned number) (shown_read_degrees asc) text.now) }
+fn with_dec(number: Option<u32>, asc: Option<Deg>, text: &[u8]) -> Option<Sight>
+    ensures { shown result ≡ with_dec (shown number) (shown_read_degrees asc) text.now }
 {
-    if text_fields::is_bare(&text[text_fields::field_end(text)..]) {
+    if text_fields::is_bare(text_fields::after_field(text)) {
         return sight_from(number, asc, text_fields::next_degrees(text));
     }
-    Line::Unclear
+    None
 }
 
 // The sight whose right ascension and declination stand in the text.
-fn with_asc(number: Unsigned, text: &[u8]) -> Line
-    ensures { shown_line result ≡ told_by (with_asc (shown_unsigned number) text.now) }
+fn with_asc(number: Option<u32>, text: &[u8]) -> Option<Sight>
+    ensures { shown result ≡ with_asc (shown number) text.now }
 {
     with_dec(
         number,
         text_fields::next_degrees(text),
-        &text[text_fields::field_end(text)..],
+        text_fields::after_field(text),
     )
 }
 
 // The sight whose number and angles stand in the text.
-fn read_sight(text: &[u8]) -> Line
-    ensures { shown_line result ≡ told_by (sight_rule text.now) }
+fn read_sight(text: &[u8]) -> Option<Sight>
+    ensures { shown result ≡ sight_rule text.now }
 {
     with_asc(
         text_fields::next_number(text),
-        &text[text_fields::field_end(text)..],
+        text_fields::after_field(text),
     )
 }
 
-// What a line says.
-pub fn read_line(line: &[u8]) -> Line
+// The sight that a line says, none where it says nothing.
+pub fn read_line(line: &[u8]) -> Result<Option<Sight>, Unclear>
     ensures { shown_line result ≡ line_rule line.now }
 {
     let end = text_fields::length_before(Stop::Hash, line);
     if text_fields::is_bare(&line[..end]) {
-        return Line::Bare;
+        return Ok(None);
     }
-    read_sight(&line[..end])
+    match read_sight(&line[..end]) {
+        Some(sight) => Ok(Some(sight)),
+        None => Err(Unclear),
+    }
 }
 
 // ---- a text
 
-// What is found at a line that says something.
-fn found_on(line: Line, passed: usize, next: usize) -> Next
-    ensures { result ≡ next_at (shown_line line) passed next }
-{
-    match line {
-        Line::Sight(number, asc, dec) => Next::Sight(number, asc, dec, passed, next),
-        Line::Bare => Next::End,
-        Line::Unclear => Next::Unclear(passed),
-    }
-}
-
-// The next sight from an offset on, which is 0 or one that an earlier call answered.
-pub fn next_sight(text: &[u8], at: usize) -> Next
+// The next sight from an offset on, which is 0 or one that an earlier call answered; none where no line is left that says something.
+pub fn next_sight(text: &[u8], at: usize) -> Result<Option<Met<Sight>>, UnclearAt>
     ensures { shown_next text.now result ≡ next_of sight_rule 0 (lines (drop at text.now)) }
 {
-    match text_fields::next_said(text, at) {
-        Said::At(start, end, passed, next) => {
-            found_on(read_sight(&text[start..end]), passed, next)
-        }
-        Said::End => Next::End,
+    let Some(said) = text_fields::next_said(text, at) else {
+        return Ok(None);
+    };
+    match read_sight(&text[said.start..said.end]) {
+        Some(sight) => Ok(Some(Met {
+            what: sight,
+            passed: said.passed,
+            next: said.next,
+        })),
+        None => Err(UnclearAt(said.passed)),
     }
 }
 
@@ -133,21 +113,19 @@ fn store_sight(
     dec: &mut [u64],
     i: usize,
     at_line: usize,
-    number: u32,
-    a: Deg,
-    d: Deg,
+    sight: Sight,
 )
     requires i_in_bounds { i < length line.old }
     requires i_in_bounds_2 { i < length star.old }
     requires i_in_bounds_3 { i < length asc.old }
     requires i_in_bounds_4 { i < length dec.old }
-    ensures { EntryStored columns (entry_of (sight number a d) at_line) i line.old star.old asc.old dec.old
+    ensures { EntryStored columns (entry_of sight at_line) i line.old star.old asc.old dec.old
         line.new star.new asc.new dec.new }
 {
     line[i] = at_line as u64;
-    star[i] = number;
-    let x = angle::radians(a);
-    let y = angle::radians(d);
+    star[i] = sight.number;
+    let x = angle::radians(sight.asc);
+    let y = angle::radians(sight.dec);
     asc[i] = double::pattern(x.0);
     dec[i] = double::pattern(y.0);
 }
@@ -160,7 +138,7 @@ pub fn read_sights(
     star: &mut [u32],
     asc: &mut [u64],
     dec: &mut [u64],
-) -> Sights
+) -> Result<usize, Stopped>
     ensures { ReadSights
         (places_of (length line.old) (length star.old) (length asc.old) (length dec.old))
         text.now line.old star.old asc.old dec.old result
@@ -170,22 +148,23 @@ pub fn read_sights(
     let mut at = 0;
     let mut passed = 0;
     let mut n = 0;
+    // The text ends it, and `n` counts the sights that are stored.
     loop {
         match next_sight(text, at) {
-            Next::Sight(number, a, d, lines, next) => {
+            Ok(Some(met)) => {
                 if n >= places {
-                    return Sights::Full;
+                    return Err(Stopped::Full);
                 }
-                passed += lines;
-                store_sight(line, star, asc, dec, n, passed, number, a, d);
-                at = next;
+                passed += met.passed;
+                store_sight(line, star, asc, dec, n, passed, met.what);
+                at = met.next;
                 n += 1;
             }
-            Next::Unclear(lines) => {
-                return Sights::Unclear(passed + lines);
+            Ok(None) => {
+                return Ok(n);
             }
-            Next::End => {
-                return Sights::Are(n);
+            Err(UnclearAt(lines)) => {
+                return Err(Stopped::Unclear(passed + lines));
             }
         }
     }

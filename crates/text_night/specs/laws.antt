@@ -1,3 +1,2 @@
 -- What is proved of the text of a night's sights, for callers to cite. Theorems only.
-pub mod Next
 pub mod Wrong

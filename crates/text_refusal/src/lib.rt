@@ -8,66 +8,50 @@ ghost use Rattle.text_refusal.specs.rules.Refusal.{call_words, star_words, obser
 fn put_call_words(out: &mut [u8], at: usize, n: u8) -> usize
     ensures { Wrote out.old at (call_words n) out.new result }
 {
-    if n == 1 {
-        return lent::put(out, at, b": a figure did not arrive: enter it again");
-    }
-    if n == 2 {
-        return lent::put(
+    match n {
+        1 => lent::put(out, at, b": a figure did not arrive: enter it again"),
+        2 => lent::put(
             out,
             at,
             b": the day is outside the years 0 to 4000: check it",
-        );
+        ),
+        8 => lent::put(out, at, b": this is no list of stars, or a damaged one"),
+        _ => lent::within(at, out.len()),
     }
-    if n == 8 {
-        return lent::put(out, at, b": this is no list of stars, or a damaged one");
-    }
-    lent::within(at, out.len())
 }
 
 // What one of its stars can be refused by.
 pub fn put_star_words(out: &mut [u8], at: usize, n: u8) -> usize
     ensures { Wrote out.old at (star_words n) out.new result }
 {
-    if n == 3 {
-        return lent::put(out, at, b": carried past the pole: check its rates");
+    match n {
+        3 => lent::put(out, at, b": carried past the pole: check its rates"),
+        4 => lent::put(out, at, b": too close to the pole: choose another star"),
+        7 => lent::put(out, at, b": at the pole: choose another star"),
+        9 => lent::put(out, at, b": the record is damaged"),
+        10 => lent::put(out, at, b": an empty place"),
+        14 => lent::put(out, at, b": exactly at the pole: choose another star"),
+        _ => lent::within(at, out.len()),
     }
-    if n == 4 {
-        return lent::put(out, at, b": too close to the pole: choose another star");
-    }
-    if n == 7 {
-        return lent::put(out, at, b": at the pole: choose another star");
-    }
-    if n == 9 {
-        return lent::put(out, at, b": the record is damaged");
-    }
-    if n == 10 {
-        return lent::put(out, at, b": an empty place");
-    }
-    if n == 14 {
-        return lent::put(out, at, b": exactly at the pole: choose another star");
-    }
-    lent::within(at, out.len())
 }
 
 // What a plan's observer can be refused by.
 fn put_observer_words(out: &mut [u8], at: usize, n: u8) -> usize
     ensures { Wrote out.old at (observer_words n) out.new result }
 {
-    if n == 3 {
-        return lent::put(
+    match n {
+        3 => lent::put(
             out,
             at,
             b": LATITUDE or ALTITUDE is past 90 degrees, or an angle past 3666: check them",
-        );
-    }
-    if n == 4 {
-        return lent::put(
+        ),
+        4 => lent::put(
             out,
             at,
             b": LATITUDE is within 0.05 degrees of a pole: check it",
-        );
+        ),
+        _ => lent::within(at, out.len()),
     }
-    lent::within(at, out.len())
 }
 
 // The number, and the words that all calls share.

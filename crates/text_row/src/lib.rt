@@ -5,12 +5,12 @@
 ghost use Rattle.std.specs.Prelude.{◌-◌, ◌≡◌};
 ghost use Rattle.lent.specs.rules.Writing.{Wrote};
 ghost use Rattle.text_row.specs.rules.Place.{milliseconds, milliseconds_of, hours_text, hundredths, sign_of, arc_text, degrees_text};
-ghost use Rattle.quantity.specs.rules.Answer.{shown_three};
+ghost use Rattle.transit.specs.rules.Clock.{shown_plan};
 ghost use Rattle.text_row.specs.rules.Row.{column_text, place_text, row_of};
 ghost use Rattle.text_row.specs.rules.PlanRow.{times_row, why_row, outcome_row, plan_row};
 
 use helpers::angle;
-use quantity::{Deg, Rad, Three};
+use quantity::{Deg, Rad};
 
 // ---- a right ascension
 
@@ -81,7 +81,7 @@ fn put_degrees(out: &mut [u8], at: usize, x: Rad) -> usize
 fn left_of_ten(k: usize) -> usize
     ensures { result ≡ 10 - k }
 {
-    if k < 10 { 10 - k } else { 0 }
+    10usize.saturating_sub(k)
 }
 
 // A number at the right of a column of ten.
@@ -150,18 +150,24 @@ fn put_why_row(out: &mut [u8], at: usize, n: u8) -> usize
 }
 
 // What a plan's row says of a star.
-fn put_outcome_row(out: &mut [u8], at: usize, a: Three, again: f64) -> usize
-    ensures { Wrote out.old at (outcome_row (shown_three a) again) out.new result }
+fn put_outcome_row(out: &mut [u8], at: usize, a: Result<(f64, f64, f64), u8>, again: f64) -> usize
+    ensures { Wrote out.old at (outcome_row (shown_plan a) again) out.new result }
 {
     match a {
-        Three::Are(rise, culmination, set) => put_times_row(out, at, rise, culmination, set, again),
-        Three::Refused(n) => put_why_row(out, at, n),
+        Ok((rise, culmination, set)) => put_times_row(out, at, rise, culmination, set, again),
+        Err(n) => put_why_row(out, at, n),
     }
 }
 
 // A star's row in a plan, with the culmination after that of the plan.
-pub fn put_plan_row(out: &mut [u8], at: usize, number: u32, a: Three, again: f64) -> usize
-    ensures { Wrote out.old at (plan_row number (shown_three a) again) out.new result }
+pub fn put_plan_row(
+    out: &mut [u8],
+    at: usize,
+    number: u32,
+    a: Result<(f64, f64, f64), u8>,
+    again: f64,
+) -> usize
+    ensures { Wrote out.old at (plan_row number (shown_plan a) again) out.new result }
 {
     let b = put_column(out, at, number);
     let c = lent::put(out, b, b"  ");

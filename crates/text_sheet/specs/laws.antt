@@ -1,5 +1,4 @@
 -- What is proved of the sheet, for callers to cite. Theorems only.
 pub mod Sheet
 pub mod Room
-pub mod Answer
 pub mod Wrong

@@ -3,19 +3,14 @@
 #![tactic(auto)]
 
 ghost use Rattle.std.specs.Prelude.{◌≡◌, [], ◌∷◌, ◌≤◌, length};
+ghost use Rattle.quantity.specs.rules.Answer.{shown};
 ghost use Rattle.lent.specs.rules.Writing.{Wrote};
 ghost use Rattle.list.specs.rules.Stars.{stars, kept};
 ghost use Rattle.text_sheet.specs.rules.Sheet.{place_text, rates_text, line, lines, goods, heading, footing, sheet_of};
-ghost use Rattle.text_sheet.specs.rules.Render.{shown_sheet, bytes_of, render_rule, rendered};
+ghost use Rattle.text_sheet.specs.rules.Render.{bytes_of, render_rule, rendered};
 
 use list::Star;
-
-// How many bytes were written, or a refusal.
-#[derive(Clone, Copy)]
-pub enum Sheet {
-    Bytes(usize),
-    Refused(u8),
-}
+use quantity::Refusal;
 
 // Bytes of the longest sheet, at most: sixty-four a star, and sixty more.
 pub const ROOM: usize = 60 + 64 * list::MOST_STARS;
@@ -70,12 +65,9 @@ fn put_kept(out: &mut [u8], at: usize, rates: bool, star: Star) -> usize
 fn put_lines(out: &mut [u8], at: usize, rates: bool, bytes: &[u8]) -> usize
     ensures { Wrote out.old at (lines rates (kept (stars bytes.now))) out.new result }
 {
-    let n = list::count(bytes);
     let mut offset = lent::within(at, out.len());
-    let mut i: usize = 0;
-    while i < n {
+    for i in 0..list::count(bytes) {
         offset = put_kept(out, offset, rates, list::nth(bytes, i));
-        i += 1;
     }
     offset
 }
@@ -108,15 +100,12 @@ fn counts(bytes: &[u8]) -> Counted
     ensures all { result.all ≡ length (kept (stars bytes.now)) }
     ensures good { result.good ≡ goods (kept (stars bytes.now)) }
 {
-    let n = list::count(bytes);
     let mut all: usize = 0;
     let mut good: usize = 0;
-    let mut i: usize = 0;
-    while i < n {
+    for i in 0..list::count(bytes) {
         let star = list::nth(bytes, i);
         all += one_kept(star);
         good += one_good(star);
-        i += 1;
     }
     Counted { all, good }
 }
@@ -146,7 +135,7 @@ fn put_sheet(out: &mut [u8], rates: bool, bytes: &[u8]) -> usize
     ensures { Wrote out.old 0 (sheet_of rates bytes.now) out.new result }
 {
     if !list::is_list(bytes) {
-        return text_number::put_refused(out, 0, 8);
+        return text_number::put_refused(out, 0, Refusal::List.number());
     }
     let counted = counts(bytes);
     let all = counted.all;
@@ -156,15 +145,16 @@ fn put_sheet(out: &mut [u8], rates: bool, bytes: &[u8]) -> usize
     put_footing(out, b, good, all - good)
 }
 
-// The sheet of a list, with or without yearly changes, from the slice's start on; of bytes that are no list, the line that says so.
+// The sheet of a list, with or without yearly changes, from the slice's start on; of bytes that are no list, the line that says so: how
+// many bytes were written.
 // Refusals: 8 for a slice that is shorter than the longest sheet.
-pub fn render(bytes: &[u8], rates: bool, out: &mut [u8]) -> Sheet
-    ensures result_value { shown_sheet result ≡ render_rule rates bytes.now out.old }
+pub fn render(bytes: &[u8], rates: bool, out: &mut [u8]) -> Result<usize, Refusal>
+    ensures result_value { shown result ≡ render_rule rates bytes.now out.old }
     ensures text { out.new ≡ rendered rates bytes.now out.old }
     ensures within { bytes_of result ≤ length out.new }
 {
     if out.len() < ROOM {
-        return Sheet::Refused(8);
+        return Err(Refusal::List);
     }
-    Sheet::Bytes(put_sheet(out, rates, bytes))
+    Ok(put_sheet(out, rates, bytes))
 }

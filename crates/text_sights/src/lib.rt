@@ -18,30 +18,21 @@ use text_residuals::Place;
 pub fn number_at(s: &[u64], i: usize) -> u64
     ensures { result ≡ get_or s.now i 0 }
 {
-    if i < s.len() {
-        return s[i];
-    }
-    0
+    s.get(i).copied().unwrap_or(0)
 }
 
 // Status i of a slice likewise.
 pub fn status_at(s: &[u8], i: usize) -> u8
     ensures { result ≡ get_or s.now i 0 }
 {
-    if i < s.len() {
-        return s[i];
-    }
-    0
+    s.get(i).copied().unwrap_or(0)
 }
 
 // Star i of a slice likewise.
 pub fn star_at(s: &[u32], i: usize) -> u32
     ensures { result ≡ get_or s.now i 0 }
 {
-    if i < s.len() {
-        return s[i];
-    }
-    0
+    s.get(i).copied().unwrap_or(0)
 }
 
 // The residual of angle i of two slices of radians, each lent as its bits; past an end 0.0.
@@ -98,8 +89,7 @@ pub fn put_sights<'a>(
         dec.now measured_asc.now measured_dec.now)) out.new result }
 {
     let mut offset = 0;
-    let mut i: usize = 0;
-    while i < n {
+    for i in 0..n {
         offset = put_sight_at(
             out,
             offset,
@@ -112,7 +102,6 @@ pub fn put_sights<'a>(
             measured_dec,
             i,
         );
-        i += 1;
     }
     offset
 }
@@ -147,10 +136,8 @@ pub fn put_lefts<'a>(
     ensures { Wrote out.old at (texts n (left_at line.now star.now status.now)) out.new result }
 {
     let mut offset = lent::within(at, out.len());
-    let mut i: usize = 0;
-    while i < n {
+    for i in 0..n {
         offset = put_left_at(out, offset, line, star, status, i);
-        i += 1;
     }
     offset
 }

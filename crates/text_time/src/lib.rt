@@ -4,11 +4,9 @@
 
 ghost use Rattle.std.specs.Prelude.{◌≡◌};
 ghost use Rattle.lent.specs.rules.Writing.{Wrote};
-ghost use Rattle.quantity.specs.rules.Answer.{shown_three};
+ghost use Rattle.transit.specs.rules.Clock.{shown_plan};
 ghost use Rattle.text_time.specs.rules.Time.{seconds_of, two_digits, three_digits, clock_text, time_text};
 ghost use Rattle.text_time.specs.rules.Line.{time_then, again_text, times_text, why_text, outcome_text, plan_line};
-
-use quantity::Three;
 
 // ---- a time
 
@@ -95,28 +93,32 @@ fn put_times(out: &mut [u8], at: usize, rise: f64, culmination: f64, set: f64, a
 pub fn put_why(out: &mut [u8], at: usize, n: u8) -> usize
     ensures { Wrote out.old at (why_text n) out.new result }
 {
-    if n == 15 {
-        return lent::put(out, at, b"never rises\n");
+    match n {
+        15 => lent::put(out, at, b"never rises\n"),
+        16 => lent::put(out, at, b"never sets\n"),
+        _ => text_number::put_refused(out, at, n),
     }
-    if n == 16 {
-        return lent::put(out, at, b"never sets\n");
-    }
-    text_number::put_refused(out, at, n)
 }
 
 // What a star's line says of it.
-fn put_outcome(out: &mut [u8], at: usize, a: Three, again: f64) -> usize
-    ensures { Wrote out.old at (outcome_text (shown_three a) again) out.new result }
+fn put_outcome(out: &mut [u8], at: usize, a: Result<(f64, f64, f64), u8>, again: f64) -> usize
+    ensures { Wrote out.old at (outcome_text (shown_plan a) again) out.new result }
 {
     match a {
-        Three::Are(rise, culmination, set) => put_times(out, at, rise, culmination, set, again),
-        Three::Refused(n) => put_why(out, at, n),
+        Ok((rise, culmination, set)) => put_times(out, at, rise, culmination, set, again),
+        Err(n) => put_why(out, at, n),
     }
 }
 
 // A star's line, with the culmination after that of its plan.
-pub fn put_line(out: &mut [u8], at: usize, number: u32, a: Three, again: f64) -> usize
-    ensures { Wrote out.old at (plan_line number (shown_three a) again) out.new result }
+pub fn put_line(
+    out: &mut [u8],
+    at: usize,
+    number: u32,
+    a: Result<(f64, f64, f64), u8>,
+    again: f64,
+) -> usize
+    ensures { Wrote out.old at (plan_line number (shown_plan a) again) out.new result }
 {
     let b = text_number::put_decimal(out, at, number as u64);
     let c = lent::put_byte(out, b, b' ');

@@ -3,10 +3,11 @@
 #![tactic(auto)]
 
 ghost use Rattle.std.specs.Prelude.{◌≡◌};
-ghost use Rattle.text_whole.specs.rules.Unsigned.{unclear, start, with_digit, with_byte, scanned, unsigned_from, shown_unsigned, unsigned_rule};
-ghost use Rattle.text_whole.specs.rules.Signed.{signed_in, with_sign, shown_signed, signed_rule};
+ghost use Rattle.text_whole.specs.rules.Unsigned.{unclear, start, with_digit, with_byte, scanned, unsigned_from, shown, unsigned_rule};
+ghost use Rattle.text_whole.specs.rules.Signed.{signed_in, with_sign, signed_rule};
 
 // What was read so far: the digits as a whole number, whether there was one, and whether all was clear.
+// `clear` stays a flag: the rule goes from byte to byte by this very struct, and what is unclear goes on through it.
 #[derive(Clone, Copy)]
 pub struct Scan {
     pub whole: u32,
@@ -14,25 +15,8 @@ pub struct Scan {
     pub clear: bool,
 }
 
-// A number without a sign, or that the text is none.
-#[derive(Clone, Copy)]
-pub enum Unsigned {
-    Is(u32),
-    Unclear,
-}
-
-// A number with a sign, or that the text is none.
-#[derive(Clone, Copy)]
-pub enum Signed {
-    Is(i32),
-    Unclear,
-}
-
 // The number, at most: 2^32 - 1.
 const MOST: u64 = 4294967295;
-
-// How far below zero a signed number goes: 2^31.
-const LOWEST: u32 = 2147483648;
 
 // ---- without a sign
 
@@ -84,29 +68,27 @@ fn scan_of(text: &[u8]) -> Scan
         some: false,
         clear: true,
     };
-    let mut i = 0;
-    while i < text.len() {
-        scan = with_byte(scan, text[i]);
-        i += 1;
+    for b in text {
+        scan = with_byte(scan, *b);
     }
     scan
 }
 
-// The number that was read.
-fn unsigned_from(scan: Scan) -> Unsigned
-    ensures { shown_unsigned result ≡ unsigned_from scan }
+// The number that was read, where the text is one.
+fn unsigned_from(scan: Scan) -> Option<u32>
+    ensures { shown result ≡ unsigned_from scan }
 {
     if scan.clear {
         if scan.some {
-            return Unsigned::Is(scan.whole);
+            return Some(scan.whole);
         }
     }
-    Unsigned::Unclear
+    None
 }
 
-// The number that the text says.
-pub fn read_unsigned(text: &[u8]) -> Unsigned
-    ensures { shown_unsigned result ≡ unsigned_rule text.now }
+// The number that the text says, where it is one.
+pub fn read_unsigned(text: &[u8]) -> Option<u32>
+    ensures { shown result ≡ unsigned_rule text.now }
 {
     unsigned_from(scan_of(text))
 }
@@ -114,40 +96,29 @@ pub fn read_unsigned(text: &[u8]) -> Unsigned
 // ---- with a sign
 
 // n, or −n behind a minus sign, where it has 32 bits.
-fn signed_in(minus: bool, n: u32) -> Signed
-    ensures { shown_signed result ≡ signed_in minus n }
+fn signed_in(minus: bool, n: u32) -> Option<i32>
+    ensures { shown result ≡ signed_in minus n }
 {
-    if n == 0 {
-        return Signed::Is(0);
-    }
-    if n > LOWEST {
-        return Signed::Unclear;
-    }
+    let z = n as i64;
     if minus {
-        return Signed::Is(signed::signed_of(4294967295 - (n - 1)));
+        return i32::try_from(-z).ok();
     }
-    if n == LOWEST {
-        return Signed::Unclear;
-    }
-    Signed::Is(signed::signed_of(n))
+    i32::try_from(z).ok()
 }
 
 // The number behind a sign.
-fn with_sign(minus: bool, number: Unsigned) -> Signed
-    ensures { shown_signed result ≡ with_sign minus (shown_unsigned number) }
+fn with_sign(minus: bool, number: Option<u32>) -> Option<i32>
+    ensures { shown result ≡ with_sign minus (shown number) }
 {
-    match number {
-        Unsigned::Is(n) => signed_in(minus, n),
-        Unsigned::Unclear => Signed::Unclear,
-    }
+    signed_in(minus, number?)
 }
 
-// The number that the text says, with a sign in front or none.
-pub fn read_signed(text: &[u8]) -> Signed
-    ensures { shown_signed result ≡ signed_rule text.now }
+// The number that the text says, with a sign in front or none, where it is one.
+pub fn read_signed(text: &[u8]) -> Option<i32>
+    ensures { shown result ≡ signed_rule text.now }
 {
     if text.len() == 0 {
-        return Signed::Unclear;
+        return None;
     }
     if text[0] == b'-' {
         return with_sign(true, read_unsigned(&text[1..]));

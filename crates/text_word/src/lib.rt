@@ -8,16 +8,5 @@ ghost use Rattle.text_word.specs.rules.Word.{is_word};
 pub fn is_word(text: &[u8], word: &[u8]) -> bool
     ensures { result ≡ is_word text.now word.now }
 {
-    let n = word.len();
-    if text.len() != n {
-        return false;
-    }
-    let mut i = 0;
-    while i < n {
-        if text[i] != word[i] {
-            return false;
-        }
-        i += 1;
-    }
-    true
+    text == word
 }

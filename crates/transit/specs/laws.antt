@@ -2,4 +2,5 @@
 pub mod Limits
 pub mod Exactly
 pub mod Clock
+pub mod Plan
 pub mod Wrong

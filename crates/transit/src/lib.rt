@@ -4,15 +4,15 @@
 #![tactic(auto)]
 
 ghost use Rattle.std.specs.Prelude.{◌≡◌};
-ghost use Rattle.quantity.specs.rules.Answer.{shown_radians, shown_three};
+ghost use Rattle.quantity.specs.rules.Answer.{checked, shown, shown_three};
 ghost use Rattle.transit.specs.rules.Arc.{arc_cosine, arc_in};
 ghost use Rattle.transit.specs.rules.RiseCulmSet.{within_a_day, culmination_of, fractions, rise_culm_set_in};
 ghost use Rattle.transit.specs.rules.RiseCulmSet.{observer_refusal, rise_culm_set_refusal, rise_culm_set_rule};
-ghost use Rattle.transit.specs.rules.Clock.{clock_of, by_clock, again_in};
+ghost use Rattle.transit.specs.rules.Clock.{clock_of, by_clock, shown_plan, again_in};
 ghost use Rattle.transit.specs.rules.Observer.{plan_refusal, planned_of, site_in_degrees, observer_at, observer_in_degrees};
 
 use helpers::angle;
-use quantity::{Deg, EqPoint, GeographPoint, HALF, Rad, Radians, Three};
+use quantity::{Deg, EqPoint, GeographPoint, HALF, Rad, Refusal};
 
 // A full turn, 2·PI.
 const TURN: f64 = 6.283185307179586;
@@ -30,14 +30,14 @@ fn arc_cosine(dec: Rad, lat: Rad, alt: Rad) -> f64
 }
 
 // The arc from its cosine. Refusals: 15 above 1, where the star never rises; 16 below −1, where it never sets.
-fn arc_in(cosine: f64) -> Radians
-    ensures { shown_radians result ≡ arc_in cosine }
+fn arc_in(cosine: f64) -> Result<Rad, Refusal>
+    ensures { shown result ≡ arc_in cosine }
 {
     if 1.0 < cosine {
-        return Radians::Refused(15);
+        return Err(Refusal::NeverRises);
     }
     if cosine < -1.0 {
-        return Radians::Refused(16);
+        return Err(Refusal::NeverSets);
     }
     quantity::taken_from(Rad(HALF), elementary_arc::arcsine_in(cosine))
 }
@@ -59,30 +59,33 @@ fn culmination_of(asc: Rad, sidereal: Rad, long: Rad) -> f64
 }
 
 // Rise, culmination and set, from the culmination before folding and the arc.
-fn fractions(culmination: f64, arc: Rad) -> Three
+fn fractions(culmination: f64, arc: Rad) -> Result<(f64, f64, f64), Refusal>
     ensures { shown_three result ≡ fractions culmination arc }
 {
     let part = arc.0 / TURN;
-    Three::Are(
+    Ok((
         within_a_day(culmination - part),
         within_a_day(culmination),
         within_a_day(culmination + part),
-    )
+    ))
 }
 
 // Rise, culmination and set of arguments that are not refused.
-fn rise_culm_set_in(p: EqPoint, sidereal: Rad, site: GeographPoint, alt: Rad) -> Three
+fn rise_culm_set_in(
+    p: EqPoint,
+    sidereal: Rad,
+    site: GeographPoint,
+    alt: Rad,
+) -> Result<(f64, f64, f64), Refusal>
     ensures { shown_three result ≡ rise_culm_set_in p sidereal site alt }
 {
-    match arc_in(arc_cosine(Rad(p.dec), Rad(site.lat), alt)) {
-        Radians::Are(arc) => fractions(culmination_of(Rad(p.asc), sidereal, Rad(site.long)), arc),
-        Radians::Refused(n) => Three::Refused(n),
-    }
+    let arc = arc_in(arc_cosine(Rad(p.dec), Rad(site.lat), alt))?;
+    fractions(culmination_of(Rad(p.asc), sidereal, Rad(site.long)), arc)
 }
 
 // Refusals of what belongs to the observer and his night: 1; 3; 4.
-fn observer_refusal(sidereal: Rad, site: GeographPoint, alt: Rad) -> u8
-    ensures { result ≡ observer_refusal sidereal site alt }
+fn observer_refusal(sidereal: Rad, site: GeographPoint, alt: Rad) -> Result<(), Refusal>
+    ensures { checked result ≡ observer_refusal sidereal site alt }
 {
     quantity::lower(
         quantity::lower(
@@ -97,8 +100,13 @@ fn observer_refusal(sidereal: Rad, site: GeographPoint, alt: Rad) -> u8
 }
 
 // Refusals of all arguments: 1; 3; 4.
-fn rise_culm_set_refusal(p: EqPoint, sidereal: Rad, site: GeographPoint, alt: Rad) -> u8
-    ensures { result ≡ rise_culm_set_refusal p sidereal site alt }
+fn rise_culm_set_refusal(
+    p: EqPoint,
+    sidereal: Rad,
+    site: GeographPoint,
+    alt: Rad,
+) -> Result<(), Refusal>
+    ensures { checked result ≡ rise_culm_set_refusal p sidereal site alt }
 {
     quantity::lower(
         quantity::lower(
@@ -117,13 +125,10 @@ pub fn rise_culm_set(
     greenw_sidr: Rad,
     geograph_point: GeographPoint,
     alt: Rad,
-) -> Three
+) -> Result<(f64, f64, f64), Refusal>
     ensures { shown_three result ≡ rise_culm_set_rule eq_point greenw_sidr geograph_point alt }
 {
-    let refusal = rise_culm_set_refusal(eq_point, greenw_sidr, geograph_point, alt);
-    if refusal != 0 {
-        return Three::Refused(refusal);
-    }
+    rise_culm_set_refusal(eq_point, greenw_sidr, geograph_point, alt)?;
     rise_culm_set_in(eq_point, greenw_sidr, geograph_point, alt)
 }
 
@@ -143,25 +148,21 @@ fn clock_of(fraction: f64) -> f64
 }
 
 // Three times by the clock.
-fn by_clock(a: Three) -> Three
+fn by_clock(a: Result<(f64, f64, f64), Refusal>) -> Result<(f64, f64, f64), Refusal>
     ensures { shown_three result ≡ by_clock (shown_three a) }
 {
-    match a {
-        Three::Are(rise, culmination, set) => {
-            Three::Are(clock_of(rise), clock_of(culmination), clock_of(set))
-        }
-        Three::Refused(n) => Three::Refused(n),
-    }
+    let (rise, culmination, set) = a?;
+    Ok((clock_of(rise), clock_of(culmination), clock_of(set)))
 }
 
 // The clock's time of the culmination after that of a plan, a sidereal day later: below 1.0 where the star culminates twice on the day.
 // 1.0 where there is no plan.
-pub fn again(a: Three) -> f64
-    ensures { result ≡ again_in (shown_three a) }
+pub fn again(a: Result<(f64, f64, f64), u8>) -> f64
+    ensures { result ≡ again_in (shown_plan a) }
 {
     match a {
-        Three::Are(_, culmination, _) => culmination + SIDEREAL_DAY,
-        Three::Refused(_) => 1.0,
+        Ok((_, culmination, _)) => culmination + SIDEREAL_DAY,
+        Err(_) => 1.0,
     }
 }
 
@@ -176,8 +177,8 @@ pub struct Observer {
 }
 
 // Refusals of an observer, whatever the star: 1; 3; 4.
-pub fn plan_refusal(o: Observer) -> u8
-    ensures { result ≡ plan_refusal o }
+pub fn plan_refusal(o: Observer) -> Result<(), Refusal>
+    ensures { checked result ≡ plan_refusal o }
 {
     let sidereal = o.sidereal;
     let site = o.site;
@@ -186,12 +187,12 @@ pub fn plan_refusal(o: Observer) -> u8
 }
 
 // The rise, culmination and set by the clock of a star that was given a status and two angles. Refusals: the status; then those of
-// `rise_culm_set`.
-pub fn planned(status: u8, asc: Rad, dec: Rad, o: Observer) -> Three
-    ensures { shown_three result ≡ planned_of status asc dec o }
+// `rise_culm_set`. They are numbers here, since a status is any byte that a caller's memory holds.
+pub fn planned(status: u8, asc: Rad, dec: Rad, o: Observer) -> Result<(f64, f64, f64), u8>
+    ensures { shown_plan result ≡ planned_of status asc dec o }
 {
     if status != 0 {
-        return Three::Refused(status);
+        return Err(status);
     }
     let sidereal = o.sidereal;
     let site = o.site;
@@ -200,7 +201,7 @@ pub fn planned(status: u8, asc: Rad, dec: Rad, o: Observer) -> Three
         asc: asc.0,
         dec: dec.0,
     };
-    by_clock(rise_culm_set(point, sidereal, site, alt))
+    by_clock(rise_culm_set(point, sidereal, site, alt)).map_err(|refusal| refusal.number())
 }
 
 // A site from its longitude, west positive, and latitude in degrees.

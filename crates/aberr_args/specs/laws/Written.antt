@@ -1,6 +1,6 @@
 -- A row as the crate writes it has the bits of its terms multiplied and added as the table has them, for every double.
-use Rattle.std.specs.Prelude.{ℕ, ◌≡◌, refl, Bool, true, false, cond, T, eqb, pos, negsuc, Float}
-use Rattle.std.proofs.Common.{one-mul, sym, ap, ◌∙◌, eqb→eq}
+use Rattle.std.specs.Prelude.{◌≡◌, refl, Bool, true, false, cond, T, eqb, pos, negsuc, Float}
+use Rattle.std.proofs.Common.{one-mul, ap, ◌∙◌, eqb→eq}
 use Rattle.std.specs.Float.{nan, inf, fin, binary64}
 use Rattle.std.specs.Float.Ieee.{neg, mul, eq, of_bits, fits}
 use Rattle.std.specs.Float.Ieee.Fits.{and_l, and_r}

@@ -1,6 +1,6 @@
 -- `aberr_table::sum_over` meets its contract. The invariant: the sums over the rows that are left, from the sums so far, are those over
 -- all rows.
-use mathlib.Core.Path.{◌≡◌, refl, ◌∙◌}
+use mathlib.Core.Path.{◌≡◌, ◌∙◌}
 use mathlib.Core.List.{List}
 use Prim.Native.Nat.{ℕ, ◌+◌, ◌<◌}
 use native.Mathlib.Omega.{arith}
@@ -21,24 +21,15 @@ next : (xs : List Row) (i : ℕ) (d : Row) (g : Arguments) (v : Velocity) → i 
 unfolding walked
 next xs i d g v h k = rw (drop-cons (take 36 xs) i d k, get_or-take 36 xs i d h, add-one)
 
-pub loop-i-init : goal.loop-i-init
-loop-i-init c = (omega arith, refl, c.well_formed.0.1.0.1, c.requires)
-
 pub offset_bounds-table-n : goal.offset_bounds-table-n
 offset_bounds-table-n c =
     let loop = c.loop-i in
-    named_fits c.args.table loop.i _ loop.invariant.3 (omega (arith, loop.invariant.2))
+    named_fits c.args.table loop.i _ loop.invariant.2 (omega (arith, loop.invariant.1))
 
 pub bounds-table-n : goal.bounds-table-n
 bounds-table-n c =
     let loop = c.loop-i in
-    named_at 39 c.args.table loop.i _ loop.invariant.3 (omega (arith, loop.invariant.2))
-
-pub overflow_add-i : goal.overflow_add-i
-overflow_add-i c = omega arith
-
-pub loop-i-smaller : goal.loop-i-smaller
-loop-i-smaller c = omega arith
+    named_at 39 c.args.table loop.i _ loop.invariant.2 (omega (arith, loop.invariant.1))
 
 pub loop-i-preserved : goal.loop-i-preserved
 unfolding with_row
@@ -46,13 +37,13 @@ loop-i-preserved c =
     let loop = c.loop-i in
     let inv = loop.invariant in
     let a = c.args in
-    let inside : loop.i < length (take 36 a.table) = omega (arith, length-take-le 36 a.table (omega (arith, inv.2))) in
-    (omega arith, rw (c.with_terms-v.ensures, c.sin_cos_in-a.ensures) (next a.table loop.i _ _ _ (omega arith) inside ∙ inv.1), inv.2, inv.3)
+    let inside : loop.i < length (take 36 a.table) = omega (arith, length-take-le 36 a.table (omega (arith, inv.1))) in
+    (rw (c.with_terms-v.ensures, c.sin_cos_in-a.ensures) (next a.table loop.i _ _ _ (omega arith) inside ∙ inv.0), inv.1, inv.2)
 
 pub returns : goal.returns
 unfolding walked
 returns c =
     let loop = c.loop-i in
     let table = c.args.table in
-    let e : loop.i ≡ length (take 36 table) = omega (arith, loop.invariant.0, length-take-le 36 table (omega (arith, loop.invariant.2))) in
-    rw (e, drop-length) at loop.invariant.1
+    let e : loop.i ≡ length (take 36 table) = omega (arith, length-take-le 36 table (omega (arith, loop.invariant.1))) in
+    rw (e, drop-length) at loop.invariant.0

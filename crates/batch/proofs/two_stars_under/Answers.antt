@@ -1,4 +1,5 @@
 -- `batch::two_stars_under` meets its contract.
+use Rattle.quantity.specs.laws.Answer.{named_checked}
 use Rattle.star_store.specs.rules.Star.{star_refusal}
 use Rattle.batch.specs.rules.Star.{two_stars_under}
 use Rattle.batch.proofs.two_stars_under.Goals as goal
@@ -7,7 +8,9 @@ pub returns : goal.returns
 unfolding two_stars_under star_refusal
 returns c =
     rw (
+      ← named_checked c.earlier-2.result,
       c.earlier-2.ensures,
+      ← named_checked c.earlier.result,
       c.earlier.ensures,
       c.two_places_under-p.ensures,
       c.asc_of-2.ensures,

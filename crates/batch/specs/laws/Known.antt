@@ -1,13 +1,16 @@
 -- Every star's status is one that the tally knows.
 use Rattle.std.specs.Prelude.{ℕ, ◌≤◌, Float}
-use Rattle.std.proofs.Common.{arith}
+use Rattle.std.proofs.Common.{arith, sym, subst}
 use Rattle.quantity.specs.declared.Rad.{Rad}
 use Rattle.quantity.specs.declared.EqPoint.{EqPoint}
-use Rattle.quantity.specs.rules.Answer.{Pair, status_of}
+use Rattle.quantity.specs.rules.Answer.{Pair, checked, status_of}
 use Rattle.edition.specs.declared.Edition.{Edition}
 use Rattle.precess_angles.specs.declared.EqPrecession.{EqPrecession}
 use Rattle.precess.specs.rules.Equatorial.{precessed_from, precessed_in}
+use Rattle.nutation_table.specs.rules.Day.{nutation_of}
 use Rattle.chain.specs.declared.Night.{Night}
+use Rattle.chain.specs.rules.Obliquity.{mean_obliquity_of, true_obliquity}
+use Rattle.chain.specs.laws.Point.{angles_named}
 use Rattle.chain.specs.rules.Night.{night_from, night_of, moved, moved_under, point_under, place_under}
 use Rattle.list_tally.specs.rules.Status.{highest_status}
 use Rattle.list.specs.declared.Star.{Star}
@@ -20,11 +23,14 @@ known_precessed : (asc dec : Rad) (precession : EqPrecession) → status_of (pre
 unfolding precessed_in precessed_from
 known_precessed asc dec precession = known_both _ _ (known_plus _ _ (known_arctangent _ _)) (known_arcsine _)
 
-known_night : (edition : Edition) (day1 day2 : Float) → (night_of edition day1 day2).refusal ≤ highest_status
+known_night : (edition : Edition) (day1 day2 : Float) → checked (night_of edition day1 day2).check ≤ highest_status
 unfolding night_of night_from
-known_night edition day1 day2 = known_lower _ _ (known_angle _) (known_lower _ _ (known_angle _) (known_angle _))
+known_night edition day1 day2 =
+    let n = nutation_of day2 in
+    let oblq = true_obliquity (mean_obliquity_of day2) n.oblq in
+    subst (λ (k : ℕ). k ≤ highest_status) (sym (angles_named n oblq)) (known_lower _ _ (known_angle _) (known_lower _ _ (known_angle _) (known_angle _)))
 
-module _ (night : Night) (h : night.refusal ≤ highest_status) where
+module _ (night : Night) (h : checked night.check ≤ highest_status) where
   known_at : (p : EqPoint) → status_of (point_under p night) ≤ highest_status
   unfolding point_under moved_under moved
   known_at p = known_unless _ _ (known_lower _ _ (known_lower _ _ (known_angle _) (known_steep _)) h) (omega arith)

@@ -4,7 +4,7 @@ use Rattle.std.specs.Prelude.{ℕ, ◌≤◌, ◌≡◌, Bool, List, T, eqb, pos
 use Rattle.std.proofs.Math.Path.{refl, sym, ap}
 use Rattle.std.proofs.Common.{◌∙◌, eqb→eq}
 use Rattle.std.proofs.Math.Bool.{true, false, cond}
-use Rattle.quantity.specs.rules.Answer.{Answer, refused, Pair, pair, unless, status_of, first_place, second_place}
+use Rattle.quantity.specs.rules.Answer.{answered, refused, checked, pair, unless, status_of, first_place, second_place}
 use Rattle.edition.specs.declared.Edition.{Edition}
 use Rattle.precess_angles.specs.rules.Days.{days_refusal, place_refusal}
 use Rattle.chain.specs.declared.Night.{Night}
@@ -21,7 +21,8 @@ use Rattle.star_place.specs.rules.Place.{years_between, record_asc, record_dec, 
 use Rattle.star_place.specs.laws.ZeroRates.{asc_stays, dec_stays}
 use Rattle.star_store.specs.rules.Star.{star_refusal}
 use Rattle.star_store.specs.rules.Stored.{answers_by}
-use Rattle.star_store.specs.laws.Star.{in_its_lane, out_of_range, years_near, place_accepted, still_not_refused}
+use Rattle.quantity.specs.laws.Answer.{named_of_check}
+use Rattle.star_store.specs.laws.Star.{earlier_named, star_named, in_its_lane, out_of_range, years_near, place_accepted, still_not_refused}
 use Rattle.batch.specs.rules.Batch.{answers_of}
 use Rattle.batch.specs.rules.Star.{star_rule, star_under, two_stars_under}
 use Rattle.batch.specs.notions.Under.{under}
@@ -35,14 +36,16 @@ module _ (a b : Star) (night : Night) (years : Float) where
   unfolding two_stars_under star_under
   first_star =
       let p = two_places_under (asc_of a years) (dec_of a years) (asc_of b years) (dec_of b years) night in
-      in_its_lane a years p.first_refusal (pair p.first_asc p.first_dec) _
+      ap (λ (n : ℕ). unless n (answered (pair p.first_asc p.first_dec))) (earlier_named (star_refusal a years) p.first_check (star_named a years) (named_of_check p.first_check))
+      ∙ in_its_lane a years (checked p.first_check) (pair p.first_asc p.first_dec) _
       (first_under (asc_of a years) (dec_of a years) (asc_of b years) (dec_of b years) night)
 
   pub second_star : second_place (two_stars_under a b night years) ≡ star_under b night years
   unfolding two_stars_under star_under
   second_star =
       let p = two_places_under (asc_of a years) (dec_of a years) (asc_of b years) (dec_of b years) night in
-      in_its_lane b years p.second_refusal (pair p.second_asc p.second_dec) _
+      ap (λ (n : ℕ). unless n (answered (pair p.second_asc p.second_dec))) (earlier_named (star_refusal b years) p.second_check (star_named b years) (named_of_check p.second_check))
+      ∙ in_its_lane b years (checked p.second_check) (pair p.second_asc p.second_dec) _
       (second_under (asc_of a years) (dec_of a years) (asc_of b years) (dec_of b years) night)
 
 -- so a star has one place, whatever star it stands beside and on whichever side

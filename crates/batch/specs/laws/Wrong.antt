@@ -1,6 +1,6 @@
 -- Wrong variants are excluded: each differs from the rule at the input stated. A rule varies: a library that refuses everything, or
 -- answers a constant, does not meet it.
-use Rattle.std.specs.Prelude.{◌≡◌, refl, [], ◌∷◌, pos, negsuc, Float, ◌≢◌}
+use Rattle.std.specs.Prelude.{◌≡◌, refl, [], ◌∷◌, pos, negsuc, Float, ◌≢◌, Ok}
 use Rattle.std.proofs.Common.{sym, ◌∙◌}
 use Rattle.double.specs.rules.Operations.{zero, one}
 use Rattle.double.specs.laws.Apart.{apart}
@@ -45,7 +45,7 @@ quarter_turn =
       sin_oblq = zero;
       cos_oblq = one;
       velocity = (still 0).velocity;
-      refusal = 0;
+      check = Ok tt;
     }
 
 pub star_under_varies : Varies (star_under north (still 0) zero) (star_under origin (still 0) zero)

@@ -1,9 +1,10 @@
 -- The batch: every star of a list answered by the chain, and stored as star_store says.
-use Rattle.std.specs.Prelude.{ℕ, List, Float}
+use Rattle.std.specs.Prelude.{ℕ, List, Float, Result}
 use Rattle.quantity.specs.rules.Answer.{Answer, Pair}
+use Rattle.quantity.specs.declared.Refusal.{Refusal}
+use Rattle.list_tally.specs.declared.Tally.{Tally}
 use Rattle.edition.specs.declared.Edition.{Edition}
 use Rattle.list.specs.declared.Star.{Star}
-use Rattle.star_store.specs.declared.Tallied.{Tallied}
 use Rattle.star_store.specs.rules.Stored.{answers_by, statuses_by, StarsStored}
 use Rattle.batch.specs.rules.Star.{star_rule}
 
@@ -19,5 +20,5 @@ abbrev pub statuses_of : Edition → List ℕ → Float → Float → List ℕ
 statuses_of edition s day1 day2 = statuses_by (stars_on edition day1 day2) s
 
 -- what a call leaves
-abbrev pub Batch : Edition → List ℕ → Float → Float → List ℕ → List ℕ → List ℕ → Tallied → List ℕ → List ℕ → List ℕ → Type 0
+abbrev pub Batch : Edition → List ℕ → Float → Float → List ℕ → List ℕ → List ℕ → Result Tally Refusal → List ℕ → List ℕ → List ℕ → Type 0
 Batch edition s day1 day2 = StarsStored (stars_on edition day1 day2) s day1 day2

@@ -1,7 +1,7 @@
 -- One star of a list: what the chain answers at its shifted place.
 use Rattle.std.specs.Prelude.{Float}
 use Rattle.quantity.specs.declared.Places.{Places}
-use Rattle.quantity.specs.rules.Answer.{Answer, Pair, unless}
+use Rattle.quantity.specs.rules.Answer.{Answer, Pair, checked, named, unless}
 use Rattle.edition.specs.declared.Edition.{Edition}
 use Rattle.chain.specs.declared.Night.{Night}
 use Rattle.chain.specs.rules.Chain.{chain_rule}
@@ -31,6 +31,6 @@ two_stars_under a b night years =
       second_asc = p.second_asc;
       first_dec = p.first_dec;
       second_dec = p.second_dec;
-      first_refusal = earlier (star_refusal a years) p.first_refusal;
-      second_refusal = earlier (star_refusal b years) p.second_refusal;
+      first_check = named (earlier (star_refusal a years) (checked p.first_check));
+      second_check = named (earlier (star_refusal b years) (checked p.second_check));
     }

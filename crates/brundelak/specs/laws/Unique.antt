@@ -1,5 +1,5 @@
 -- A promise at the boundary fixes the status and all that is left where memory is lent: two results that meet it are the same.
-use Rattle.std.specs.Prelude.{ℕ, ◌≡◌, List, cond, eqb, ℤ, Float}
+use Rattle.std.specs.Prelude.{ℕ, ◌≡◌, List, cond, eqb, ℤ, Float, Result}
 use Rattle.std.proofs.Common.{sym, ap, ◌∙◌}
 use Rattle.quantity.specs.rules.Answer.{Answer, Pair}
 use Rattle.list.specs.rules.Find.{Entry}
@@ -8,7 +8,9 @@ use Rattle.list.specs.declared.Star.{Star}
 use Rattle.list_groups.specs.rules.Reading.{AtOffset}
 use Rattle.residual_sheet.specs.rules.Residuals.{TwoSheets}
 use Rattle.heading_mean.specs.rules.Mean.{MeanAndSheet}
-use Rattle.star_store.specs.declared.Tallied.{Tallied}
+use Rattle.quantity.specs.declared.Refusal.{Refusal}
+use Rattle.list_tally.specs.declared.Tally.{Tally}
+use Rattle.star_store.specs.rules.Stored.{shown_tallied}
 use Rattle.star_store.specs.laws.Stored.{stored_fixes_all}
 use Rattle.brundelak.specs.rules.Stored.{HandedFound, HandedStar, HandedStored, HandedRaise}
 use Rattle.brundelak.specs.rules.Put.{HandedNumber, HandedPut}
@@ -39,7 +41,7 @@ one_handed_stored rule {counts = counts} t u =
     let f = stored_fixes_all t.stored u.stored in
     let h = t.handed in
     let k = u.handed in
-    (h.answers ∙ ap (λ (b : Tallied). b.refusal) f.0 ∙ sym k.answers, (h.leaves_counts ∙ ap (λ (b : Tallied). cond (eqb b.refusal 0) b.tally.counts counts) f.0 ∙ sym k.leaves_counts, f.1))
+    (h.answers ∙ ap (λ (b : Result Tally Refusal). (shown_tallied b).refusal) f.0 ∙ sym k.answers, (h.leaves_counts ∙ ap (λ (b : Result Tally Refusal). cond (eqb (shown_tallied b).refusal 0) (shown_tallied b).tally.counts counts) f.0 ∙ sym k.leaves_counts, f.1))
 
 -- ---- a number, and a text put
 

@@ -31,7 +31,7 @@ use Rattle.list_edit.specs.notions.Computed as edits
 use Rattle.residual_sheet.specs.declared.Sheet.{Sheet}
 use Rattle.residual_sheet.specs.rules.Residuals.{residuals_rule, residuals_refusal, lengths_refusal, two}
 use Rattle.heading_mean.specs.rules.Mean.{number_refusal, headings_refusal, mean_heading_rule, mean}
-use Rattle.star_store.specs.declared.Tallied.{Tallied}
+use Rattle.star_store.specs.rules.Stored.{Tallied}
 use Rattle.list.specs.rules.Stars.{is_list, count_of, stars}
 use Rattle.star_store.specs.rules.Stored.{store_refusal}
 use Rattle.brundelak.specs.rules.Stored.{fields, HandedFound, HandedStored, HandedRaise}

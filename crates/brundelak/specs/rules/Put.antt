@@ -1,13 +1,12 @@
 -- What a C caller sees of one number answered, and of a text put into a slice that is lent.
 use Rattle.std.specs.Prelude.{ℕ, ◌+◌, ◌≡◌, List, length}
-use Rattle.quantity.specs.rules.Answer.{Answer, with, status_of}
+use Rattle.quantity.specs.rules.Answer.{Answer, with}
 use Rattle.lent.specs.rules.Put.{room_for, laid}
-use Rattle.brundelak_handed.specs.rules.Boundary.{kept}
+use Rattle.brundelak_handed.specs.rules.Boundary.{HandedValue}
 
 -- one number: how many stars a whole list has, the offset after a text
-pub record HandedNumber (a : Answer ℕ) (n : ℕ) (old new : ℕ) : Type 0 where
-  pub answers : n ≡ status_of a
-  pub leaves : new ≡ kept (λ (x : ℕ). x) a old
+abbrev pub HandedNumber : Answer ℕ → ℕ → ℕ → ℕ → Type 0
+HandedNumber a n old new = HandedValue a n old new
 
 -- a text put into the slice from an offset on: the offset after it, and the slice
 pub record HandedPut (text : Answer (List ℕ)) (slice : List ℕ) (at : ℕ) (n : ℕ) (next : ℕ) (slice' : List ℕ) (next' : ℕ) : Type 0 where

@@ -1,13 +1,14 @@
 -- What a C caller sees of the stored list: a star found, a star shown, the batch and the rotation, and a status counted.
-use Rattle.std.specs.Prelude.{ℕ, ◌≡◌, List, cond, eqb, ℤ, Float}
-use Rattle.quantity.specs.rules.Answer.{Answer, answered, refused, Pair, status_of}
+use Rattle.std.specs.Prelude.{ℕ, ◌≡◌, List, cond, eqb, ℤ, Float, Result}
+use Rattle.quantity.specs.rules.Answer.{Answer, answered, refused, checked, Pair, status_of}
+use Rattle.quantity.specs.declared.Refusal.{Refusal}
+use Rattle.list_tally.specs.declared.Tally.{Tally}
 use Rattle.edition.specs.declared.Edition.{Edition}
 use Rattle.list.specs.declared.Star.{Star}
 use Rattle.list.specs.rules.Find.{Entry}
 use Rattle.list.specs.rules.Reader.{Item, item, none}
 use Rattle.list_tally.specs.rules.Tally.{raise_rule}
-use Rattle.star_store.specs.declared.Tallied.{Tallied}
-use Rattle.star_store.specs.rules.Stored.{StarsStored}
+use Rattle.star_store.specs.rules.Stored.{Tallied, shown_tallied, StarsStored}
 use Rattle.batch.specs.rules.Batch.{stars_on}
 use Rattle.rotation_list.specs.rules.Rotate.{rotated_on}
 use Rattle.brundelak_handed.specs.rules.Boundary.{kept}
@@ -52,9 +53,9 @@ pub record HandedTally (tallied : Tallied) (n : ℕ) (counts counts' : List ℕ)
 -- a call that stores its stars by a rule: what it leaves in the three slices, and its tally
 pub record HandedStored (rule : Star → Answer Pair) (s : List ℕ) (day1 day2 : Float) (status asc dec counts : List ℕ) (n : ℕ)
     (status' asc' dec' counts' : List ℕ) : Type 0 where
-  pub tallied : Tallied
+  pub tallied : Result Tally Refusal
   pub stored : StarsStored rule s day1 day2 status asc dec tallied status' asc' dec'
-  pub handed : HandedTally tallied n counts counts'
+  pub handed : HandedTally (shown_tallied tallied) n counts counts'
 
 -- the batch
 abbrev pub HandedBatch : Edition → List ℕ → Float → Float → List ℕ → List ℕ → List ℕ → List ℕ → ℕ → List ℕ → List ℕ → List ℕ → List ℕ → Type 0
@@ -66,5 +67,5 @@ HandedRotated edition s day1 day2 = HandedStored (rotated_on edition day1 day2) 
 
 -- a status counted: the refusal, and the 20 counts, which stay where it is refused
 pub record HandedRaise (status : ℕ) (counts : List ℕ) (n : ℕ) (counts' : List ℕ) : Type 0 where
-  pub answers : n ≡ (raise_rule (record { counts = counts }) status).refusal
+  pub answers : n ≡ checked (raise_rule (record { counts = counts }) status).check
   pub leaves_counts : counts' ≡ (raise_rule (record { counts = counts }) status).tally.counts

@@ -1,11 +1,12 @@
 -- `brundelak_handed::arcminutes_number` meets its contract.
+use Rattle.std.proofs.Common.{rules}
 use Rattle.brundelak_handed.specs.rules.Boundary.{number_of_arcminutes}
 use Rattle.brundelak_handed.proofs.arcminutes_number.Goals as goal
 
-pub returns-in-Are : goal.returns-in-Are
+pub returns-in_err-x : goal.returns-in_err-x
 unfolding number_of_arcminutes
-returns-in-Are c = rw c.in-Are.is
+returns-in_err-x c = search rules
 
-pub returns-in-Refused : goal.returns-in-Refused
+pub returns : goal.returns
 unfolding number_of_arcminutes
-returns-in-Refused c = rw c.in-Refused.is
+returns c = search rules

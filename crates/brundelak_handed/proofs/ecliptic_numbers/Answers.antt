@@ -1,11 +1,12 @@
 -- `brundelak_handed::ecliptic_numbers` meets its contract.
+use Rattle.std.proofs.Common.{rules}
 use Rattle.brundelak_handed.specs.rules.Boundary.{numbers_of_ecliptic}
 use Rattle.brundelak_handed.proofs.ecliptic_numbers.Goals as goal
 
-pub returns-in-Is : goal.returns-in-Is
+pub returns-in_err-p : goal.returns-in_err-p
 unfolding numbers_of_ecliptic
-returns-in-Is c = rw c.in-Is.is
+returns-in_err-p c = search rules
 
-pub returns-in-Refused : goal.returns-in-Refused
+pub returns : goal.returns
 unfolding numbers_of_ecliptic
-returns-in-Refused c = rw c.in-Refused.is
+returns c = search rules

@@ -1,28 +1,23 @@
 -- How a function's own promise reaches the C caller.
-use Rattle.std.specs.Prelude.{ℕ, ◌≡◌, refl, Float}
+use Rattle.std.specs.Prelude.{ℕ, ◌≡◌, refl, Float, Result, Ok, Err}
 use Rattle.std.proofs.Common.{ap, subst, ◌∙◌}
 use Rattle.double.specs.rules.Pattern.{pattern_of}
 use Rattle.quantity.specs.declared.Deg.{Deg}
 use Rattle.quantity.specs.declared.Rad.{Rad}
 use Rattle.quantity.specs.declared.EqPoint.{EqPoint}
 use Rattle.quantity.specs.declared.EclPoint.{EclPoint}
-use Rattle.quantity.specs.declared.One.{One}
-use Rattle.quantity.specs.declared.One.TheVariants.{Is, Refused}
-use Rattle.quantity.specs.declared.Two.{Two}
-use Rattle.quantity.specs.declared.Two.TheVariants as two
-use Rattle.quantity.specs.declared.Three.{Three}
-use Rattle.quantity.specs.declared.Three.TheVariants as three
-use Rattle.quantity.specs.rules.Answer.{Answer, answered, refused, Pair, Triple, with, status_of, shown, shown_two, shown_three}
+use Rattle.quantity.specs.declared.Refusal.{Refusal}
+use Rattle.quantity.specs.rules.Answer.{Answer, answered, refused, Pair, Triple, with, status_of, number, shown, shown_two, shown_three}
 use Rattle.atmos.specs.declared.Arcmin.{Arcmin}
 use Rattle.brundelak_handed.specs.rules.Boundary.{kept, Handed, HandedBits, HandedTwo, HandedThree, number_of_degrees, number_of_radians}
 use Rattle.brundelak_handed.specs.rules.Boundary.{number_of_arcminutes, numbers_of_point, numbers_of_ecliptic}
 
 -- ---- one float
 
-pub handed_answer : {r : One} {x : Float} {b old : ℕ} → r ≡ Is x → b ≡ pattern_of x → Handed (shown r) 0 old b
+pub handed_answer : {r : Result Float Refusal} {x : Float} {b old : ℕ} → r ≡ Ok x → b ≡ pattern_of x → Handed (shown r) 0 old b
 handed_answer e p = rw e (record { answers = refl; leaves = p })
 
-pub handed_refusal : {r : One} {n : ℕ} {old : ℕ} → r ≡ Refused n → Handed (shown r) n old old
+pub handed_refusal : {r : Result Float Refusal} {n : Refusal} {old : ℕ} → r ≡ Err n → Handed (shown r) (number n) old old
 handed_refusal e = rw e (record { answers = refl; leaves = refl })
 
 pub handed : {n : ℕ} {old new : ℕ} {a b : Answer Float} → a ≡ b → Handed a n old new → Handed b n old new
@@ -49,11 +44,11 @@ handed_arcminutes p t = handed (ap number_of_arcminutes p) t
 
 -- ---- two
 
-pub handed_two_answers : {r : Two} {x y : Float} {b c old1 old2 : ℕ} → r ≡ two.Are x y → b ≡ pattern_of x → c ≡ pattern_of y
+pub handed_two_answers : {r : Result (Float × Float) Refusal} {x y : Float} {b c old1 old2 : ℕ} → r ≡ Ok (x, y) → b ≡ pattern_of x → c ≡ pattern_of y
     → HandedTwo (shown_two r) 0 old1 old2 b c
 handed_two_answers e p q = rw e (record { answers = refl; leaves1 = p; leaves2 = q })
 
-pub handed_two_refusal : {r : Two} {n : ℕ} {old1 old2 : ℕ} → r ≡ two.Refused n → HandedTwo (shown_two r) n old1 old2 old1 old2
+pub handed_two_refusal : {r : Result (Float × Float) Refusal} {n : Refusal} {old1 old2 : ℕ} → r ≡ Err n → HandedTwo (shown_two r) (number n) old1 old2 old1 old2
 handed_two_refusal e = rw e (record { answers = refl; leaves1 = refl; leaves2 = refl })
 
 pub handed_two : {n : ℕ} {old1 old2 new1 new2 : ℕ} {a b : Answer Pair} → a ≡ b → HandedTwo a n old1 old2 new1 new2
@@ -73,12 +68,12 @@ handed_ecliptic p t = handed_two (ap numbers_of_ecliptic p) t
 
 -- ---- three
 
-pub handed_three_answers : {r : Three} {x y z : Float} {b c d old1 old2 old3 : ℕ} → r ≡ three.Are x y z
+pub handed_three_answers : {r : Result (Float × Float × Float) Refusal} {x y z : Float} {b c d old1 old2 old3 : ℕ} → r ≡ Ok (x, y, z)
     → b ≡ pattern_of x → c ≡ pattern_of y → d ≡ pattern_of z → HandedThree (shown_three r) 0 old1 old2 old3 b c d
 handed_three_answers e p q t = rw e (record { answers = refl; leaves1 = p; leaves2 = q; leaves3 = t })
 
-pub handed_three_refusal : {r : Three} {n : ℕ} {old1 old2 old3 : ℕ} → r ≡ three.Refused n
-    → HandedThree (shown_three r) n old1 old2 old3 old1 old2 old3
+pub handed_three_refusal : {r : Result (Float × Float × Float) Refusal} {n : Refusal} {old1 old2 old3 : ℕ} → r ≡ Err n
+    → HandedThree (shown_three r) (number n) old1 old2 old3 old1 old2 old3
 handed_three_refusal e = rw e (record { answers = refl; leaves1 = refl; leaves2 = refl; leaves3 = refl })
 
 pub handed_three : {n : ℕ} {old1 old2 old3 new1 new2 new3 : ℕ} {a b : Answer Triple} → a ≡ b

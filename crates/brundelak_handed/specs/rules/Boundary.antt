@@ -18,10 +18,14 @@ pub record Handed (a : Answer Float) (n : ℕ) (old new : ℕ) : Type 0 where
   pub answers : n ≡ status_of a
   pub leaves : new ≡ kept pattern_of a old
 
--- of one whose bits are answered
-pub record HandedBits (a : Answer ℕ) (n : ℕ) (old new : ℕ) : Type 0 where
+-- of one value that is handed out as it is
+pub record HandedValue {A : Type 0} (a : Answer A) (n : ℕ) (old new : A) : Type 0 where
   pub answers : n ≡ status_of a
-  pub leaves : new ≡ kept (λ (b : ℕ). b) a old
+  pub leaves : new ≡ kept (λ (x : A). x) a old
+
+-- of one whose bits are answered
+abbrev pub HandedBits : Answer ℕ → ℕ → ℕ → ℕ → Type 0
+HandedBits a n old new = HandedValue a n old new
 
 -- of two
 pub record HandedTwo (a : Answer Pair) (n : ℕ) (old1 old2 new1 new2 : ℕ) : Type 0 where

@@ -1,8 +1,8 @@
 -- The day number of a date: the days counted, so that it is the Julian day at noon. The Julian day at 0h is a half less.
-use Rattle.std.specs.Prelude.{ℕ, ◌+◌, cond, ◌==◌, nat_le}
+use Rattle.std.specs.Prelude.{ℕ, ◌+◌, cond, ◌==◌, nat_le, Result, Ok, Err}
 use Rattle.calendar.specs.declared.Date.{Date}
-use Rattle.calendar.specs.declared.Number.{Number}
-use Rattle.calendar.specs.declared.Number.TheVariants.{Is, NoMonth, NoDay}
+use Rattle.calendar.specs.declared.Missing.{Missing}
+use Rattle.calendar.specs.declared.Missing.TheVariants as missing
 use Rattle.calendar.specs.rules.Date.{leap, month_length, days_before, days_before_year}
 
 unfoldable pub number_of : Date → ℕ
@@ -13,10 +13,10 @@ pub data Numbered : Type 0 where
   no_month : Numbered
   no_day : Numbered
 
-abbrev pub shown_number : Number → Numbered
-shown_number (Is n) = is n
-shown_number NoMonth = no_month
-shown_number NoDay = no_day
+abbrev pub shown_number : Result ℕ Missing → Numbered
+shown_number (Ok n) = is n
+shown_number (Err missing.Month) = no_month
+shown_number (Err missing.Day) = no_day
 
 unfoldable pub number_rule : Date → Numbered
 number_rule d =

@@ -1,5 +1,5 @@
 -- `chain::night_of` meets its contract.
-use Rattle.chain.specs.rules.Night.{night_from, night_of}
+use Rattle.chain.specs.rules.Night.{night_of}
 use Rattle.chain.proofs.night_of.Goals as goal
 
 pub returns : goal.returns

@@ -1,12 +1,13 @@
 -- `chain::place_under` meets its contract.
-use Rattle.quantity.specs.laws.Answer.{then_two_answered, then_two_refused}
+use Rattle.std.proofs.Common.{rules}
+use Rattle.quantity.specs.rules.Answer.{then}
 use Rattle.chain.specs.rules.Night.{place_under}
 use Rattle.chain.proofs.place_under.Goals as goal
 
-pub returns-in-Are : goal.returns-in-Are
-unfolding place_under
-returns-in-Are c = then_two_answered _ c.precessed_in.ensures c.in-Are.is c.point_under.ensures
+pub returns-in_err-a : goal.returns-in_err-a
+unfolding place_under then
+returns-in_err-a c = search rules
 
-pub returns-in-Refused : goal.returns-in-Refused
-unfolding place_under
-returns-in-Refused c = then_two_refused _ c.precessed_in.ensures c.in-Refused.is
+pub returns : goal.returns
+unfolding place_under then
+returns c = search rules

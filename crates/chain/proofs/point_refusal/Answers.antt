@@ -8,6 +8,3 @@ pub returns-then-size-2 : goal.returns-then-size-2
 returns-then-size-2 c =
     let p = c.args.p in
     sym (point_taken p (holds (rw c.size.ensures at c.if-size.true)) (holds (rw c.size-then-size.ensures at c.if-size-2.true)))
-
-pub returns : goal.returns
-returns c = rw (c.lower.ensures, c.steep_refusal.ensures, c.angle_refusal.ensures)

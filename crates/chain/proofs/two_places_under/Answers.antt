@@ -1,5 +1,6 @@
 -- `chain::two_places_under` meets its contract: each lane is its own star's reduction.
 use Rattle.elementary.specs.rules.Direction.{directions_of}
+use Rattle.quantity.specs.laws.Answer.{named_checked}
 use Rattle.chain.specs.rules.Two.{two_places_under}
 use Rattle.chain.proofs.two_places_under.Goals as goal
 
@@ -10,7 +11,9 @@ returns c =
       c.moved_under-n.ensures,
       c.moved_under-m.ensures,
       c.towards-both.ensures,
-      c.next_refusal-second_refusal.ensures,
-      c.next_refusal-first_refusal.ensures,
+      ← named_checked c.next_refusal-second_check.result,
+      c.next_refusal-second_check.ensures,
+      ← named_checked c.next_refusal-first_check.result,
+      c.next_refusal-first_check.ensures,
       c.precessed_two-t.ensures,
     )

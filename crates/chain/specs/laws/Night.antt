@@ -1,7 +1,7 @@
 -- The chain is a star's reduction under the night of its two days.
 use Rattle.std.specs.Prelude.{ℕ, ◌≡◌, Float}
 use Rattle.std.proofs.Math.Path.{ap}
-use Rattle.std.proofs.Common.{◌∙◌}
+use Rattle.std.proofs.Common.{sym, ◌∙◌}
 use Rattle.quantity.specs.declared.Rad.{Rad}
 use Rattle.quantity.specs.rules.Angle.{rad}
 use Rattle.quantity.specs.rules.Answer.{Answer, answered, Pair, pair, first, second, unless, then}
@@ -18,6 +18,7 @@ use Rattle.nutation.specs.rules.Point.{nutation_in_eq_coords_rule, nutation_in_e
 use Rattle.aberr.specs.rules.Star.{stell_aberr_in_eq_coords_rule, stell_aberr_in_eq_coords_in}
 use Rattle.chain.specs.rules.Obliquity.{mean_obliquity_of, true_obliquity}
 use Rattle.chain.specs.rules.Chain.{point, sum, from_point, chain_rule, point_refusal, angles_refusal}
+use Rattle.chain.specs.laws.Point.{angles_named}
 use Rattle.chain.specs.rules.Night.{night_from, night_of, moved, moved_under, point_under, place_under}
 
 unless_none : {A : Type 0} (n : ℕ) (a : Answer A) → n ≡ 0 → unless n a ≡ a
@@ -54,6 +55,13 @@ module _ (edition : Edition) (asc dec : Rad) (day1 day2 : Float) where
       (nutation_in_eq_coords_in (point p) (rad (first nutations)) (rad (second nutations)) oblq).dec.0)
       (pair (stell_aberr_in_eq_coords_in (point p) day2).asc.0 (stell_aberr_in_eq_coords_in (point p) day2).dec.0)
       (sum p) ok
+      ∙ ap (λ (k : ℕ). unless (lower (point_refusal (point p)) k) (answered (moved_sum p))) (sym (angles_named (nutation_of day2) oblq))
+    where
+      moved_sum : Pair → Pair
+      moved_sum q =
+          let n = nutation_in_eq_coords_in (point q) (rad (first nutations)) (rad (second nutations)) oblq in
+          let a = stell_aberr_in_eq_coords_in (point q) day2 in
+          sum q (pair n.asc.0 n.dec.0) (pair a.asc.0 a.dec.0)
 
   abbrev steps : Pair → Answer Pair
   steps p = then (nutation_rule day2) (λ (n : Pair). from_point p n day2)

@@ -1,6 +1,7 @@
 -- A night under which nothing moves, and the refusal of its angles.
 use Rattle.std.specs.Prelude.{ℕ}
 use Rattle.double.specs.rules.Operations.{zero, one}
+use Rattle.quantity.specs.rules.Answer.{named}
 use Rattle.quantity.specs.notions.Stated.{r0}
 use Rattle.chain.specs.declared.Night.{Night}
 
@@ -12,5 +13,5 @@ still n =
       sin_oblq = zero;
       cos_oblq = one;
       velocity = record { x = zero; y = zero; z = zero };
-      refusal = n;
+      check = named n;
     }

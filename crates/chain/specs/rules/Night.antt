@@ -4,7 +4,7 @@ use Rattle.double.specs.rules.Operations.{◌⊕◌}
 use Rattle.quantity.specs.declared.Rad.{Rad}
 use Rattle.quantity.specs.declared.EqPoint.{EqPoint}
 use Rattle.quantity.specs.declared.Shift.{Shift}
-use Rattle.quantity.specs.rules.Answer.{Answer, answered, Pair, pair, unless, then}
+use Rattle.quantity.specs.rules.Answer.{Answer, answered, checked, named, Pair, pair, unless, then}
 use Rattle.quantity.specs.rules.Refusal.{lower}
 use Rattle.edition.specs.declared.Edition.{Edition}
 use Rattle.elementary.specs.declared.Direction.{Direction}
@@ -25,7 +25,7 @@ use Rattle.chain.specs.rules.Chain.{point, point_refusal, angles_refusal}
 
 unfoldable pub night_from : EqPrecession → Nutations → Rad → Velocity → Night
 night_from precession n oblq v =
-    record { precession = precession; nutation = n; sin_oblq = sine_of oblq; cos_oblq = cosine_of oblq; velocity = v; refusal = angles_refusal n oblq }
+    record { precession = precession; nutation = n; sin_oblq = sine_of oblq; cos_oblq = cosine_of oblq; velocity = v; check = named (angles_refusal n oblq) }
 
 unfoldable pub night_of : Edition → Float → Float → Night
 night_of edition day1 day2 =
@@ -43,7 +43,7 @@ abbrev pub pair_of : EqPoint → Pair
 pair_of p = pair p.asc p.dec
 
 unfoldable pub point_under : EqPoint → Night → Answer Pair
-point_under p night = unless (lower (point_refusal p) night.refusal) (answered (pair_of (moved_under p (direction_of p) night)))
+point_under p night = unless (lower (point_refusal p) (checked night.check)) (answered (pair_of (moved_under p (direction_of p) night)))
 
 unfoldable pub place_under : Rad → Rad → Night → Answer Pair
 place_under asc dec night = then (precessed_in asc dec night.precession) (λ (p : Pair). point_under (point p) night)

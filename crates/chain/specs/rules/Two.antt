@@ -1,9 +1,10 @@
--- Two stars side by side under a night: each with its two floats and its refusal, all of them fixed whatever is refused.
+-- Two stars side by side under a night: each with its two floats and its check, all of them fixed whatever is refused.
 -- `first_under` and `second_under` in laws/Two say that each is the star's reduction alone.
 use Rattle.std.specs.Prelude.{ℕ, cond, eqb}
 use Rattle.quantity.specs.declared.Rad.{Rad}
 use Rattle.quantity.specs.declared.EqPoint.{EqPoint}
 use Rattle.quantity.specs.declared.Places.{Places}
+use Rattle.quantity.specs.rules.Answer.{checked, named}
 use Rattle.quantity.specs.rules.Refusal.{lower}
 use Rattle.elementary.specs.rules.Direction.{direction_of}
 use Rattle.precess.specs.rules.Two.{precessed_two}
@@ -27,8 +28,8 @@ reduced_from t night =
       second_asc = n.asc;
       first_dec = m.dec;
       second_dec = n.dec;
-      first_refusal = next_refusal t.first_refusal p night.refusal;
-      second_refusal = next_refusal t.second_refusal q night.refusal;
+      first_check = named (next_refusal (checked t.first_check) p (checked night.check));
+      second_check = named (next_refusal (checked t.second_check) q (checked night.check));
     }
 
 unfoldable pub two_places_under : Rad → Rad → Rad → Rad → Night → Places

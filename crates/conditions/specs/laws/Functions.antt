@@ -1,22 +1,18 @@
 -- Condition 3 of the functions: what holds of the rules holds of any answers that meet the functions' contracts.
-use Rattle.std.specs.Prelude.{ℕ, ◌≡◌, true, false}
+use Rattle.std.specs.Prelude.{ℕ, ◌≡◌, true, false, Result, Ok, Err}
 use Rattle.std.proofs.Common.{sym, ap, ◌∙◌}
 use Rattle.double.specs.rules.Operations.{◌⊖◌}
 use Rattle.double.specs.rules.Sign.{bears_minus, size}
 use Rattle.double.specs.rules.Order.{◌≼◌, NonZero}
+use Rattle.quantity.specs.declared.EclPoint.{EclPoint}
+use Rattle.quantity.specs.declared.Refusal.{Refusal}
 use Rattle.quantity.specs.declared.Rad.{Rad}
-use Rattle.quantity.specs.declared.Radians.{Radians}
-use Rattle.quantity.specs.declared.Radians.TheVariants.{Are, Refused}
 use Rattle.quantity.specs.rules.Angle.{PI, HALF, opposite}
-use Rattle.quantity.specs.rules.Answer.{shown_radians, with}
-use Rattle.quantity.specs.laws.Answer.{carried, shown_radians_loses_nothing}
+use Rattle.quantity.specs.rules.Answer.{shown, with, number}
+use Rattle.quantity.specs.laws.Answer.{carried, shown_loses_nothing}
 use Rattle.elementary.specs.rules.Sine.{sine_of}
 use Rattle.coords.specs.rules.Horizon.{southward, az_frm_eq_rule, alt_frm_eq_rule}
-use Rattle.coords_ecl.specs.declared.Ecliptic.{Ecliptic}
-use Rattle.coords_ecl.specs.declared.Ecliptic.TheVariants as ecliptic
-use Rattle.coords_ecl.specs.rules.Point.{shown_ecliptic}
 use Rattle.coords_ecl.specs.rules.Ecliptic.{longitude_sum, latitude_sum, ecl_frm_eq_rule}
-use Rattle.coords_ecl.specs.laws.Point.{shown_ecliptic_loses_nothing}
 use Rattle.conditions.specs.notions.Mirror.{opposite_point}
 use Rattle.conditions.specs.laws.Answers.{answered_by, mirrored, unchanged}
 use Rattle.conditions.specs.laws.Azimuth.{azimuth_sign, azimuth_at_most_quarter_turn, azimuth_at_least_quarter_turn}
@@ -27,7 +23,7 @@ use Rattle.conditions.specs.laws.RightAscension.{ecliptic_mirror, ecliptic_refus
 
 -- ---- azimuth answers v
 
-module _ (h d p : Rad) (r : Radians) (v : Rad) (meets : shown_radians r ≡ az_frm_eq_rule h d p) (is : r ≡ Are v) where
+module _ (h d p : Rad) (r : Result Rad Refusal) (v : Rad) (meets : shown r ≡ az_frm_eq_rule h d p) (is : r ≡ Ok v) where
   pub az_frm_eq_sign : bears_minus v.0 ≡ bears_minus (sine_of h)
   az_frm_eq_sign = azimuth_sign h d p v (answered_by meets is)
 
@@ -39,28 +35,28 @@ module _ (h d p : Rad) (r : Radians) (v : Rad) (meets : shown_radians r ≡ az_f
 
 -- ---- r is the answer, and s the answer in the mirror
 
-module _ (h d p : Rad) (r s : Radians) where
-  pub az_frm_eq_hour : shown_radians r ≡ az_frm_eq_rule h d p → shown_radians s ≡ az_frm_eq_rule (opposite h) d p
-      → shown_radians s ≡ with opposite (shown_radians r)
+module _ (h d p : Rad) (r s : Result Rad Refusal) where
+  pub az_frm_eq_hour : shown r ≡ az_frm_eq_rule h d p → shown s ≡ az_frm_eq_rule (opposite h) d p
+      → shown s ≡ with opposite (shown r)
   az_frm_eq_hour = mirrored opposite (azimuth_hour h d p) r s
 
-  pub alt_frm_eq_hour : shown_radians r ≡ alt_frm_eq_rule h d p → shown_radians s ≡ alt_frm_eq_rule (opposite h) d p → s ≡ r
+  pub alt_frm_eq_hour : shown r ≡ alt_frm_eq_rule h d p → shown s ≡ alt_frm_eq_rule (opposite h) d p → s ≡ r
   alt_frm_eq_hour = unchanged (altitude_hour h d p) r s
 
-  pub alt_frm_eq_declination : shown_radians r ≡ alt_frm_eq_rule h d p → shown_radians s ≡ alt_frm_eq_rule h (opposite d) (opposite p) → s ≡ r
+  pub alt_frm_eq_declination : shown r ≡ alt_frm_eq_rule h d p → shown s ≡ alt_frm_eq_rule h (opposite d) (opposite p) → s ≡ r
   alt_frm_eq_declination = unchanged (altitude_declination h d p) r s
 
   -- refused alike
-  module _ (meets : shown_radians r ≡ az_frm_eq_rule h d p) (meets' : shown_radians s ≡ az_frm_eq_rule h (opposite d) (opposite p)) (n : ℕ) where
-    pub az_frm_eq_declination_refused_there : r ≡ Refused n → s ≡ Refused n
+  module _ (meets : shown r ≡ az_frm_eq_rule h d p) (meets' : shown s ≡ az_frm_eq_rule h (opposite d) (opposite p)) (n : Refusal) where
+    pub az_frm_eq_declination_refused_there : r ≡ Err n → s ≡ Err n
     az_frm_eq_declination_refused_there is =
-        shown_radians_loses_nothing s (Refused n) (meets' ∙ azimuth_refused_there h d p n (sym meets ∙ ap shown_radians is))
+        shown_loses_nothing s (Err n) (meets' ∙ azimuth_refused_there h d p (number n) (sym meets ∙ ap shown is))
 
-    pub az_frm_eq_declination_refused_here : s ≡ Refused n → r ≡ Refused n
+    pub az_frm_eq_declination_refused_here : s ≡ Err n → r ≡ Err n
     az_frm_eq_declination_refused_here is =
-        shown_radians_loses_nothing r (Refused n) (meets ∙ azimuth_refused_here h d p n (sym meets' ∙ ap shown_radians is))
+        shown_loses_nothing r (Err n) (meets ∙ azimuth_refused_here h d p (number n) (sym meets' ∙ ap shown is))
 
-  module _ (not_zero : NonZero (southward h d p)) (v w : Rad) (meets : shown_radians r ≡ az_frm_eq_rule h d p) (is : r ≡ Are v) (meets' : shown_radians s ≡ az_frm_eq_rule h (opposite d) (opposite p)) (is' : s ≡ Are w) where
+  module _ (not_zero : NonZero (southward h d p)) (v w : Rad) (meets : shown r ≡ az_frm_eq_rule h d p) (is : r ≡ Ok v) (meets' : shown s ≡ az_frm_eq_rule h (opposite d) (opposite p)) (is' : s ≡ Ok w) where
     pub az_frm_eq_declination_sign : bears_minus w.0 ≡ bears_minus v.0
     az_frm_eq_declination_sign = azimuth_sign_stays h d p not_zero v w (answered_by meets is) (answered_by meets' is')
 
@@ -71,17 +67,17 @@ module _ (h d p : Rad) (r s : Radians) where
     az_frm_eq_declination_here = azimuth_size_here h d p not_zero v w (answered_by meets is) (answered_by meets' is')
 
 -- right ascension negated with declination
-module _ (a d e : Rad) (r s : Ecliptic) (meets : shown_ecliptic r ≡ ecl_frm_eq_rule a d e) (meets' : shown_ecliptic s ≡ ecl_frm_eq_rule (opposite a) (opposite d) e) where
+module _ (a d e : Rad) (r s : Result EclPoint Refusal) (meets : shown r ≡ ecl_frm_eq_rule a d e) (meets' : shown s ≡ ecl_frm_eq_rule (opposite a) (opposite d) e) where
   pub ecl_frm_eq_mirror : NonZero (longitude_sum a d e) → NonZero (latitude_sum a d e)
-      → shown_ecliptic s ≡ with opposite_point (shown_ecliptic r)
+      → shown s ≡ with opposite_point (shown r)
   ecl_frm_eq_mirror not_zero not-zero' =
-      carried shown_ecliptic (with opposite_point) r s meets meets' (ecliptic_mirror a d e not_zero not-zero')
+      carried shown (with opposite_point) r s meets meets' (ecliptic_mirror a d e not_zero not-zero')
 
   -- refused alike
-  pub ecl_frm_eq_refused_there : (n : ℕ) → r ≡ ecliptic.Refused n → s ≡ ecliptic.Refused n
+  pub ecl_frm_eq_refused_there : (n : Refusal) → r ≡ Err n → s ≡ Err n
   ecl_frm_eq_refused_there n is =
-      shown_ecliptic_loses_nothing s (ecliptic.Refused n) (meets' ∙ ecliptic_refused_there a d e n (sym meets ∙ ap shown_ecliptic is))
+      shown_loses_nothing s (Err n) (meets' ∙ ecliptic_refused_there a d e (number n) (sym meets ∙ ap shown is))
 
-  pub ecl_frm_eq_refused_here : (n : ℕ) → s ≡ ecliptic.Refused n → r ≡ ecliptic.Refused n
+  pub ecl_frm_eq_refused_here : (n : Refusal) → s ≡ Err n → r ≡ Err n
   ecl_frm_eq_refused_here n is =
-      shown_ecliptic_loses_nothing r (ecliptic.Refused n) (meets ∙ ecliptic_refused_here a d e n (sym meets' ∙ ap shown_ecliptic is))
+      shown_loses_nothing r (Err n) (meets ∙ ecliptic_refused_here a d e (number n) (sym meets' ∙ ap shown is))

@@ -1,13 +1,13 @@
 -- Negate declination with latitude, and rise, culmination and set stay, refusals included: both products keep their bits.
-use Rattle.std.specs.Prelude.{◌≡◌}
+use Rattle.std.specs.Prelude.{◌≡◌, Result, Float}
 use Rattle.std.proofs.Common.{◌∙◌}
 use Rattle.std.specs.Float.{binary64}
 use Rattle.std.specs.Float.Ieee.{neg}
 use Rattle.double.specs.laws.Mirror.{mul_neg_neg}
+use Rattle.quantity.specs.declared.Refusal.{Refusal}
 use Rattle.quantity.specs.declared.Rad.{Rad}
 use Rattle.quantity.specs.declared.EqPoint.{EqPoint}
 use Rattle.quantity.specs.declared.GeographPoint.{GeographPoint}
-use Rattle.quantity.specs.declared.Three.{Three}
 use Rattle.quantity.specs.rules.Angle.{rad, opposite}
 use Rattle.quantity.specs.rules.Answer.{shown_three}
 use Rattle.quantity.specs.laws.Refusal.{steep_opposite}
@@ -37,6 +37,6 @@ module _ (p : EqPoint) (sidereal : Rad) (place : GeographPoint) (alt : Rad) wher
       (steep_opposite (rad p.dec), steep_opposite (rad place.lat), quotient_declination (rad p.dec) (rad place.lat) alt)
 
   -- of the function: r is the answer, and s the answer in the mirror
-  pub rise_culm_set_declination : (r s : Three) → shown_three r ≡ rise_culm_set_rule p sidereal place alt
+  pub rise_culm_set_declination : (r s : Result (Float × Float × Float) Refusal) → shown_three r ≡ rise_culm_set_rule p sidereal place alt
       → shown_three s ≡ rise_culm_set_rule (across_star p) sidereal (across_place place) alt → s ≡ r
   rise_culm_set_declination r s meets meets' = one_triple s r (meets' ∙ transit_declination) meets

@@ -1,12 +1,12 @@
 -- Wrong variants are excluded: each differs from the rule at the input stated. A rule varies: a library that refuses everything, or
 -- answers a constant, does not meet it.
-use Rattle.std.specs.Prelude.{◌≡◌, refl, false, T, ◌≢◌}
+use Rattle.std.specs.Prelude.{◌≡◌, refl, false, T, ◌≢◌, Result}
 use Rattle.std.proofs.Common.{sym, ap, subst, ◌∙◌}
 use Rattle.double.specs.laws.Apart.{apart}
 use Rattle.quantity.specs.declared.Rad.{Rad}
-use Rattle.quantity.specs.declared.Radians.{Radians}
+use Rattle.quantity.specs.declared.Refusal.{Refusal}
 use Rattle.quantity.specs.rules.Angle.{HALF, rad}
-use Rattle.quantity.specs.rules.Answer.{shown_radians}
+use Rattle.quantity.specs.rules.Answer.{shown}
 use Rattle.quantity.specs.notions.Code.{of_rad, of_answer}
 use Rattle.quantity.specs.notions.Varies.{is_answered, Varies}
 use Rattle.quantity.specs.notions.Stated.{r0, r½, r1, r2}
@@ -45,14 +45,14 @@ unfolding computed azimuth_in
 az_frm_eq_varies = record { here = refl; there = refl; apart = apart (of_answer of_rad) refl }
 
 -- of any function that meets the promise
-module _ (f : Rad → Rad → Rad → Radians) (meets : (h d p : Rad) → shown_radians (f h d p) ≡ az_frm_eq_rule h d p) where
-  pub everything_refused_excluded : ¬ ((h d p : Rad) → is_answered (shown_radians (f h d p)) ≡ false)
+module _ (f : Rad → Rad → Rad → Result Rad Refusal) (meets : (h d p : Rad) → shown (f h d p) ≡ az_frm_eq_rule h d p) where
+  pub everything_refused_excluded : ¬ ((h d p : Rad) → is_answered (shown (f h d p)) ≡ false)
   everything_refused_excluded wrong =
       subst T (sym (does_not_refuse az_frm_eq_varies (meets r½ r0 r0)) ∙ wrong r½ r0 r0) tt
 
-  pub azimuth_answers_a_constant_excluded : (c : Radians) → ¬ ((h d p : Rad) → f h d p ≡ c)
+  pub azimuth_answers_a_constant_excluded : (c : Result Rad Refusal) → ¬ ((h d p : Rad) → f h d p ≡ c)
   azimuth_answers_a_constant_excluded c wrong =
-      is_not_constant az_frm_eq_varies (meets r½ r0 r0) (meets r0 r½ r0) (ap shown_radians (wrong r½ r0 r0 ∙ sym (wrong r0 r½ r0)))
+      is_not_constant az_frm_eq_varies (meets r½ r0 r0) (meets r0 r½ r0) (ap shown (wrong r½ r0 r0 ∙ sym (wrong r0 r½ r0)))
 
 pub opposite_quadrant_excluded : opposite_quadrant r0 r½ r0 ≢ az_frm_eq_rule r0 r½ r0
 unfolding computed azimuth_in

@@ -1,11 +1,12 @@
 -- `coords_ecl::point_of` meets its contract.
+use Rattle.std.proofs.Common.{rules}
 use Rattle.coords_ecl.specs.rules.Point.{point_of}
 use Rattle.coords_ecl.proofs.point_of.Goals as goal
 
-pub returns-in-Are : goal.returns-in-Are
+pub returns-in_err-long : goal.returns-in_err-long
 unfolding point_of
-returns-in-Are c = rw c.in-Are.is
+returns-in_err-long c = search rules
 
-pub returns-in-Refused : goal.returns-in-Refused
+pub returns : goal.returns
 unfolding point_of
-returns-in-Refused c = rw c.in-Refused.is
+returns c = search rules

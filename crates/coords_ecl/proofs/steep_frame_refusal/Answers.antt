@@ -11,7 +11,3 @@ returns-then-size-3 c =
     (holds (rw c.size.ensures at c.if-size.true))
     (holds (rw c.size-then-size.ensures at c.if-size-2.true))
     (holds (rw c.size-then-size-2.ensures at c.if-size-3.true)))
-
-pub returns : goal.returns
-returns c =
-    rw (c.lower.ensures, c.angle_refusal-2.ensures, c.steep_refusal.ensures, c.angle_refusal.ensures) at c.lower-2.ensures

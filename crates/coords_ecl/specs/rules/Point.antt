@@ -1,12 +1,6 @@
--- An ecliptic point: what each case of an answer in code is on paper, and two numbers as a point.
+-- An ecliptic point of two numbers.
 use Rattle.quantity.specs.declared.EclPoint.{EclPoint}
-use Rattle.quantity.specs.rules.Answer.{Answer, answered, refused, Pair, first, second, with}
-use Rattle.coords_ecl.specs.declared.Ecliptic.{Ecliptic}
-use Rattle.coords_ecl.specs.declared.Ecliptic.TheVariants.{Is, Refused}
-
-abbrev pub shown_ecliptic : Ecliptic → Answer EclPoint
-shown_ecliptic (Is p) = answered p
-shown_ecliptic (Refused n) = refused n
+use Rattle.quantity.specs.rules.Answer.{Answer, Pair, first, second, with}
 
 -- a longitude and a latitude; a refusal stays
 unfoldable pub point_of : Answer Pair → Answer EclPoint

@@ -1,6 +1,6 @@
 -- On every day that is not refused each component of nutation is at most the ceiling in size. It rests on sines and cosines of the rows'
 -- arguments up to 1 in size, and on roundings that keep the order.
-use Rattle.std.specs.Prelude.{◌≡◌, refl, Bool, true, false, cond, List, [], ◌∷◌, eqb, Float}
+use Rattle.std.specs.Prelude.{◌≡◌, refl, Bool, true, false, cond, List, [], ◌∷◌, eqb, Float, Result}
 use Rattle.std.proofs.Common.{sym, ◌∙◌}
 use Rattle.std.specs.Float.Ieee.{of_bits}
 use Rattle.double.specs.rules.Operations.{one}
@@ -8,7 +8,7 @@ use Rattle.double.specs.rules.Sign.{size}
 use Rattle.double.specs.rules.Order.{◌≼◌, Plus}
 use Rattle.double.specs.laws.Order.{le_trans}
 use Rattle.double.specs.laws.Between.{between→size}
-use Rattle.quantity.specs.declared.Two.{Two}
+use Rattle.quantity.specs.declared.Refusal.{Refusal}
 use Rattle.quantity.specs.rules.Answer.{answered, refused, pair, status_of, shown_two}
 use Rattle.quantity.specs.rules.Refusal.{day_refusal}
 use Rattle.quantity.specs.laws.Steps.{same_value}
@@ -89,7 +89,7 @@ rules_held day v w e f =
       record { finite = (l.long.0, l.oblq.0); long = l.long.1; oblq = l.oblq.1 },
     )
 
-pub nutation_held : (day : Float) (r c : Two) → shown_two r ≡ nutation_rule day → shown_two c ≡ nutation_ceiling_rule day → Held (shown_two r) (shown_two c)
+pub nutation_held : (day : Float) (r c : Result (Float × Float) Refusal) → shown_two r ≡ nutation_rule day → shown_two c ≡ nutation_ceiling_rule day → Held (shown_two r) (shown_two c)
 nutation_held day r c n k v w e f = rules_held day v w (sym n ∙ e) (sym k ∙ f)
 
 -- and they are refused alike

@@ -1,6 +1,6 @@
 -- Seconds of arc and of time to degrees, and degrees to radians: every finite double is answered, by a finite number. That x is a double
 -- is said by `fits binary64 x`, which every f64 has.
-use Rattle.std.specs.Prelude.{ℕ, ◌≡◌, refl, Bool, true, false, cond, T, Float}
+use Rattle.std.specs.Prelude.{ℕ, ◌≡◌, refl, Bool, true, false, cond, T, Float, Result, Ok, Err}
 use Rattle.std.proofs.Common.{sym}
 use Rattle.std.specs.Float.Ieee.{binary64, neg, mul, div, le, fits, of_bits}
 use Rattle.std.specs.Float.Ieee.Bits.{of_bits-fits}
@@ -11,13 +11,10 @@ use Rattle.double.specs.notions.Range.{known, con, ◌⊠◌, ◌⧄◌}
 use Rattle.double.specs.notions.Greatest.{greatest}
 use Rattle.double.specs.laws.Interval.{bounded}
 use Rattle.double.specs.laws.Greatest.{double_between}
+use Rattle.quantity.specs.declared.Refusal.{Refusal}
 use Rattle.quantity.specs.declared.Deg.{Deg}
 use Rattle.quantity.specs.declared.Rad.{Rad}
-use Rattle.quantity.specs.declared.Degrees.{Degrees}
-use Rattle.quantity.specs.declared.Degrees.TheVariants as degrees
-use Rattle.quantity.specs.declared.Radians.{Radians}
-use Rattle.quantity.specs.declared.Radians.TheVariants as radians
-use Rattle.quantity.specs.rules.Answer.{answered, refused, shown_degrees, shown_radians, unless}
+use Rattle.quantity.specs.rules.Answer.{answered, refused, shown, unless, number}
 use Rattle.quantity.specs.rules.Refusal.{number_refusal}
 use Rattle.quantity.specs.rules.Angle.{deg}
 use Rattle.quantity.specs.laws.Steps.{refused_not_answered}
@@ -83,17 +80,17 @@ module _ (x : Deg) where
 -- ---- of calls: r is an answer that meets the contract of the function, x an f64
 
 module _ (x : Float) (F : T (fits binary64 x)) where
-  pub deg_frm_dms_call : (r : Degrees) → shown_degrees r ≡ deg_frm_dms_rule x → FiniteDegrees r
-  deg_frm_dms_call (degrees.Are v) meets = deg_frm_dms_finite x F v (sym meets)
-  deg_frm_dms_call (degrees.Refused n) meets = (deg_frm_dms_refuses x n (sym meets)).1
+  pub deg_frm_dms_call : (r : Result Deg Refusal) → shown r ≡ deg_frm_dms_rule x → FiniteDegrees r
+  deg_frm_dms_call (Ok v) meets = deg_frm_dms_finite x F v (sym meets)
+  deg_frm_dms_call (Err n) meets = (deg_frm_dms_refuses x (number n) (sym meets)).1
 
-  pub deg_frm_hms_call : (r : Degrees) → shown_degrees r ≡ deg_frm_hms_rule x → FiniteDegrees r
-  deg_frm_hms_call (degrees.Are v) meets = deg_frm_hms_finite x F v (sym meets)
-  deg_frm_hms_call (degrees.Refused n) meets = (deg_frm_hms_refuses x n (sym meets)).1
+  pub deg_frm_hms_call : (r : Result Deg Refusal) → shown r ≡ deg_frm_hms_rule x → FiniteDegrees r
+  deg_frm_hms_call (Ok v) meets = deg_frm_hms_finite x F v (sym meets)
+  deg_frm_hms_call (Err n) meets = (deg_frm_hms_refuses x (number n) (sym meets)).1
 
-pub to_radians_call : (x : Deg) → T (fits binary64 x.0) → (r : Radians) → shown_radians r ≡ to_radians_rule x → FiniteRadians r
-to_radians_call x F (radians.Are v) meets = to_radians_finite x F v (sym meets)
-to_radians_call x F (radians.Refused n) meets = (to_radians_refuses x n (sym meets)).1
+pub to_radians_call : (x : Deg) → T (fits binary64 x.0) → (r : Result Rad Refusal) → shown r ≡ to_radians_rule x → FiniteRadians r
+to_radians_call x F (Ok v) meets = to_radians_finite x F v (sym meets)
+to_radians_call x F (Err n) meets = (to_radians_refuses x (number n) (sym meets)).1
 
 -- ---- of bit patterns, with no premise: `bits n` fits for every n, and each double is one of them
 

@@ -1,14 +1,13 @@
 -- The mirrors, of every two answers that meet the promise of `sky_in`, and of every two sights whose places mirror each other.
-use Rattle.std.specs.Prelude.{ℕ, ◌≡◌, Float}
+use Rattle.std.specs.Prelude.{ℕ, ◌≡◌, Float, Result, Ok, Err}
 use Rattle.std.proofs.Common.{sym, ap, subst, ◌∙◌}
 use Rattle.std.specs.Float.Ieee.{neg}
 use Rattle.double.specs.rules.Sign.{bears_minus}
 use Rattle.double.specs.rules.Order.{NonZero}
+use Rattle.quantity.specs.declared.Refusal.{Refusal}
 use Rattle.quantity.specs.declared.Rad.{Rad}
-use Rattle.quantity.specs.declared.Three.{Three}
-use Rattle.quantity.specs.declared.Three.TheVariants.{Are, Refused}
 use Rattle.quantity.specs.rules.Angle.{deg, rad, opposite}
-use Rattle.quantity.specs.rules.Answer.{answered, second, triple, shown_three, with}
+use Rattle.quantity.specs.rules.Answer.{answered, second, triple, shown_three, with, number}
 use Rattle.quantity.specs.laws.Answer.{carried, shown_three_loses_nothing}
 use Rattle.quantity.specs.laws.Steps.{same_value, with_refused}
 use Rattle.edition.specs.declared.Edition.{Edition}
@@ -39,30 +38,30 @@ sky_across h d p x z a x' z' a' e f = by_values (same_value (sym f ∙ sky_hour 
 
 -- ---- the function's
 
-module _ (h d p : Rad) (r s : Three) (meets : shown_three r ≡ sky_in h d p) where
+module _ (h d p : Rad) (r s : Result (Float × Float × Float) Refusal) (meets : shown_three r ≡ sky_in h d p) where
   module _ (meets' : shown_three s ≡ sky_in (opposite h) d p) where
     pub sky_in_hour : shown_three s ≡ with mirrored (shown_three r)
     sky_in_hour = carried shown_three (with mirrored) r s meets meets' (sky_hour h d p)
 
-    pub sky_in_hour_refused_there : (n : ℕ) → r ≡ Refused n → s ≡ Refused n
-    sky_in_hour_refused_there n is = shown_three_loses_nothing s (Refused n) (sky_in_hour ∙ ap (λ (q : Three). with mirrored (shown_three q)) is)
+    pub sky_in_hour_refused_there : (n : Refusal) → r ≡ Err n → s ≡ Err n
+    sky_in_hour_refused_there n is = shown_three_loses_nothing s (Err n) (sky_in_hour ∙ ap (λ (q : Result (Float × Float × Float) Refusal). with mirrored (shown_three q)) is)
 
-    pub sky_in_hour_refused_here : (n : ℕ) → s ≡ Refused n → r ≡ Refused n
+    pub sky_in_hour_refused_here : (n : Refusal) → s ≡ Err n → r ≡ Err n
     sky_in_hour_refused_here n is =
-        shown_three_loses_nothing r (Refused n) (with_refused (shown_three r) mirrored n (sym sky_in_hour ∙ ap shown_three is))
+        shown_three_loses_nothing r (Err n) (with_refused (shown_three r) mirrored (number n) (sym sky_in_hour ∙ ap shown_three is))
 
-    pub sky_in_hour_answered : (x z a x' z' a' : Float) → r ≡ Are x z a → s ≡ Are x' z' a' → (z' ≡ neg z) × (a' ≡ a) × Across x x'
+    pub sky_in_hour_answered : (x z a x' z' a' : Float) → r ≡ Ok (x, z, a) → s ≡ Ok (x', z', a') → (z' ≡ neg z) × (a' ≡ a) × Across x x'
     sky_in_hour_answered x z a x' z' a' is is' =
         sky_across h d p x z a x' z' a' (sym meets ∙ ap shown_three is) (sym meets' ∙ ap shown_three is')
 
   module _ (meets' : shown_three s ≡ sky_in h (opposite d) (opposite p)) where
-    pub sky_in_declination_refused_there : (n : ℕ) → r ≡ Refused n → s ≡ Refused n
+    pub sky_in_declination_refused_there : (n : Refusal) → r ≡ Err n → s ≡ Err n
     sky_in_declination_refused_there n is =
-        shown_three_loses_nothing s (Refused n) (meets' ∙ sky_refused_there h d p n (sym meets ∙ ap shown_three is))
+        shown_three_loses_nothing s (Err n) (meets' ∙ sky_refused_there h d p (number n) (sym meets ∙ ap shown_three is))
 
-    pub sky_in_declination_refused_here : (n : ℕ) → s ≡ Refused n → r ≡ Refused n
+    pub sky_in_declination_refused_here : (n : Refusal) → s ≡ Err n → r ≡ Err n
     sky_in_declination_refused_here n is =
-        shown_three_loses_nothing r (Refused n) (meets ∙ sky_refused_here h d p n (sym meets' ∙ ap shown_three is))
+        shown_three_loses_nothing r (Err n) (meets ∙ sky_refused_here h d p (number n) (sym meets' ∙ ap shown_three is))
 
 -- ---- two sights, end to end
 

@@ -1,14 +1,13 @@
 -- The accident cannot happen: what holds in the sky holds of every answer that meets the promise of `heading`, at the star's reduced place and
 -- its hour angle.
-use Rattle.std.specs.Prelude.{◌≡◌, ◌⊎◌, true, false, ℕ, T, ℤ, Float}
+use Rattle.std.specs.Prelude.{◌≡◌, ◌⊎◌, true, false, ℕ, T, ℤ, Float, Result, Ok}
 use Rattle.std.proofs.Common.{sym, ap, subst, ◌∙◌}
 use Rattle.std.specs.Float.Ieee.{neg, lt}
 use Rattle.double.specs.rules.Operations.{zero, ◌⊕◌}
 use Rattle.double.specs.rules.Sign.{bears_minus}
 use Rattle.double.specs.rules.Order.{◌≼◌, Finite, Between}
+use Rattle.quantity.specs.declared.Refusal.{Refusal}
 use Rattle.quantity.specs.declared.Rad.{Rad}
-use Rattle.quantity.specs.declared.Three.{Three}
-use Rattle.quantity.specs.declared.Three.TheVariants.{Are}
 use Rattle.quantity.specs.rules.Angle.{rad}
 use Rattle.quantity.specs.rules.Answer.{answered, Pair, first, second, Triple, triple, shown_three}
 use Rattle.quantity.specs.laws.Steps.{stepped, same_value}
@@ -63,7 +62,7 @@ sighted edition asc dec ascRate decRate day1 day2 long lat t e =
 
 -- ---- a function answers the heading x, the azimuth z and the altitude a
 
-module _ (edition : Edition) (asc : ℕ) (dec ascRate decRate : ℤ) (day1 day2 : Float) (long lat : Rad) (r : Three) (x z a : Float) (meets : shown_three r ≡ heading_rule edition asc dec ascRate decRate day1 day2 long lat) (is : r ≡ Are x z a) where
+module _ (edition : Edition) (asc : ℕ) (dec ascRate decRate : ℤ) (day1 day2 : Float) (long lat : Rad) (r : Result (Float × Float × Float) Refusal) (x z a : Float) (meets : shown_three r ≡ heading_rule edition asc dec ascRate decRate day1 day2 long lat) (is : r ≡ Ok (x, z, a)) where
   pub of_a_sight : Sighted edition (record_of asc dec ascRate decRate) day1 day2 long lat (triple x z a)
   of_a_sight = sighted edition asc dec ascRate decRate day1 day2 long lat (triple x z a) (sym meets ∙ ap shown_three is)
 

@@ -1,5 +1,5 @@
 -- A mark's heading lies from 0 to below 360; at the star's own reading it is the star's. A call is refused by 1 or 3 alone.
-use Rattle.std.specs.Prelude.{ℕ, ◌*◌, ◌≡◌, refl, ◌⊎◌, Bool, true, false, not, cond, T, Float}
+use Rattle.std.specs.Prelude.{ℕ, ◌*◌, ◌≡◌, refl, ◌⊎◌, Bool, true, false, not, cond, T, Float, Result, Ok}
 use Rattle.std.proofs.Common.{le_refl, zero-mul, add-zero, mul-one, sym, ap, subst, ◌∙◌, inl, inr, arith, le-ltb}
 use Rattle.std.proofs.Math.Nat.{sub_self}
 use Rattle.std.specs.Float.{nan, inf, fin, binary64}
@@ -14,10 +14,9 @@ use Rattle.double.specs.laws.Between.{between, finite_zero}
 use Rattle.double.specs.laws.Interval.{bounded}
 use Rattle.double.specs.laws.Rounding.{round_zero}
 use Rattle.double.specs.laws.Exact.{round_own}
+use Rattle.quantity.specs.declared.Refusal.{Refusal}
 use Rattle.quantity.specs.declared.Deg.{Deg}
-use Rattle.quantity.specs.declared.Degrees.{Degrees}
-use Rattle.quantity.specs.declared.Degrees.TheVariants.{Are}
-use Rattle.quantity.specs.rules.Answer.{answered, refused, shown_degrees}
+use Rattle.quantity.specs.rules.Answer.{answered, refused, shown}
 use Rattle.quantity.specs.laws.Steps.{refused_not_answered, same_value}
 use Rattle.quantity.specs.laws.Accepted.{lower_none, answered_unless}
 use Rattle.helpers.specs.rules.Angle.{turn_in_degrees}
@@ -46,11 +45,11 @@ mark_in_within heading star mark e =
     (bounded binary64 (neg (over 1024 1)) (over 1024 1) (known (in_turn_lem heading n.0) ⊞ (known (in_turn_lem mark m.1) ⊟ known (in_turn_lem star m.0))) tt).finite
 
 -- of every answer that meets the promise
-pub mark_within : (heading star mark : Deg) (r : Degrees) (v : Deg) → shown_degrees r ≡ mark_heading_rule heading star mark → r ≡ Are v
+pub mark_within : (heading star mark : Deg) (r : Result Deg Refusal) (v : Deg) → shown r ≡ mark_heading_rule heading star mark → r ≡ Ok v
     → IsHeading v.0
 unfolding mark_heading_rule
 mark_within heading star mark r v meets is =
-    let u = answered_unless (mark_refusal heading star mark) (answered (mark_in heading star mark)) v (sym meets ∙ ap shown_degrees is) in
+    let u = answered_unless (mark_refusal heading star mark) (answered (mark_in heading star mark)) v (sym meets ∙ ap shown is) in
     subst (λ (y : Deg). IsHeading y.0) (same_value u.1) (mark_in_within heading star mark u.0)
 
 -- ---- refused by 1 or 3

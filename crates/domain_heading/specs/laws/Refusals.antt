@@ -1,6 +1,6 @@
 -- Which refusals come of days and a place that are not refused: 9 and 3 of the record, 14, 7 and 4 of its place, and 3, 4, 14 and 7 in the sky.
 -- No record is refused by 10, and nothing by 1 or 2.
-use Rattle.std.specs.Prelude.{ℕ, ◌≡◌, ◌⊎◌, Bool, true, false, cond, T, eqb, leb, ℤ, Float}
+use Rattle.std.specs.Prelude.{ℕ, ◌≡◌, ◌⊎◌, Bool, true, false, cond, T, eqb, leb, ℤ, Float, Result, Err}
 use Rattle.std.proofs.Math.Path.{refl, subst}
 use Rattle.std.proofs.Common.{sym, ap, ◌∙◌, inl, eqb→eq}
 use Rattle.std.proofs.Math.Logic.{inr}
@@ -13,15 +13,14 @@ use Rattle.double.specs.rules.Table.{over}
 use Rattle.double.specs.notions.Range.{known, ◌⊞◌, ◌⊟◌, ◌⊠◌}
 use Rattle.double.specs.laws.Between.{finite_of_size}
 use Rattle.double.specs.laws.Interval.{bounded}
+use Rattle.quantity.specs.declared.Refusal.{Refusal}
 use Rattle.quantity.specs.declared.Rad.{Rad}
 use Rattle.quantity.specs.rules.Angle.{rad, HALF}
-use Rattle.quantity.specs.rules.Answer.{Answer, answered, refused, Pair, first, second, unless, then}
+use Rattle.quantity.specs.rules.Answer.{Answer, answered, refused, Pair, first, second, unless, then, number}
 use Rattle.quantity.specs.rules.Refusal.{lower, past, epoch, days_around, day_refusal, farthest, steepest, angle_refusal, latitude_refusal}
 use Rattle.quantity.specs.rules.Refusal.{steep_refusal}
 use Rattle.quantity.specs.laws.Refusal.{finite_half}
 use Rattle.quantity.specs.laws.Steps.{refused_not_answered, same_number, same_value}
-use Rattle.quantity.specs.declared.Three.{Three}
-use Rattle.quantity.specs.declared.Three.TheVariants.{Refused}
 use Rattle.quantity.specs.rules.Answer.{shown_three}
 use Rattle.edition.specs.declared.Edition.{Edition}
 use Rattle.elementary.specs.rules.Sine.{sine_of}
@@ -261,5 +260,5 @@ module _ (edition : Edition) (asc : ℕ) (dec ascRate decRate : ℤ) (day1 day2 
       some_of (inr h) some = h
 
   -- of every answer that meets the promise
-  pub heading_refused : (r : Three) (k : ℕ) → shown_three r ≡ heading_rule edition asc dec ascRate decRate day1 day2 long lat → r ≡ Refused k → OfAHeading k
-  heading_refused r k meets is = heading_numbers k (sym meets ∙ ap shown_three is)
+  pub heading_refused : (r : Result (Float × Float × Float) Refusal) (k : Refusal) → shown_three r ≡ heading_rule edition asc dec ascRate decRate day1 day2 long lat → r ≡ Err k → OfAHeading (number k)
+  heading_refused r k meets is = heading_numbers (number k) (sym meets ∙ ap shown_three is)

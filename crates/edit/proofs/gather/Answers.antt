@@ -10,5 +10,5 @@ pub slice_bounds-write-end : goal.slice_bounds-write-end
 slice_bounds-write-end g c =
     subst (λ (n : ℕ). n ≤ length c.gather.new.bytes) (sym c.printed-k.ensures) (cut_inside c.args.cut c.gather.new.bytes)
 
-pub slice_bounds-write-end-in-Done : goal.slice_bounds-write-end-in-Done
-slice_bounds-write-end-in-Done g c = sym (length-take-le _ _ (slice_bounds-write-end g c))
+pub slice_bounds-write-end-in-Ok : goal.slice_bounds-write-end-in-Ok
+slice_bounds-write-end-in-Ok g c = sym (length-take-le _ _ (slice_bounds-write-end g c))

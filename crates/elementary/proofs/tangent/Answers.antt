@@ -1,12 +1,12 @@
 -- `elementary::tangent` meets its contract.
-use Rattle.quantity.specs.laws.Answer.{refuses, goes_on}
+use Rattle.std.proofs.Common.{rules}
 use Rattle.elementary.specs.rules.Sine.{tangent_rule}
 use Rattle.elementary.proofs.tangent.Goals as goal
 
-pub returns-then-refusal-ne0 : goal.returns-then-refusal-ne0
+pub returns-in_err-tangent_refusal : goal.returns-in_err-tangent_refusal
 unfolding tangent_rule
-returns-then-refusal-ne0 c = refuses _ c.tangent_refusal-refusal.ensures c.if-refusal-ne0.true
+returns-in_err-tangent_refusal c = search rules
 
 pub returns : goal.returns
 unfolding tangent_rule
-returns c = goes_on c.tangent_refusal-refusal.ensures c.if-refusal-ne0.false (rw (c.tangent.ensures, c.fold.ensures))
+returns c = search rules

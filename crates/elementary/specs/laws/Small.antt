@@ -1,12 +1,11 @@
 -- An angle below an eighth of a turn has no quarter and is its own rest.
-use Rattle.std.specs.Prelude.{ℕ, ◌-◌, ◌*◌, ◌^◌, ◌<◌, min, ◌≡◌, refl, Bool, true, false, not, T, ltb, Float}
-use Rattle.std.proofs.Common.{zero-le, add-zero, zero-mul, mul-one, arith, ap, ◌∙◌, T_not, ltb-true, ltb-false, le-ltb}
-use Rattle.std.proofs.Math.Nat.{sub-zero, div-eq_of_lt}
+use Rattle.std.specs.Prelude.{◌*◌, ◌≡◌, refl, true, false, not, T, Float}
+use Rattle.std.proofs.Common.{zero-le, add-zero, zero-mul, mul-one, ap, ◌∙◌, le-ltb}
+use Rattle.std.proofs.Math.Nat.{sub-zero}
 use Rattle.std.specs.Float.{nan, inf, fin, binary64}
-use Rattle.std.specs.Float.Ieee.{up, down, neg, add, sub, sum, mul, eq, lt, le, of_bits, of_int, round, to_unsigned, fits}
+use Rattle.std.specs.Float.Ieee.{up, neg, add, sub, sum, mul, le, of_bits, of_int, round, fits}
 use Rattle.double.specs.rules.Operations.{zero, half, one, ◌⊕◌, ◌⊖◌, ◌⊗◌}
-use Rattle.double.specs.rules.Sign.{bears_minus, size, is_finite}
-use Rattle.double.specs.rules.Whole.{whole_part}
+use Rattle.double.specs.rules.Sign.{bears_minus, size}
 use Rattle.double.specs.laws.Exact.{round_own}
 use Rattle.double.specs.laws.WholeDigits.{whole_part_none}
 use Rattle.quantity.specs.declared.Rad.{Rad}

@@ -9,7 +9,7 @@ use Rattle.std.specs.Float.{nan, inf, fin}
 use Rattle.std.specs.Float.Ieee.{binary64, neg, add, sub, mul, le, lt, fits, of_bits, round}
 use Rattle.std.specs.Float.Ieee.Bits.{is_true, is_false}
 use Rattle.std.specs.Float.Ieee.Fits.{mul-fits}
-use Rattle.double.specs.rules.Operations.{zero, one, two, ◌⊕◌, ◌⊖◌, ◌⊗◌}
+use Rattle.double.specs.rules.Operations.{zero, one, two, ◌⊕◌, ◌⊖◌}
 use Rattle.double.specs.rules.Sign.{bears_minus, negated_if, size, is_finite}
 use Rattle.double.specs.rules.Order.{◌≼◌, is_zero, NonZero, Finite, Plus, Between}
 use Rattle.double.specs.rules.Table.{over}

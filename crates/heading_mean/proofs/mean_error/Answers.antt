@@ -9,7 +9,7 @@ use Rattle.heading_mean.proofs.mean_error.Goals as goal
 pub returns-then-is_night : goal.returns-then-is_night
 unfolding mean_error
 returns-then-is_night c =
-    rw (← c.is_night.ensures, c.if-is_night.true, ← c.left.ensures) c.root_over.ensures
+    rw (← c.is_night.ensures, c.if-is_night.true, ← c.saturating_sub.ensures) c.root_over.ensures
 
 pub returns : goal.returns
 unfolding mean_error

@@ -1,16 +1,12 @@
 -- `heading_mean::number_refusal` meets its contract.
-use borrow.Author.Tests.{eq-eqb, ne_eqb, le-leb, lt-leb}
+use Rattle.std.proofs.Common.{rules}
 use Rattle.heading_mean.specs.rules.Mean.{number_refusal}
 use Rattle.heading_mean.proofs.number_refusal.Goals as goal
 
-pub returns-then-n-eq0 : goal.returns-then-n-eq0
+pub returns-then-n-gt-MOST_STARS : goal.returns-then-n-gt-MOST_STARS
 unfolding number_refusal
-returns-then-n-eq0 c = rw (eq-eqb _ _ c.if-n-eq0.true)
+returns-then-n-gt-MOST_STARS c = search rules
 
-pub returns-then-n-le-MOST_STARS : goal.returns-then-n-le-MOST_STARS
+pub returns-else-n-gt-MOST_STARS : goal.returns-else-n-gt-MOST_STARS
 unfolding number_refusal
-returns-then-n-le-MOST_STARS c = rw (ne_eqb _ _ c.if-n-eq0.false, le-leb _ _ c.if-n-le-MOST_STARS.true)
-
-pub returns-else-n-le-MOST_STARS : goal.returns-else-n-le-MOST_STARS
-unfolding number_refusal
-returns-else-n-le-MOST_STARS c = rw (ne_eqb _ _ c.if-n-eq0.false, lt-leb _ _ c.if-n-le-MOST_STARS.false)
+returns-else-n-gt-MOST_STARS c = search rules

@@ -8,23 +8,15 @@ pub returns-then-is_reference : goal.returns-then-is_reference
 returns-then-is_reference c =
     let s = c.args.headings.now in
     let i = c.loop-i.i in
-    omega (arith, reference_here s s i c.loop-i-test.true (sym c.is_reference.ensures ∙ c.if-is_reference.true), c.loop-i.invariant.1)
+    omega (arith, reference_here s s i c.loop-i-test.true (sym c.is_reference.ensures ∙ c.if-is_reference.true), c.loop-i.invariant)
 
 pub loop-i-preserved : goal.loop-i-preserved
 loop-i-preserved c =
     let s = c.args.headings.now in
-    let i = c.loop-i.i in (
-      omega (arith, c.loop-i-test.true),
-      reference_next s s i c.loop-i-test.true (sym c.is_reference.ensures ∙ c.if-is_reference.false) ∙ c.loop-i.invariant.1,
-    )
+    let i = c.loop-i.i in
+    reference_next s s i c.loop-i-test.true (sym c.is_reference.ensures ∙ c.if-is_reference.false) ∙ c.loop-i.invariant
 
 pub returns : goal.returns
 returns c =
     let s = c.args.headings.now in
-    omega (arith, reference_none s s c.loop-i.i (omega (arith, c.loop-i-test.false)), c.loop-i.invariant.1)
-
-pub loop-i-init : goal.loop-i-init
-loop-i-init c = (omega arith, omega arith)
-
-pub bounds-headings-i : goal.bounds-headings-i
-bounds-headings-i c = c.loop-i-test.true
+    omega (arith, reference_none s s c.loop-i.i c.loop-i-test.false, c.loop-i.invariant)

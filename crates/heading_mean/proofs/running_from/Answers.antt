@@ -12,27 +12,21 @@ use Rattle.heading_mean.proofs.running_from.Goals as goal
 
 pub loop-i-init : goal.loop-i-init
 unfolding running_of
-loop-i-init c = (omega arith, refl)
+loop-i-init c = refl
 
 pub loop-i-preserved : goal.loop-i-preserved
 unfolding entry_from
 loop-i-preserved c =
-    let i = c.loop-i.i in (
-      omega (arith, c.loop-i-test.true),
-      rw (c.residual_from-x.ensures, c.of_pattern.ensures, c.loop-i.invariant.1) at c.onward-r.ensures
-          ∙ entry_more i (entry_from c.args.reference c.args.headings.now),
-    )
+    rw (c.residual_from-x.ensures, c.of_pattern.ensures, c.loop-i.invariant) at c.onward-r.ensures
+    ∙ entry_more c.loop-i.i (entry_from c.args.reference c.args.headings.now)
 
 pub onward-r-requires : goal.onward-r-requires
 onward-r-requires c =
     let i = c.loop-i.i in
-    subst (AtMost i) (sym c.loop-i.invariant.1)
+    subst (AtMost i) (sym c.loop-i.invariant)
     (first_at_most c.args.reference c.args.headings.now i (omega (arith, c.loop-i-test.true, c.requires)))
 
 pub returns : goal.returns
 returns c =
-    let i : c.loop-i.i ≡ length c.args.headings.now = omega (arith, c.loop-i-test.false, c.loop-i.invariant.0) in
-    c.loop-i.invariant.1 ∙ ap (λ (n : ℕ). running_of (upto n (entry_from c.args.reference c.args.headings.now))) i
-
-pub bounds-headings-i : goal.bounds-headings-i
-bounds-headings-i c = c.loop-i-test.true
+    let i : c.loop-i.i ≡ length c.args.headings.now = omega (arith, c.loop-i-test.false) in
+    c.loop-i.invariant ∙ ap (λ (n : ℕ). running_of (upto n (entry_from c.args.reference c.args.headings.now))) i

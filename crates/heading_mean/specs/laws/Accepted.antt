@@ -1,21 +1,17 @@
 -- What holds of a set of headings that is not refused; and one answer alone meets the promise.
-use Rattle.std.specs.Prelude.{◌≡◌, Bool, true, false, cond, List, ℕ, ◌≤◌, ◌<◌, T, leb, length, get_or}
+use Rattle.std.specs.Prelude.{◌≡◌, Bool, true, false, cond, List, ℕ, ◌≤◌, ◌<◌, T, leb, length, get_or, Result, Ok, Err}
 use Rattle.std.proofs.Math.Path.{ap}
 use Rattle.std.proofs.Common.{◌∙◌, arith, leb→le, lt-ltb, le-ltb}
-use Rattle.std.specs.Float.Ieee.{le, lt}
-use Rattle.double.specs.rules.Operations.{zero}
-use Rattle.double.specs.rules.Sign.{is_finite}
-use Rattle.double.specs.rules.Order.{Finite, ◌≼◌}
 use Rattle.quantity.specs.declared.Deg.{Deg}
+use Rattle.quantity.specs.declared.Refusal.{Refusal}
 use Rattle.quantity.specs.rules.Answer.{answered, refused}
-use Rattle.helpers.specs.rules.Angle.{turn_in_degrees}
+use Rattle.quantity.specs.laws.Answer.{number_loses_nothing}
 use Rattle.helpers.specs.rules.Circle.{circle_refusal}
 use Rattle.list.specs.rules.Stars.{most_stars}
+use Rattle.residual_sheet.specs.declared.Sheet.{Sheet}
 use Rattle.residual_sheet.specs.notions.Place.{Some, none, some}
 use Rattle.residual_sheet.specs.laws.Parts.{some_or_none, is_none, is_some}
 use Rattle.residual_sheet.specs.laws.Residuals.{least_accepted}
-use Rattle.heading_mean.specs.declared.Mean.{Mean}
-use Rattle.heading_mean.specs.declared.Mean.TheVariants.{Is, Refused}
 use Rattle.heading_mean.specs.rules.Reference.{heading_of, reference_place}
 use Rattle.heading_mean.specs.rules.Mean.{bits_refusal, number_refusal, headings_refusal, shown_mean, mean_from, mean_in}
 use Rattle.heading_mean.specs.notions.Accepted.{Accepted}
@@ -72,8 +68,8 @@ module _ (headings : List ℕ) where
 
 -- ---- a contract `shown_mean r ≡ rule` holds of one r only
 
-pub shown_mean_loses_nothing : (r s : Mean) → shown_mean r ≡ shown_mean s → r ≡ s
-shown_mean_loses_nothing (Is x s) (Is y t) e = cc
-shown_mean_loses_nothing (Is x s) (Refused n) e = cc
-shown_mean_loses_nothing (Refused m) (Is y t) e = cc
-shown_mean_loses_nothing (Refused m) (Refused n) e = cc
+pub shown_mean_loses_nothing : (r s : Result (Deg × Sheet) Refusal) → shown_mean r ≡ shown_mean s → r ≡ s
+shown_mean_loses_nothing (Ok (x, s)) (Ok (y, t)) e = cc
+shown_mean_loses_nothing (Ok (x, s)) (Err n) e = cc
+shown_mean_loses_nothing (Err m) (Ok (y, t)) e = cc
+shown_mean_loses_nothing (Err m) (Err n) e = ap Err (number_loses_nothing m n cc)

@@ -1,5 +1,5 @@
 -- Sums and differences as exact counts: each rounding moves a double of this size by no more than 2^−21.
-use Rattle.std.specs.Prelude.{◌≡◌, refl, ◌⊎◌, Bool, true, false, cond, ℕ, zero, ◌+◌, ◌-◌, ◌*◌, ◌/◌, ◌%◌, ◌≤◌, ◌<◌, T, Float}
+use Rattle.std.specs.Prelude.{◌≡◌, refl, ◌⊎◌, Bool, true, false, cond, ℕ, ◌+◌, ◌-◌, ◌*◌, ◌/◌, ◌%◌, ◌≤◌, ◌<◌, T, Float}
 use Rattle.std.proofs.Common.{sym, ap, subst, ◌∙◌, inl, inr, mul-pos, mul-le-mul_right, le_of_mul-le-mul_right, div-add-mod', mod-lt, arith, lit≤, pow_pos}
 use Rattle.std.specs.Float.{nan, inf, fin, Format, binary64}
 use Rattle.std.specs.Float.Ieee.{neg, fits, round, of_bits, down}

@@ -1,10 +1,10 @@
 -- A set is refused by 20 exactly where it is accepted and none of its sights is a reference; no other refusal is above 8.
-use Rattle.std.specs.Prelude.{◌≡◌, refl, Bool, true, false, cond, List, [], ◌∷◌, ℕ, zero, suc, ◌≤◌, ◌<◌, eqb, leb, length, get_or}
-use Rattle.std.proofs.Common.{sym, ap, ◌∙◌, le_of_suc-le-suc, arith, eqb→eq}
+use Rattle.std.specs.Prelude.{◌≡◌, refl, Bool, true, false, cond, List, [], ◌∷◌, ℕ, suc, ◌≤◌, ◌<◌, eqb, leb, length, get_or}
+use Rattle.std.proofs.Common.{sym, ap, ◌∙◌, arith}
 use Rattle.std.specs.Float.Ieee.{le, lt}
 use Rattle.double.specs.rules.Operations as operations
 use Rattle.double.specs.rules.Sign.{is_finite}
-use Rattle.double.specs.laws.Tests.{by_test, holds}
+use Rattle.double.specs.laws.Tests.{by_test}
 use Rattle.quantity.specs.declared.Deg.{Deg}
 use Rattle.quantity.specs.rules.Answer.{Answer, answered, refused}
 use Rattle.quantity.specs.rules.Refusal.{lower}
@@ -13,7 +13,7 @@ use Rattle.helpers.specs.rules.Circle.{circle_refusal}
 use Rattle.list.specs.rules.Stars.{most_stars}
 use Rattle.residual_sheet.specs.rules.Residuals.{least_refusal}
 use Rattle.heading_mean.specs.rules.Reference.{heading_of, is_reference, first_reference, reference_place}
-use Rattle.heading_mean.specs.rules.Mean.{bits_refusal, number_refusal, headings_refusal, MeanAndSheet, mean_from, mean_in, mean_heading_rule}
+use Rattle.heading_mean.specs.rules.Mean.{bits_refusal, number_refusal, headings_refusal, MeanAndSheet, mean_in, mean_heading_rule}
 use Rattle.heading_mean.specs.laws.Accepted.{with_reference, without_reference}
 use Rattle.heading_mean.specs.laws.OneOff.{not_after}
 

@@ -1,11 +1,12 @@
 -- The mean of a night's headings of one mark, with the sheet of their residuals from the reference, or a refusal.
-use Rattle.std.specs.Prelude.{ℕ, cond, List, eqb, leb, ltb, ℤ, pos, Float, length, get_or}
+use Rattle.std.specs.Prelude.{ℕ, cond, List, eqb, leb, ltb, ℤ, pos, Float, length, get_or, Result, Ok, Err}
 use Rattle.std.specs.Float.{binary64}
 use Rattle.std.specs.Float.Ieee.{of_int}
 use Rattle.double.specs.rules.Operations.{◌⊕◌, ◌⊘◌}
 use Rattle.quantity.specs.declared.Deg.{Deg}
+use Rattle.quantity.specs.declared.Refusal.{Refusal}
 use Rattle.quantity.specs.rules.Angle.{deg}
-use Rattle.quantity.specs.rules.Answer.{Answer, answered, refused, unless}
+use Rattle.quantity.specs.rules.Answer.{Answer, answered, refused, number, unless}
 use Rattle.units.specs.rules.Degrees.{milliarcseconds_of_degree}
 use Rattle.helpers.specs.rules.Circle.{on_circle, circle_refusal}
 use Rattle.lent.specs.rules.Rows.{upto}
@@ -14,8 +15,6 @@ use Rattle.residual_sheet.specs.declared.Sheet.{Sheet}
 use Rattle.residual_sheet.specs.rules.Entry.{Entry, entry_of}
 use Rattle.residual_sheet.specs.rules.Sheet.{Figures, figures_of, sheet_of}
 use Rattle.residual_sheet.specs.rules.Residuals.{least_refusal}
-use Rattle.heading_mean.specs.declared.Mean.{Mean}
-use Rattle.heading_mean.specs.declared.Mean.TheVariants.{Is, Refused}
 use Rattle.heading_mean.specs.rules.Residual.{residual_from}
 use Rattle.heading_mean.specs.rules.Reference.{heading_of, reference_place}
 
@@ -60,9 +59,9 @@ mean_of reference sum count = on_circle (deg (reference.0 ⊕ (mean_residual sum
 pub data MeanAndSheet : Type 0 where
   mean : Deg → Sheet → MeanAndSheet
 
-abbrev pub shown_mean : Mean → Answer MeanAndSheet
-shown_mean (Is x s) = answered (mean x s)
-shown_mean (Refused n) = refused n
+abbrev pub shown_mean : Result (Deg × Sheet) Refusal → Answer MeanAndSheet
+shown_mean (Ok (x, s)) = answered (mean x s)
+shown_mean (Err n) = refused (number n)
 
 unfoldable pub mean_from : Deg → List ℕ → MeanAndSheet
 mean_from reference headings =

@@ -1,11 +1,6 @@
-use mathlib.Core.List.{[]}
-use Prim.Native.Nat.{◌-◌, ◌≤◌}
-use lib.ListN.{length, take}
+use lib.ListN.{take}
 use Rattle.lent.specs.rules.Writing.{Wrote}
 use Rattle.lent.proofs.put.Given as goal
 
-abbrev pub invariant-loop-i : goal.invariant-loop-i
-invariant-loop-i l = (l.i ≤ length l.src) × Wrote l.initial.out l.at (take l.i l.src) l.out l.offset
-
-abbrev pub decreases-loop-i : goal.decreases-loop-i
-decreases-loop-i l = length l.src - l.i
+abbrev pub invariant-loop-b : goal.invariant-loop-b
+invariant-loop-b l = Wrote l.initial.out l.at (take l.b-index l.src) l.out l.offset

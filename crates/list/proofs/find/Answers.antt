@@ -1,5 +1,5 @@
 -- `list::find` meets its contract: at each return the tests that led there say which case of the rule holds.
-use borrow.Author.Tests.{lt-ltb, le-ltb, eq-eqb, ne_eqb, not-true, not-false}
+use borrow.Author.Tests.{lt-ltb, le-ltb, eq-eqb, ne_eqb}
 use mathlib.Core.Path.{◌≡◌, sym, ap, ◌∙◌}
 use mathlib.Core.Bool.{Bool, true, false, cond}
 use mathlib.Core.List.{List}
@@ -23,14 +23,14 @@ module _ (s : List ℕ) (number i : ℕ) (t : is_list s ≡ true) (z : eqb numbe
   present h r f = rw (t, z, ← e, length_stars s, lt-ltb i (count_of s) h) (ap (entry i) f)
 
 pub returns-then-not-is_list : goal.returns-then-not-is_list
-returns-then-not-is_list c = simp (sym c.is_list.ensures ∙ not-true _ c.if-not-is_list.true-raw)
+returns-then-not-is_list c = simp (sym c.is_list.ensures ∙ c.if-not-is_list.true)
 
 pub returns-then-number-eq0 : goal.returns-then-number-eq0
-returns-then-number-eq0 c = simp (sym c.is_list.ensures ∙ not-false _ c.if-not-is_list.false-raw, eq-eqb _ _ c.if-number-eq0.true)
+returns-then-number-eq0 c = simp (sym c.is_list.ensures ∙ c.if-not-is_list.false, eq-eqb _ _ c.if-number-eq0.true)
 
 pub returns-then-i-count : goal.returns-then-i-count
 returns-then-i-count c =
-    let listed : is_list c.args.bytes.now ≡ true = sym c.is_list.ensures ∙ not-false _ c.if-not-is_list.false-raw in
+    let listed : is_list c.args.bytes.now ≡ true = sym c.is_list.ensures ∙ c.if-not-is_list.false in
     let numbered : eqb c.args.number 0 ≡ false = ne_eqb _ _ c.if-number-eq0.false in
     absent _ _ c.index_of-i.result listed numbered c.index_of-i.ensures
     (omega (arith, c.count.ensures, c.if-i-count.true))
@@ -41,7 +41,7 @@ tested i r b e = ap (λ (t : Bool). cond t (answered (record { index = i; star =
 
 pub returns-then-in_range : goal.returns-then-in_range
 returns-then-in_range c =
-    let listed : is_list c.args.bytes.now ≡ true = sym c.is_list.ensures ∙ not-false _ c.if-not-is_list.false-raw in
+    let listed : is_list c.args.bytes.now ≡ true = sym c.is_list.ensures ∙ c.if-not-is_list.false in
     let numbered : eqb c.args.number 0 ≡ false = ne_eqb _ _ c.if-number-eq0.false in
     let found : entry c.index_of-i.result c.nth-star.result ≡ find_rule c.args.bytes.now c.args.number = present _ _ c.index_of-i.result listed numbered c.index_of-i.ensures
     (omega (arith, c.count.ensures, c.if-i-count.false))
@@ -51,7 +51,7 @@ returns-then-in_range c =
 
 pub returns : goal.returns
 returns c =
-    let listed : is_list c.args.bytes.now ≡ true = sym c.is_list.ensures ∙ not-false _ c.if-not-is_list.false-raw in
+    let listed : is_list c.args.bytes.now ≡ true = sym c.is_list.ensures ∙ c.if-not-is_list.false in
     let numbered : eqb c.args.number 0 ≡ false = ne_eqb _ _ c.if-number-eq0.false in
     let found : entry c.index_of-i.result c.nth-star.result ≡ find_rule c.args.bytes.now c.args.number = present _ _ c.index_of-i.result listed numbered c.index_of-i.ensures
     (omega (arith, c.count.ensures, c.if-i-count.false))

@@ -1,5 +1,4 @@
 -- `list::index_of` meets its contract: what is found in the stars that are left, i after the first, is what is found.
-use borrow.Author.Rules.{rules}
 use borrow.Author.Tests.{eq-eqb, ne_eqb}
 use mathlib.Core.Path.{◌≡◌, sym, ap, ◌∙◌}
 use mathlib.Core.Bool.{Bool, true, false, cond}
@@ -35,22 +34,13 @@ none : (s : List ℕ) (number i : ℕ) → count_of s ≤ i → left s number i 
 unfolding index_of
 none s number i h = ap (index_of number) (drop_of_length-le (stars s) {i = i} (rw length_stars h))
 
-pub loop-i-init : goal.loop-i-init
-loop-i-init c = (search rules, (c.count-n.ensures, omega arith))
-
-pub returns-then-star-number : goal.returns-then-star-number
-returns-then-star-number c =
-    omega (arith, c.loop-i.invariant.1.1, hit _ _ _ (omega arith) c.nth-star.result c.nth-star.ensures c.if-star-number.true)
+pub returns-then-nth-number : goal.returns-then-nth-number
+returns-then-nth-number c =
+    omega (arith, c.loop-i.invariant, hit _ _ _ (omega arith) c.nth.result c.nth.ensures c.if-nth-number.true)
 
 pub loop-i-preserved : goal.loop-i-preserved
-loop-i-preserved c = (
-  omega arith,
-  (
-    c.loop-i.invariant.1.0,
-    omega (arith, c.loop-i.invariant.1.1, miss _ _ _ (omega arith) c.nth-star.result c.nth-star.ensures c.if-star-number.false),
-  ),
-)
+loop-i-preserved c =
+    omega (arith, c.loop-i.invariant, miss _ _ _ (omega arith) c.nth.result c.nth.ensures c.if-nth-number.false)
 
 pub returns : goal.returns
-returns c =
-    omega (arith, c.loop-i.invariant, none c.args.bytes.now c.args.number c.loop-i.i (omega arith))
+returns c = omega (arith, c.loop-i.invariant, none c.args.bytes.now c.args.number c.loop-i.i (omega arith))

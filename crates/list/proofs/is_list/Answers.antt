@@ -7,6 +7,6 @@ pub returns-then-bytes-le-MOST_BYTES : goal.returns-then-bytes-le-MOST_BYTES
 unfolding is_list
 returns-then-bytes-le-MOST_BYTES c = simp (le-leb _ _ c.if-bytes-le-MOST_BYTES.true)
 
-pub returns : goal.returns
+pub returns-else-bytes-le-MOST_BYTES : goal.returns-else-bytes-le-MOST_BYTES
 unfolding is_list
-returns c = simp (lt-leb _ _ c.if-bytes-le-MOST_BYTES.false)
+returns-else-bytes-le-MOST_BYTES c = simp (lt-leb _ _ c.if-bytes-le-MOST_BYTES.false)

@@ -7,6 +7,6 @@ pub returns-then-offset-lt-MOST_BYTES : goal.returns-then-offset-lt-MOST_BYTES
 unfolding is_start
 returns-then-offset-lt-MOST_BYTES c = simp (lt-ltb _ _ c.if-offset-lt-MOST_BYTES.true)
 
-pub returns : goal.returns
+pub returns-else-offset-lt-MOST_BYTES : goal.returns-else-offset-lt-MOST_BYTES
 unfolding is_start
-returns c = simp (le-ltb _ _ c.if-offset-lt-MOST_BYTES.false)
+returns-else-offset-lt-MOST_BYTES c = simp (le-ltb _ _ c.if-offset-lt-MOST_BYTES.false)

@@ -1,11 +1,11 @@
 -- `list::kept_from` meets its contract: i and the empty places from it on make what they make at the start.
-use borrow.Author.Tests.{eq-eqb, ne_eqb}
-use mathlib.Core.Path.{◌≡◌, sym, ap, ◌∙◌}
+use borrow.Author.Tests.{eq-eqb, ne_eqb, leb-true, leb-false}
+use mathlib.Core.Path.{◌≡◌, refl, sym, ap, ◌∙◌}
 use mathlib.Core.Bool.{Bool, true, false, cond, not}
 use mathlib.Core.List.{List}
-use Prim.Native.Nat.{ℕ, suc, ◌+◌, ◌≤◌, ◌<◌}
+use Prim.Native.Nat.{ℕ, suc, ◌+◌, ◌≤◌, ◌<◌, max}
 use native.Mathlib.Omega.{arith}
-use lib.Dec.{eqb}
+use lib.Dec.{eqb, leb}
 use lib.ListN.{drop, drop_of_length-le}
 use Rattle.list.specs.rules.Stars.{stars, count_of, nth}
 use Rattle.list.specs.rules.Reader.{empty_before}
@@ -34,19 +34,26 @@ none : (s : List ℕ) (i : ℕ) → count_of s ≤ i → left s i ≡ 0
 unfolding empty_before
 none s i h = ap empty_before (drop_of_length-le (stars s) {i = i} (rw length_stars h))
 
-pub loop-i-init : goal.loop-i-init
-loop-i-init c = (c.count-n.ensures, omega arith)
-
-pub returns-then-star-ne0 : goal.returns-then-star-ne0
-returns-then-star-ne0 c =
-    omega (arith, c.loop-i.invariant.1, hit _ _ (omega arith) c.nth-star.result c.nth-star.ensures c.if-star-ne0.true)
+pub returns-then-nth-ne0 : goal.returns-then-nth-ne0
+returns-then-nth-ne0 c =
+    omega (arith, c.loop-i.invariant, hit _ _ (omega arith) c.nth.result c.nth.ensures c.if-nth-ne0.true)
 
 pub loop-i-preserved : goal.loop-i-preserved
-loop-i-preserved c = (
-  c.loop-i.invariant.0,
-  omega (arith, c.loop-i.invariant.1, miss _ _ (omega arith) c.nth-star.result c.nth-star.ensures c.if-star-ne0.false),
-)
+loop-i-preserved c =
+    omega (arith, c.loop-i.invariant, miss _ _ (omega arith) c.nth.result c.nth.ensures c.if-nth-ne0.false)
+
+-- i stands past the last star: at the first index that was asked, or at the number of stars
+past : (s : List ℕ) (from i : ℕ) → count_of s ≤ i → from ≤ i → (from ≤ count_of s → i ≤ count_of s) → i + left s i ≡ from + left s from
+    → max from (count_of s) ≡ from + left s from
+past s from i h k e inv = go (leb from (count_of s)) refl
+  where
+    go : (t : Bool) → leb from (count_of s) ≡ t → max from (count_of s) ≡ from + left s from
+    go true t = let at_end = e (leb-true _ _ t) in omega (arith, none s i h)
+    go false t = let behind = leb-false from (count_of s) t in omega (arith, none s from (omega arith))
 
 pub returns : goal.returns
 returns c =
-    omega (arith, c.loop-i.invariant, none c.args.bytes.now c.loop-i.i (omega arith))
+    let loop = c.loop-i in
+    c.max.ensures
+    ∙ ap (max c.args.from) c.count-n.ensures
+    ∙ past c.args.bytes.now c.args.from loop.i (omega arith) loop.auto.i (λ h. omega arith) loop.invariant

@@ -11,7 +11,7 @@ use Rattle.list.specs.rules.Record.{width}
 use Rattle.list.specs.rules.Stars.{is_list, count_of, stars, is_kept, kept, nth}
 use Rattle.list.specs.rules.Reader.{Item, item, none, is_offset, empty_before, item_at, item_from, read_rule}
 use Rattle.list.specs.notions.Walk.{walk_on, walk}
-use Rattle.list.specs.laws.Stars.{whole, length_stars, from}
+use Rattle.list.specs.laws.Stars.{length_stars, from}
 use Rattle.list.specs.declared.Star.{Star}
 
 module _ (s : List ℕ) (t : is_list s ≡ true) where

@@ -1,7 +1,6 @@
 -- Records of one width, one after the other: what is written is read back, and what is read is written back, whatever a record holds.
 use Rattle.std.specs.Prelude.{◌≡◌, refl, Bool, true, false, ◌&&◌, List, [], ◌∷◌, ◌++◌, ℕ, zero, suc, ◌+◌, ◌*◌, ◌≤◌, ◌<◌, length, drop, get_or}
 use Rattle.std.proofs.Common.{sym, ap, ◌∙◌, subst, append_assoc, append-nil, suc-mul, zero-mul, add_comm, le_of_suc-le-suc, not-suc-le-zero, arith, length-drop, length-append, drop_at, get_or-drop}
-use Rattle.lent.specs.rules.Rows.{upto}
 use Rattle.lent.specs.rules.Texts.{texts}
 use Rattle.lent.specs.laws.Upto.{upto_same}
 use Rattle.list.specs.rules.Stars.{records_at, records_bytes, nought, all_are, AllHold, Bytes}

@@ -1,5 +1,5 @@
 -- What the writer's refusals are, and what a star that is put makes of the stars before it.
-use Rattle.std.specs.Prelude.{◌≡◌, Bool, List, [], ◌∷◌, ◌++◌, ℕ, zero, suc, ◌+◌, ◌*◌, ◌%◌, ◌<◌, eqb, ltb, length, take, drop}
+use Rattle.std.specs.Prelude.{◌≡◌, Bool, List, [], ◌∷◌, ◌++◌, ℕ, zero, suc, ◌+◌, ◌*◌, ◌%◌, ◌<◌, eqb, ltb, length, take, drop, Ok}
 use Rattle.std.proofs.Math.Path.{refl}
 use Rattle.std.proofs.Common.{sym, ap, ◌∙◌, append_assoc, append-nil, arith, length-append, take_at, length-take-le, ltb-true, eqb-true, le-leb, eq-eqb}
 use Rattle.std.proofs.Math.Bool.{true, false, cond}
@@ -9,7 +9,6 @@ use Rattle.lent.specs.rules.Put.{Put}
 use Rattle.lent.specs.notions.Put.{Stands}
 use Rattle.lent.specs.laws.Put.{put_stands}
 use Rattle.lent.specs.laws.Flags.{both_hold}
-use Rattle.lent.specs.declared.Written.TheVariants.{To}
 use Rattle.list.specs.rules.Record.{width, in_range, star_bytes, Fitting}
 use Rattle.list.specs.rules.Stars.{most_stars, is_list, stars, list_bytes, AllFitting, Bytes}
 use Rattle.list.specs.rules.Writer.{is_start, record_text}
@@ -67,7 +66,7 @@ bytes_take (suc k) (b ∷ s) y zero = y zero
 bytes_take (suc k) (b ∷ s) y (suc i) = bytes_take k s (λ (j : ℕ). y (suc j)) i
 
 -- stars put one after the other from offset 0 on are a list: each adds itself to those before it
-pub put_adds_its_star : (old new : List ℕ) (at next : ℕ) (r : Star) → Bytes old → Fitting r → Put (record_text at r) old at new (To next)
+pub put_adds_its_star : (old new : List ℕ) (at next : ℕ) (r : Star) → Bytes old → Fitting r → Put (record_text at r) old at new (Ok next)
     → Added old at r new next
 unfolding is_list
 put_adds_its_star old new at next r y fit p = record { list = listed; added = more }

@@ -1,20 +1,19 @@
 -- The first star with a number: 8, then 10, then 9.
-use Rattle.std.specs.Prelude.{ℕ, suc, cond, List, [], ◌∷◌, eqb, ltb, length, get_or}
-use Rattle.quantity.specs.rules.Answer.{Answer, answered, refused}
+use Rattle.std.specs.Prelude.{ℕ, suc, cond, List, [], ◌∷◌, eqb, ltb, length, get_or, Result, Ok, Err}
+use Rattle.quantity.specs.declared.Refusal.{Refusal}
+use Rattle.quantity.specs.rules.Answer.{Answer, answered, refused, number}
 use Rattle.list.specs.rules.Record.{in_range}
 use Rattle.list.specs.rules.Stars.{is_list, stars, nought}
 use Rattle.list.specs.declared.Star.{Star}
-use Rattle.list.specs.declared.Found.{Found}
-use Rattle.list.specs.declared.Found.TheVariants.{At, Refused}
 
 -- a found star, and its index
 pub record Entry : Type 0 where
   pub index : ℕ
   pub star : Star
 
-abbrev pub shown_found : Found → Answer Entry
-shown_found (At i r) = answered (record { index = i; star = r })
-shown_found (Refused n) = refused n
+abbrev pub shown_found : Result (ℕ × Star) Refusal → Answer Entry
+shown_found (Ok (i, r)) = answered (record { index = i; star = r })
+shown_found (Err e) = refused (number e)
 
 -- the index of the first star with the number, or how many there are where none has it
 unfoldable pub index_of : ℕ → List Star → ℕ

@@ -1,21 +1,20 @@
 -- The reader: the caller's bytes together with an offset in them. What it shows, on paper: it passes over empty places.
-use Rattle.std.specs.Prelude.{ℕ, suc, ◌+◌, ◌*◌, ◌/◌, ◌%◌, Bool, cond, ◌&&◌, List, [], ◌∷◌, eqb, leb, ltb, length, drop, get_or}
-use Rattle.quantity.specs.rules.Answer.{Answer, answered, refused}
+use Rattle.std.specs.Prelude.{ℕ, suc, ◌+◌, ◌*◌, ◌/◌, ◌%◌, Bool, cond, ◌&&◌, List, [], ◌∷◌, eqb, leb, ltb, length, drop, get_or, Option, Some, None, Result, Ok, Err}
+use Rattle.quantity.specs.declared.Refusal.{Refusal}
+use Rattle.quantity.specs.rules.Answer.{Answer, answered, refused, number}
 use Rattle.list.specs.rules.Record.{width}
 use Rattle.list.specs.rules.Stars.{is_list, stars, is_kept, nought}
 use Rattle.list.specs.declared.Star.{Star}
-use Rattle.list.specs.declared.Stored.{Stored}
-use Rattle.list.specs.declared.Stored.TheVariants.{Next, End, Refused}
 
 -- a star and the offset after it, or none left
 pub data Item : Type 0 where
   item : Star → ℕ → Item
   none : Item
 
-abbrev pub shown_stored : Stored → Answer Item
-shown_stored (Next r next) = answered (item r next)
-shown_stored End = answered none
-shown_stored (Refused n) = refused n
+abbrev pub shown_stored : Result (Option (Star × ℕ)) Refusal → Answer Item
+shown_stored (Ok (Some (r, next))) = answered (item r next)
+shown_stored (Ok None) = answered none
+shown_stored (Err e) = refused (number e)
 
 -- a record's start, or the end
 unfoldable pub is_offset : List ℕ → ℕ → Bool

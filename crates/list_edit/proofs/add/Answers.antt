@@ -1,5 +1,4 @@
 -- `list_edit::add` meets its contract: at each return the tests that led there say which case of the rule holds.
-use borrow.Author.Tests.{not-true, not-false}
 use mathlib.Core.Path.{◌≡◌, sym, ◌∙◌}
 use mathlib.Core.Bool.{true}
 use Prim.Native.Nat.{◌≤◌, ◌<◌}
@@ -13,22 +12,22 @@ use Rattle.list_edit.specs.laws.Edit.{no_list, refuses, changes, add_zero, add_o
 use Rattle.list_edit.proofs.add.Goals as goal
 
 pub returns-then-not-is_list : goal.returns-then-not-is_list
-returns-then-not-is_list c = no_list _ _ (sym c.is_list.ensures ∙ not-true _ c.if-not-is_list.true-raw)
+returns-then-not-is_list c = no_list _ _ (sym c.is_list.ensures ∙ c.if-not-is_list.true)
 
 pub returns-then-number-eq0 : goal.returns-then-number-eq0
 returns-then-number-eq0 c =
-    let listed : is_list c.args.bytes.now ≡ true = sym c.is_list.ensures ∙ not-false _ c.if-not-is_list.false-raw in
+    let listed : is_list c.args.bytes.now ≡ true = sym c.is_list.ensures ∙ c.if-not-is_list.false in
     refuses _ _ _ listed (add_zero _ _ c.if-number-eq0.true)
 
 pub returns-then-not-in_range : goal.returns-then-not-in_range
 returns-then-not-in_range c =
-    let listed : is_list c.args.bytes.now ≡ true = sym c.is_list.ensures ∙ not-false _ c.if-not-is_list.false-raw in
-    refuses _ _ _ listed (add_out_of_range _ _ (sym c.in_range.ensures ∙ not-true _ c.if-not-in_range.true-raw))
+    let listed : is_list c.args.bytes.now ≡ true = sym c.is_list.ensures ∙ c.if-not-is_list.false in
+    refuses _ _ _ listed (add_out_of_range _ _ (sym c.in_range.ensures ∙ c.if-not-in_range.true))
 
 pub returns-then-index_of-n : goal.returns-then-index_of-n
 returns-then-index_of-n c =
-    let listed : is_list c.args.bytes.now ≡ true = sym c.is_list.ensures ∙ not-false _ c.if-not-is_list.false-raw in
-    let ranged : in_range c.args.star ≡ true = sym c.in_range.ensures ∙ not-false _ c.if-not-in_range.false-raw in
+    let listed : is_list c.args.bytes.now ≡ true = sym c.is_list.ensures ∙ c.if-not-is_list.false in
+    let ranged : in_range c.args.star ≡ true = sym c.in_range.ensures ∙ c.if-not-in_range.false in
     let index = c.index_of.ensures in
     let many = c.count-n.ensures in
     refuses _ _ _ listed
@@ -37,8 +36,8 @@ returns-then-index_of-n c =
 
 pub returns-then-i-n : goal.returns-then-i-n
 returns-then-i-n c =
-    let listed : is_list c.args.bytes.now ≡ true = sym c.is_list.ensures ∙ not-false _ c.if-not-is_list.false-raw in
-    let ranged : in_range c.args.star ≡ true = sym c.in_range.ensures ∙ not-false _ c.if-not-in_range.false-raw in
+    let listed : is_list c.args.bytes.now ≡ true = sym c.is_list.ensures ∙ c.if-not-is_list.false in
+    let ranged : in_range c.args.star ≡ true = sym c.in_range.ensures ∙ c.if-not-in_range.false in
     let absent : length (stars c.args.bytes.now) ≤ index_of c.args.star.number (stars c.args.bytes.now) = let index = c.index_of.ensures in
     let many = c.count-n.ensures in
     omega (arith, index, many, c.if-index_of-n.false, length_stars c.args.bytes.now) in
@@ -50,14 +49,14 @@ returns-then-i-n c =
 
 pub overflow_mul-i : goal.overflow_mul-i
 overflow_mul-i c =
-    let listed : is_list c.args.bytes.now ≡ true = sym c.is_list.ensures ∙ not-false _ c.if-not-is_list.false-raw in
+    let listed : is_list c.args.bytes.now ≡ true = sym c.is_list.ensures ∙ c.if-not-is_list.false in
     let index : c.index_of-i.result < count_of c.args.bytes.now = omega (arith, c.count-n.ensures, c.if-i-n.false) in
     omega (arith, index, few _ listed)
 
 pub returns : goal.returns
 returns c =
-    let listed : is_list c.args.bytes.now ≡ true = sym c.is_list.ensures ∙ not-false _ c.if-not-is_list.false-raw in
-    let ranged : in_range c.args.star ≡ true = sym c.in_range.ensures ∙ not-false _ c.if-not-in_range.false-raw in
+    let listed : is_list c.args.bytes.now ≡ true = sym c.is_list.ensures ∙ c.if-not-is_list.false in
+    let ranged : in_range c.args.star ≡ true = sym c.in_range.ensures ∙ c.if-not-in_range.false in
     let absent : length (stars c.args.bytes.now) ≤ index_of c.args.star.number (stars c.args.bytes.now) = let index = c.index_of.ensures in
     let many = c.count-n.ensures in
     omega (arith, index, many, c.if-index_of-n.false, length_stars c.args.bytes.now) in

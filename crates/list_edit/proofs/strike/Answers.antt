@@ -1,5 +1,4 @@
 -- `list_edit::strike` meets its contract: at each return the tests that led there say which case of the rule holds.
-use borrow.Author.Tests.{not-true, not-false}
 use mathlib.Core.Path.{◌≡◌, sym, ap, ◌∙◌}
 use mathlib.Core.Bool.{true}
 use Prim.Native.Nat.{◌<◌}
@@ -12,28 +11,28 @@ use Rattle.list_edit.specs.laws.Edit.{no_list, refuses, changes, strike_zero, st
 use Rattle.list_edit.proofs.strike.Goals as goal
 
 pub returns-then-not-is_list : goal.returns-then-not-is_list
-returns-then-not-is_list c = no_list _ _ (sym c.is_list.ensures ∙ not-true _ c.if-not-is_list.true-raw)
+returns-then-not-is_list c = no_list _ _ (sym c.is_list.ensures ∙ c.if-not-is_list.true)
 
 pub returns-then-number-eq0 : goal.returns-then-number-eq0
 returns-then-number-eq0 c =
-    let listed : is_list c.args.bytes.now ≡ true = sym c.is_list.ensures ∙ not-false _ c.if-not-is_list.false-raw in
+    let listed : is_list c.args.bytes.now ≡ true = sym c.is_list.ensures ∙ c.if-not-is_list.false in
     refuses _ _ _ listed (strike_zero _ _ c.if-number-eq0.true)
 
 pub returns-then-i-count : goal.returns-then-i-count
 returns-then-i-count c =
-    let listed : is_list c.args.bytes.now ≡ true = sym c.is_list.ensures ∙ not-false _ c.if-not-is_list.false-raw in
+    let listed : is_list c.args.bytes.now ≡ true = sym c.is_list.ensures ∙ c.if-not-is_list.false in
     let many = c.count.ensures in
     refuses _ _ _ listed (strike_absent _ _ (omega (arith, c.index_of-i.ensures, many, c.if-i-count.true, length_stars c.args.bytes.now)))
 
 pub overflow_mul-i : goal.overflow_mul-i
 overflow_mul-i c =
-    let listed : is_list c.args.bytes.now ≡ true = sym c.is_list.ensures ∙ not-false _ c.if-not-is_list.false-raw in
+    let listed : is_list c.args.bytes.now ≡ true = sym c.is_list.ensures ∙ c.if-not-is_list.false in
     let index : c.index_of-i.result < count_of c.args.bytes.now = omega (arith, c.count.ensures, c.if-i-count.false) in
     omega (arith, index, few _ listed)
 
 pub returns : goal.returns
 returns c =
-    let listed : is_list c.args.bytes.now ≡ true = sym c.is_list.ensures ∙ not-false _ c.if-not-is_list.false-raw in
+    let listed : is_list c.args.bytes.now ≡ true = sym c.is_list.ensures ∙ c.if-not-is_list.false in
     let index : c.index_of-i.result < count_of c.args.bytes.now = omega (arith, c.count.ensures, c.if-i-count.false) in
     let i = c.index_of-i.result in
     let inside = index in

@@ -1,5 +1,5 @@
 -- What a call that is done makes of lent bytes, and when there is 19.
-use Rattle.std.specs.Prelude.{◌≡◌, refl, Bool, true, false, List, ◌++◌, ℕ, ◌+◌, ◌*◌, ◌-◌, ◌≤◌, ◌<◌, ltb, length, take, drop, set, get_or, replicate}
+use Rattle.std.specs.Prelude.{◌≡◌, refl, Bool, true, false, List, ◌++◌, ℕ, ◌+◌, ◌*◌, ◌-◌, ◌≤◌, ◌<◌, ltb, length, take, drop, set, get_or, replicate, Ok}
 use Rattle.std.proofs.Common.{sym, ap, ◌∙◌, subst, arith, length-set, get_or-set_same, eq-eqb, ne_eqb, ltb-true, ltb-false}
 use Rattle.quantity.specs.rules.Answer.{answered, refused, with}
 use Rattle.quantity.specs.notions.Varies.{is_answered}
@@ -22,7 +22,6 @@ use Rattle.list_edit.specs.laws.Edit.{on_list_lem, worked, own_refusal, struck, 
 use Rattle.list_edit.specs.laws.Gather.{gathered_keeps, gathered_length, gathered_bytes, gathered_twice}
 use Rattle.list_edit.specs.laws.Fitting.{list_fits, nought_fits, set_fits, gathered_fits, list_by_length}
 use Rattle.list_edit.specs.laws.HowMany.{how_many_set, none_past}
-use Rattle.list_edit.specs.declared.Edited.TheVariants.{Done}
 
 -- ---- the first record with a number, and every other byte
 
@@ -45,7 +44,7 @@ module _ (s : List ℕ) (y : Bytes s) where
       }
 
   -- strike zeroes the first record with the number, all of it
-  pub strike_zeroes_the_first : (k : ℕ) (new : List ℕ) → Edit (strike_rule s k) s new Done → FirstBecame k (replicate width 0) s new
+  pub strike_zeroes_the_first : (k : ℕ) (new : List ℕ) → Edit (strike_rule s k) s new (Ok tt) → FirstBecame k (replicate width 0) s new
   strike_zeroes_the_first k new p =
       let w = worked (strike_in k) s new (done_answered (strike_rule s k) p) in
       let u = struck (stars s) k w.rs w.work in
@@ -53,7 +52,7 @@ module _ (s : List ℕ) (y : Bytes s) where
       (subst (λ (l : List ℕ). FirstBecame k (star_bytes nought) s l) (sym (w.bytes ∙ ap list_bytes u.is)) (became w.list k nought u.there))
 
   -- add writes the first empty place, all of it
-  pub add_fills_the_first : (r : Star) (new : List ℕ) → Edit (add_rule s r) s new Done → FirstBecame 0 (star_bytes r) s new
+  pub add_fills_the_first : (r : Star) (new : List ℕ) → Edit (add_rule s r) s new (Ok tt) → FirstBecame 0 (star_bytes r) s new
   add_fills_the_first r new p =
       let w = worked (add_in r) s new (done_answered (add_rule s r) p) in
       let u = placed (stars s) r w.rs w.work in
@@ -85,7 +84,7 @@ module _ (s : List ℕ) (r : Star) where
 
 -- ---- a star that was struck can be added again, where its number stood once
 
-module _ (s : List ℕ) (y : Bytes s) (k : ℕ) (new : List ℕ) (p : Edit (strike_rule s k) s new Done) where
+module _ (s : List ℕ) (y : Bytes s) (k : ℕ) (new : List ℕ) (p : Edit (strike_rule s k) s new (Ok tt)) where
   abbrev w : Worked (strike_in k) s new
   w = worked (strike_in k) s new (done_answered (strike_rule s k) p)
 
@@ -131,7 +130,7 @@ module _ (s : List ℕ) (y : Bytes s) (k : ℕ) (new : List ℕ) (p : Edit (stri
 
 -- ---- a list gathered
 
-module _ (s : List ℕ) (y : Bytes s) (new : List ℕ) (p : Edit (gather_rule s) s new Done) where
+module _ (s : List ℕ) (y : Bytes s) (new : List ℕ) (p : Edit (gather_rule s) s new (Ok tt)) where
   abbrev v : Worked gather_in s new
   v = worked gather_in s new (done_answered (gather_rule s) p)
 

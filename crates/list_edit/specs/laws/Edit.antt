@@ -1,12 +1,14 @@
 -- What each edit answers, case by case, and what an answer or a refusal tells; a promise fixes the answer and every byte.
-use Rattle.std.specs.Prelude.{◌≡◌, Bool, not, ◌&&◌, List, ℕ, zero, suc, ◌*◌, ◌≤◌, ◌<◌, eqb, set}
+use Rattle.std.specs.Prelude.{◌≡◌, Bool, not, ◌&&◌, List, ℕ, zero, suc, ◌*◌, ◌≤◌, ◌<◌, eqb, set, ⊤, Result, Ok, Err}
 use Rattle.std.proofs.Math.Path.{refl, sym}
 use Rattle.std.proofs.Common.{ap, ◌∙◌, arith}
 use Rattle.std.proofs.Math.Bool.{true, false, cond}
 use Rattle.std.proofs.Math.ListN.{length}
 use borrow.Author.Tests.{eq-eqb, ne_eqb, lt-ltb, le-ltb, ltb-true, ltb-false}
-use Rattle.quantity.specs.rules.Answer.{Answer, answered, refused, with}
-use Rattle.quantity.specs.laws.Answer.{unique}
+use Rattle.quantity.specs.declared.Refusal.{Refusal}
+use Rattle.quantity.specs.declared.Refusal.TheVariants as refusal
+use Rattle.quantity.specs.rules.Answer.{Answer, answered, refused, number, shown, with}
+use Rattle.quantity.specs.laws.Answer.{unique, shown_loses_nothing}
 use Rattle.quantity.specs.laws.Steps.{refused_not_answered, same_value, same_number, changed, with_refused}
 use Rattle.lent.specs.rules.Writing.{written, Wrote}
 use Rattle.lent.specs.laws.Flags.{both_hold}
@@ -16,31 +18,29 @@ use Rattle.list.specs.rules.Find.{index_of}
 use Rattle.list.specs.laws.Stars.{length_stars, whole}
 use Rattle.list.specs.laws.RoundTrips.{bytes_back}
 use Rattle.list.specs.declared.Star.{Star}
-use Rattle.list_edit.specs.rules.Edit.{is_present, strike_in, add_in, on_list, shown_edited, Edit}
+use Rattle.list_edit.specs.rules.Edit.{is_present, strike_in, add_in, on_list, Edit}
 use Rattle.list_edit.specs.notions.Edit.{Worked, Struck, Placed}
 use Rattle.list_edit.specs.laws.Bytes.{bytes_set}
-use Rattle.list_edit.specs.declared.Edited.{Edited}
-use Rattle.list_edit.specs.declared.Edited.TheVariants.{Done, Refused}
 
 -- ---- an edit of the stars as one of the bytes
 
 module _ (edit : List Star → Answer (List Star)) (s : List ℕ) where
-  pub no_list : is_list s ≡ false → Edit (on_list edit s) s s (Refused 8)
+  pub no_list : is_list s ≡ false → Edit (on_list edit s) s s (Err refusal.List)
   unfolding on_list
   no_list a = record { answer = rw a; bytes = rw a }
 
-  pub refuses : (k : ℕ) → is_list s ≡ true → edit (stars s) ≡ refused k → Edit (on_list edit s) s s (Refused k)
+  pub refuses : (k : Refusal) → is_list s ≡ true → edit (stars s) ≡ refused (number k) → Edit (on_list edit s) s s (Err k)
   unfolding on_list
   refuses k a e = record { answer = rw (a, e); bytes = rw (a, e) }
 
   pub edits : (rs : List Star) (new : List ℕ) → is_list s ≡ true → edit (stars s) ≡ answered rs → new ≡ list_bytes rs
-      → Edit (on_list edit s) s new Done
+      → Edit (on_list edit s) s new (Ok tt)
   unfolding on_list
   edits rs new a e n = record { answer = rw (a, e); bytes = rw (a, e) n }
 
   -- one record changed
   pub changes : (i : ℕ) (r : Star) (new : List ℕ) (v : ℕ) → Bytes s → is_list s ≡ true → i < count_of s
-      → edit (stars s) ≡ answered (set (stars s) i r) → Wrote s (i * width) (star_bytes r) new v → Edit (on_list edit s) s new Done
+      → edit (stars s) ≡ answered (set (stars s) i r) → Wrote s (i * width) (star_bytes r) new v → Edit (on_list edit s) s new (Ok tt)
   changes i r new v y a h e w =
       let b = bytes_back s (whole s a).1 y in
       edits (set (stars s) i r) new a e
@@ -179,23 +179,17 @@ module _ (rs : List Star) where
 
 -- ---- a promise fixes the answer and every byte
 
-pub edited_loses_nothing : (r s : Edited) → shown_edited r ≡ shown_edited s → r ≡ s
-edited_loses_nothing Done Done e = refl
-edited_loses_nothing Done (Refused n) e = cc
-edited_loses_nothing (Refused m) Done e = cc
-edited_loses_nothing (Refused m) (Refused n) e = cc
-
-pub one_edit : {edit : Answer (List ℕ)} {old new new' : List ℕ} {r s : Edited} → Edit edit old new r → Edit edit old new' s
+pub one_edit : {edit : Answer (List ℕ)} {old new new' : List ℕ} {r s : Result ⊤ Refusal} → Edit edit old new r → Edit edit old new' s
     → (new ≡ new') × (r ≡ s)
 one_edit {r = r} {s = s} p q =
-    (p.bytes ∙ sym q.bytes, unique shown_edited edited_loses_nothing r s p.answer q.answer)
+    (p.bytes ∙ sym q.bytes, unique shown shown_loses_nothing r s p.answer q.answer)
 
 -- a call that is done left the bytes of its rule
-pub done_answered : (edit : Answer (List ℕ)) {old new : List ℕ} → Edit edit old new Done → edit ≡ answered new
+pub done_answered : (edit : Answer (List ℕ)) {old new : List ℕ} → Edit edit old new (Ok tt) → edit ≡ answered new
 done_answered (answered t) p = ap answered (sym p.bytes)
 done_answered (refused n) p = absurd (refused_not_answered (sym p.answer))
 
 -- a refused call leaves every byte
-pub refused_leaves : (edit : Answer (List ℕ)) {old new : List ℕ} {n : ℕ} → Edit edit old new (Refused n) → new ≡ old
+pub refused_leaves : (edit : Answer (List ℕ)) {old new : List ℕ} {n : Refusal} → Edit edit old new (Err n) → new ≡ old
 refused_leaves (answered t) p = absurd (refused_not_answered p.answer)
 refused_leaves (refused n) p = p.bytes

@@ -1,5 +1,5 @@
 -- Find says of a gathered list what it said before, the index apart.
-use Rattle.std.specs.Prelude.{◌≡◌, refl, Bool, true, false, cond, not, List, [], ◌∷◌, ◌++◌, ℕ, zero, suc, ◌-◌, ◌<◌, eqb, ltb, get_or, replicate}
+use Rattle.std.specs.Prelude.{◌≡◌, refl, Bool, true, false, cond, not, List, [], ◌∷◌, ◌++◌, ℕ, zero, suc, ◌-◌, ◌<◌, eqb, ltb, get_or, replicate, Ok}
 use Rattle.std.proofs.Math.Path.{sym}
 use Rattle.std.proofs.Common.{ap, ◌∙◌, arith, ne_eqb, eqb-true, lt-ltb, le-ltb, ltb-true, ltb-false}
 use Rattle.std.proofs.Math.ListN.{length}
@@ -13,7 +13,6 @@ use Rattle.list_edit.specs.rules.Edit.{gathered, gather_rule, Edit}
 use Rattle.list_edit.specs.notions.Edit.{star_of}
 use Rattle.list_edit.specs.laws.Fitting.{list_by_length}
 use Rattle.list_edit.specs.laws.Calls.{stars_gathered, gather_as_long}
-use Rattle.list_edit.specs.declared.Edited.TheVariants.{Done}
 
 -- the first with the number as find answers it
 abbrev first_of : ℕ → List Star → Answer Star
@@ -88,7 +87,7 @@ module _ (k : ℕ) where
       go true e = refl
       go false e = found_gathered k (above (eqb-false k 0 e)) rs
 
-  pub find_after_gather : (s : List ℕ) → Bytes s → (new : List ℕ) → Edit (gather_rule s) s new Done
+  pub find_after_gather : (s : List ℕ) → Bytes s → (new : List ℕ) → Edit (gather_rule s) s new (Ok tt)
       → with star_of (find_rule new k) ≡ with star_of (find_rule s k)
   find_after_gather s y new p =
       (λ i. with star_of (cond (list_by_length new s (gather_as_long s y new p) i) (find_in (stars_gathered s y new p i) k) (refused 8)))

@@ -1,6 +1,10 @@
 -- Gather's two passes: the kept records brought forward, and zeros behind them.
-use Rattle.std.specs.Prelude.{◌≡◌, true, List, [], ◌∷◌, ◌++◌, ℕ, ◌+◌, ◌*◌, ◌-◌, ◌≤◌, ◌<◌, min, length, take, replicate}
-use Rattle.std.proofs.Common.{sym, ap, ◌∙◌, append-nil, arith, length-take-le, eq-eqb, ne_eqb}
+use Rattle.std.specs.Prelude.{◌≡◌, refl, Bool, true, false, leb, drop, List, [], ◌∷◌, ◌++◌, ℕ, ◌+◌, ◌*◌, ◌-◌, ◌≤◌, ◌<◌, min, length, take, replicate}
+use borrow.Author.Tests.{leb-true, leb-false}
+use borrow.Rule.Slice.PartMut.{put_mid}
+use Rattle.lent.specs.laws.Writing as writing
+use Rattle.std.proofs.Math.Seq.{take-length}
+use Rattle.std.proofs.Common.{sym, ap, ◌∙◌, append-nil, append_assoc, length-drop, drop_of_length-le, arith, length-take-le, eq-eqb, ne_eqb}
 use Rattle.std.proofs.lemmas.List.{length-replicate, replicate-append-replicate}
 use Rattle.lent.specs.rules.Writing.{written, Wrote}
 use Rattle.lent.specs.laws.Writing.{same, nothing, after, length_kept}
@@ -15,7 +19,52 @@ use Rattle.list_edit.specs.notions.Edit.{kept_upto}
 use Rattle.list_edit.specs.laws.Bytes.{over, nth_behind}
 use Rattle.list_edit.specs.laws.Gather.{fewer_kept, kept_join, gathered_length, gathered_bytes}
 
--- ---- zeros from an offset on: none, one more, and all of them
+-- ---- zeros from an offset on: within the slice, and past its end
+
+within_filled : (out : List ℕ) (at : ℕ) → at ≤ length out
+    → put_mid at (length out - at) out (replicate (length out - at) 0) ≡ written out at (replicate (length out - at) 0)
+within_filled out at h =
+    let zeros : List ℕ = replicate (length out - at) 0 in
+    let size = length-replicate {A = ℕ} (length out - at) 0 in
+    ap (λ (l : List ℕ). take at out ++ (zeros ++ l)) (drop_of_length-le (drop at out) {i = length out - at} (omega (arith, length-drop at out)))
+    ∙ sym (append_assoc (take at out) zeros [])
+    ∙ ap (λ (l : List ℕ). take at out ++ zeros ++ l) (sym (drop_of_length-le out {i = at + length zeros} (omega arith)))
+    ∙ sym (writing.whole out at zeros (omega arith))
+
+past_filled : (out : List ℕ) (at : ℕ) → length out ≤ at
+    → put_mid (length out) (length out - length out) out (replicate (length out - length out) 0) ≡ written out at (replicate (length out - at) 0)
+past_filled out at h =
+    let none : length out - length out ≡ 0 = omega arith in
+    let no_zero : 0 ≡ length out - at = omega arith in
+    let w = same (ap (λ (n : ℕ). replicate n 0) no_zero) (nothing out at (min at (length out)) refl) in
+    ap (λ (n : ℕ). put_mid (length out) n out (replicate n 0)) none
+    ∙ ap (λ (l : List ℕ). l ++ drop (length out) out) (take-length out)
+    ∙ ap (λ (l : List ℕ). out ++ l) (drop_of_length-le out {i = length out} (omega arith))
+    ∙ append-nil out
+    ∙ w.text
+
+-- what a fill from an offset on leaves
+pub filled : (out : List ℕ) (at start : ℕ) (rest : List ℕ) → start ≡ min at (length out) → rest ≡ replicate (length out - start) 0
+    → Wrote out at (replicate (length out - at) 0) (put_mid start (length out - start) out rest) (length out)
+filled out at start rest e f =
+    record {
+      text = ap (put_mid start (length out - start) out) f ∙ ap (λ (n : ℕ). put_mid n (length out - n) out (replicate (length out - n) 0)) e ∙ go (leb at (length out)) refl;
+      offset = omega (arith, length-replicate {A = ℕ} (length out - at) 0);
+    }
+  where
+    go : (t : Bool) → leb at (length out) ≡ t
+        → put_mid (min at (length out)) (length out - min at (length out)) out (replicate (length out - min at (length out)) 0)
+        ≡ written out at (replicate (length out - at) 0)
+    go true t =
+        let h = leb-true at (length out) t in
+        ap (λ (n : ℕ). put_mid n (length out - n) out (replicate (length out - n) 0)) (let q : min at (length out) ≡ at = omega arith in q)
+        ∙ within_filled out at h
+    go false t =
+        let h = leb-false at (length out) t in
+        ap (λ (n : ℕ). put_mid n (length out - n) out (replicate (length out - n) 0)) (let q : min at (length out) ≡ length out = omega arith in q)
+        ∙ past_filled out at (omega arith)
+
+-- ---- zeros from an offset on, one by one: none, one more, and all of them
 
 more_zeros : (n m : ℕ) → n + 1 ≡ m → ◌++◌ {A = ℕ} (replicate n 0) (0 ∷ []) ≡ replicate m 0
 more_zeros n m e = replicate-append-replicate n 1 0 ∙ ap (λ (k : ℕ). replicate k 0) e

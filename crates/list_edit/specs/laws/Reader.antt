@@ -1,5 +1,5 @@
 -- The reader shows of a gathered list the stars that it showed before, and a list cut behind its kept stars has these alone.
-use Rattle.std.specs.Prelude.{◌≡◌, refl, Bool, true, false, cond, not, List, [], ◌∷◌, ◌++◌, ℕ, zero, suc, ◌*◌, ◌-◌, eqb, take, replicate}
+use Rattle.std.specs.Prelude.{◌≡◌, refl, Bool, true, false, cond, not, List, [], ◌∷◌, ◌++◌, ℕ, zero, suc, ◌*◌, ◌-◌, eqb, take, replicate, Ok}
 use Rattle.std.proofs.Common.{sym, ◌∙◌, arith, take_at}
 use Rattle.std.proofs.Math.Path.{ap}
 use Rattle.std.proofs.Math.ListN.{length}
@@ -14,7 +14,6 @@ use Rattle.list_edit.specs.rules.Edit.{gather_in, gathered, gather_rule, Edit}
 use Rattle.list_edit.specs.laws.Edit.{worked, done_answered}
 use Rattle.list_edit.specs.laws.Fitting.{list_by_length}
 use Rattle.list_edit.specs.laws.Calls.{stars_gathered, gather_keeps, gather_leaves_zeros, gather_as_long}
-use Rattle.list_edit.specs.declared.Edited.TheVariants.{Done}
 
 -- the first empty place stands behind the kept stars
 first_empty : (rs : List Star) (m : ℕ) → index_of 0 (kept rs ++ replicate m nought) ≡ length (kept rs)
@@ -28,7 +27,7 @@ first_empty (r ∷ rs) m = go (eqb r.number 0) refl (first_empty rs m)
     go true e ih = ih
     go false e ih = rw e (ap suc ih)
 
-module _ (s : List ℕ) (y : Bytes s) (new : List ℕ) (p : Edit (gather_rule s) s new Done) where
+module _ (s : List ℕ) (y : Bytes s) (new : List ℕ) (p : Edit (gather_rule s) s new (Ok tt)) where
   was_list : is_list s ≡ true
   was_list = (worked gather_in s new (done_answered (gather_rule s) p)).list
 

@@ -1,5 +1,5 @@
 -- Empty places behind a list: zeros that are written there, and where the first stands.
-use Rattle.std.specs.Prelude.{◌≡◌, Bool, true, false, cond, List, ◌++◌, ℕ, ◌+◌, ◌*◌, ◌-◌, ◌≤◌, length, take, replicate}
+use Rattle.std.specs.Prelude.{◌≡◌, Bool, true, false, cond, List, ◌++◌, ℕ, ◌+◌, ◌*◌, ◌-◌, ◌≤◌, length, take, replicate, ⊤, Result}
 use Rattle.std.proofs.Common.{ap, ◌∙◌, subst, append-nil, arith, drop_of_length-le}
 use Rattle.std.proofs.lemmas.List.{length-replicate}
 use Rattle.lent.specs.rules.Writing.{Wrote}
@@ -11,7 +11,7 @@ use Rattle.list.specs.laws.Stars.{length_stars}
 use Rattle.list.specs.declared.Star.{Star}
 use Rattle.list_edit.specs.rules.Edit.{add_rule, with_room, Edit}
 use Rattle.list_edit.specs.laws.First.{index_within}
-use Rattle.list_edit.specs.declared.Edited.{Edited}
+use Rattle.quantity.specs.declared.Refusal.{Refusal}
 
 -- zeros from byte n on leave the list of the n bytes before it, with room
 room_laid : (s cur : List ℕ) (n end : ℕ) → n ≤ length s → Wrote s n (replicate (length s - n) 0) cur end → cur ≡ with_room s n
@@ -24,7 +24,7 @@ room_laid s cur n end h w =
     ∙ append-nil (take n s ++ zeros)
 
 -- a star added there is one added to the list with room
-pub added_in_room : {s cur new : List ℕ} {n end : ℕ} {e : Edited} (r : Star) → n ≤ length s
+pub added_in_room : {s cur new : List ℕ} {n end : ℕ} {e : Result ⊤ Refusal} (r : Star) → n ≤ length s
     → Wrote s n (replicate (length s - n) 0) cur end → Edit (add_rule cur r) cur new e
     → Edit (add_rule (with_room s n) r) (with_room s n) new e
 added_in_room {s} {cur} {new} {n} {end} {e} r h w p =

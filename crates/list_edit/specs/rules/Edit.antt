@@ -1,13 +1,12 @@
 -- A star struck off a stored list, one added to it, and those that are kept brought forward. Refusals: 8 for bytes that are no list, before
 -- all else; strike then 10; add then 9, 18 and 19.
-use Rattle.std.specs.Prelude.{ℕ, ◌-◌, ◌≡◌, Bool, cond, not, ◌&&◌, List, ◌++◌, eqb, ltb, length, take, set, replicate}
-use Rattle.quantity.specs.rules.Answer.{Answer, answered, refused, with}
+use Rattle.std.specs.Prelude.{ℕ, ◌-◌, ◌≡◌, Bool, cond, not, ◌&&◌, List, ◌++◌, eqb, ltb, length, take, set, replicate, ⊤, Result}
+use Rattle.quantity.specs.declared.Refusal.{Refusal}
+use Rattle.quantity.specs.rules.Answer.{Answer, answered, refused, shown, with}
 use Rattle.list.specs.rules.Record.{in_range}
 use Rattle.list.specs.rules.Stars.{is_list, stars, is_kept, kept, nought, list_bytes}
 use Rattle.list.specs.rules.Find.{index_of}
 use Rattle.list.specs.declared.Star.{Star}
-use Rattle.list_edit.specs.declared.Edited.{Edited}
-use Rattle.list_edit.specs.declared.Edited.TheVariants.{Done, Refused}
 
 -- some record has the number, in range or not
 abbrev pub is_present : ℕ → List Star → Bool
@@ -51,15 +50,11 @@ with_room s n = take n s ++ replicate (length s - n) 0
 
 -- ---- what a call leaves, and what it answers
 
-abbrev pub shown_edited : Edited → Answer (Unit {0})
-shown_edited Done = answered tt
-shown_edited (Refused n) = refused n
-
 -- the bytes of an edit, or where it is refused those that stood there
 abbrev pub bytes_after : Answer (List ℕ) → List ℕ → List ℕ
 bytes_after (answered t) old = t
 bytes_after (refused n) old = old
 
-pub record Edit (edit : Answer (List ℕ)) (old new : List ℕ) (r : Edited) : Type 0 where
-  pub answer : shown_edited r ≡ with (λ (t : List ℕ). tt) edit
+pub record Edit (edit : Answer (List ℕ)) (old new : List ℕ) (r : Result ⊤ Refusal) : Type 0 where
+  pub answer : shown r ≡ with (λ (t : List ℕ). tt) edit
   pub bytes : new ≡ bytes_after edit old

@@ -1,8 +1,6 @@
+use Prim.Native.Nat.{◌-◌}
 use Rattle.list_groups.proofs.Steps.{Midway}
 use Rattle.list_groups.proofs.number_at.Given as goal
 
-abbrev pub invariant-loop-more : goal.invariant-loop-more
-invariant-loop-more l = Midway l.bytes l.at l.more l.least l.low l.weight l.p
-
-abbrev pub decreases-loop-more : goal.decreases-loop-more
-decreases-loop-more l = l.more
+abbrev pub invariant-loop : goal.invariant-loop
+invariant-loop l = Midway l.bytes l.at (4 - l.counter) l.least l.low l.weight l.p

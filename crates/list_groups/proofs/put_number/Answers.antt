@@ -7,9 +7,6 @@ use Rattle.list_groups.proofs.put_number.Goals as goal
 pub loop-rest-init : goal.loop-rest-init
 loop-rest-init c = begin _ _ _ _ (omega arith) c.within-offset.ensures
 
-pub loop-rest-smaller : goal.loop-rest-smaller
-loop-rest-smaller c = omega arith
-
 pub loop-rest-preserved : goal.loop-rest-preserved
 loop-rest-preserved c =
     step _ _ _ c.loop-rest.out c.loop-rest.offset c.loop-rest.rest c.loop-rest.invariant _ _ (omega arith) c.put_byte-offset.ensures

@@ -1,10 +1,9 @@
--- What the code's answer is on paper: a number and the offset after it, or a refusal.
-use Rattle.std.specs.Prelude.{ℕ}
-use Rattle.quantity.specs.rules.Answer.{Answer, answered, refused}
+-- What the code's answer is on paper: what was read and the offset after it, or a refusal.
+use Rattle.std.specs.Prelude.{ℕ, Result, Ok, Err}
+use Rattle.quantity.specs.declared.Refusal.{Refusal}
+use Rattle.quantity.specs.rules.Answer.{Answer, answered, refused, number}
 use Rattle.list_groups.specs.rules.Reading.{AtOffset}
-use Rattle.list_groups.specs.declared.Read.{Read}
-use Rattle.list_groups.specs.declared.Read.TheVariants.{Number, Refused}
 
-abbrev pub shown_read : Read → Answer (AtOffset ℕ)
-shown_read (Number n next) = answered (record { value = n; offset = next })
-shown_read (Refused n) = refused n
+abbrev pub shown_read : {A : Type 0} → Result (A × ℕ) Refusal → Answer (AtOffset A)
+shown_read (Ok (x, next)) = answered (record { value = x; offset = next })
+shown_read (Err e) = refused (number e)

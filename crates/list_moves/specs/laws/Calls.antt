@@ -1,14 +1,13 @@
 -- The movers' calls undo each other, each in a slice that is long enough: both are answered.
-use Rattle.std.specs.Prelude.{◌≡◌, true, List, ℕ, ◌+◌, ◌*◌, ◌≤◌, take, drop}
+use Rattle.std.specs.Prelude.{◌≡◌, true, List, ℕ, ◌+◌, ◌*◌, ◌≤◌, take, drop, Result, Ok}
 use Rattle.std.proofs.Common.{sym, ◌∙◌, arith, take_at, le-leb}
 use Rattle.std.proofs.Math.Path.{ap}
 use Rattle.std.proofs.Math.ListN.{length}
 use Rattle.quantity.specs.rules.Answer.{Answer, answered, with}
 use Rattle.quantity.specs.laws.Steps.{same_value, changed}
-use Rattle.lent.specs.declared.Written.{Written}
-use Rattle.lent.specs.declared.Written.TheVariants.{To}
 use Rattle.lent.specs.rules.Put.{room_for, laid, Put}
-use Rattle.lent.specs.laws.Put.{written_loses_nothing}
+use Rattle.quantity.specs.declared.Refusal.{Refusal}
+use Rattle.quantity.specs.laws.Answer.{shown_loses_nothing}
 use Rattle.list.specs.rules.Record.{width}
 use Rattle.list.specs.rules.Stars.{is_list, stars, list_bytes, Bytes, all_in_range}
 use Rattle.list.specs.laws.RoundTrips.{length_list}
@@ -20,14 +19,14 @@ use Rattle.list_moves.specs.notions.Moves.{HasWritten, CalledThereAndBack}
 use Rattle.list_moves.specs.laws.RoundTrips.{list_to_radio_and_back, radio_to_list_and_back}
 
 -- a text that has room is written
-written_with_room : (text : Answer (List ℕ)) (t old new : List ℕ) (r : Written) → text ≡ answered t → length t ≤ length old
+written_with_room : (text : Answer (List ℕ)) (t old new : List ℕ) (r : Result ℕ Refusal) → text ≡ answered t → length t ≤ length old
     → Put text old 0 new r → HasWritten t new r
 unfolding room_for
 written_with_room text t old new r e h p =
     let room : room_for old 0 text ≡ answered t = rw (e, le-leb (0 + length t) (length old) (omega arith)) in
     record {
       n = 0 + length t;
-      answers = written_loses_nothing r (To (0 + length t)) (p.answer ∙ rw room);
+      answers = shown_loses_nothing r (Ok (0 + length t)) (p.answer ∙ rw room);
       front = ap (take (0 + length t)) (p.slice ∙ ap (laid old 0) room) ∙ take_at t (drop (0 + length t) old) (0 + length t) (omega arith);
     }
 

@@ -1,11 +1,10 @@
 -- The two moves undo each other: stored lists and radio lists that begin with byte 3 say the same. A radio list that begins with byte 2 is
 -- written again as the list with byte 3 of the same stars.
-use Rattle.std.specs.Prelude.{◌≡◌, Bool, false, cond, List, [], ◌∷◌, ℕ, ◌+◌, ◌≤◌, length, take, drop}
+use Rattle.std.specs.Prelude.{◌≡◌, Bool, false, cond, List, [], ◌∷◌, ℕ, ◌+◌, ◌≤◌, length, take, drop, Ok}
 use Rattle.std.proofs.Math.Path.{refl, ap}
 use Rattle.std.proofs.Common.{sym, ◌∙◌, arith, take_at}
 use Rattle.std.proofs.Math.Bool.{true}
 use Rattle.quantity.specs.rules.Answer.{Answer, answered, refused, with}
-use Rattle.lent.specs.declared.Written.TheVariants.{To}
 use Rattle.lent.specs.rules.Put.{Put}
 use Rattle.lent.specs.laws.Put.{put_stands}
 use Rattle.lent.specs.laws.Flags.{both_hold}
@@ -123,7 +122,7 @@ record Text (text : Answer (List ℕ)) (new : List ℕ) (n : ℕ) : Type 0 where
   pub is : text ≡ answered t
   pub front : take n new ≡ t
 
-put_text : (text : Answer (List ℕ)) (old new : List ℕ) (n : ℕ) → Put text old 0 new (To n) → Text text new n
+put_text : (text : Answer (List ℕ)) (old new : List ℕ) (n : ℕ) → Put text old 0 new (Ok n) → Text text new n
 put_text text old new n p =
     let s = put_stands text old new 0 n p in
     record {
@@ -133,13 +132,13 @@ put_text text old new n p =
     }
 
 module _ (s old new : List ℕ) (n : ℕ) (old' new' : List ℕ) (m : ℕ) (y : Bytes s) where
-  pub moved_to_radio_and_back : Put (to_radio s) old 0 new (To n) → Put (to_list (take n new)) old' 0 new' (To m) → take m new' ≡ s
+  pub moved_to_radio_and_back : Put (to_radio s) old 0 new (Ok n) → Put (to_list (take n new)) old' 0 new' (Ok m) → take m new' ≡ s
   moved_to_radio_and_back p q =
       let a = put_text (to_radio s) old new n p in
       let b = put_text (to_list (take n new)) old' new' m q in
       b.front ∙ same_value (sym b.is ∙ ap to_list a.front ∙ to_radio_undone s a.t y a.is)
 
-  pub moved_to_list_and_back : is_moving s ≡ true → Put (to_list s) old 0 new (To n) → Put (to_radio (take n new)) old' 0 new' (To m) → take m new' ≡ s
+  pub moved_to_list_and_back : is_moving s ≡ true → Put (to_list s) old 0 new (Ok n) → Put (to_radio (take n new)) old' 0 new' (Ok m) → take m new' ≡ s
   moved_to_list_and_back e p q =
       let a = put_text (to_list s) old new n p in
       let b = put_text (to_radio (take n new)) old' new' m q in

@@ -1,11 +1,10 @@
 -- Wrong variants are excluded: each differs from the rule at the input stated. A rule varies: a library that refuses everything, or
 -- answers a constant, does not meet it.
-use Rattle.std.specs.Prelude.{ℕ, refl, List, [], ◌∷◌, ◌++◌, ◌≢◌}
+use Rattle.std.specs.Prelude.{ℕ, refl, List, [], ◌∷◌, ◌++◌, ◌≢◌, Ok}
 use Rattle.double.specs.laws.Apart.{apart}
 use Rattle.quantity.specs.notions.Code.{of_answer}
 use Rattle.quantity.specs.notions.Varies.{Varies}
 use Rattle.lent.specs.rules.Put.{Put}
-use Rattle.lent.specs.declared.Written.TheVariants.{To}
 use Rattle.lent.specs.notions.Code.{of_bytes}
 use Rattle.list_radio.specs.notions.Good.{form_bytes}
 use Rattle.list_radio.specs.laws.Wrong.{two_stars}
@@ -38,7 +37,7 @@ unfolding computed
 nine_before_eight_excluded = apart (of_answer of_bytes) refl
 
 -- the radio list of no star has two bytes, and one is put into a slice of one
-pub short_slice_written_excluded : ¬ Put (to_radio []) (0 ∷ []) 0 (3 ∷ []) (To 1)
+pub short_slice_written_excluded : ¬ Put (to_radio []) (0 ∷ []) 0 (3 ∷ []) (Ok 1)
 unfolding computed
 short_slice_written_excluded wrong = apart of_bytes refl wrong.slice
 

@@ -23,10 +23,10 @@ overflow_add-count c = omega (arith, c.count.ensures, at_most_five c.args.count)
 pub returns-then-not-has_room : goal.returns-then-not-has_room
 returns-then-not-has_room c =
     let n = c.args.count in
-    tested_no_room _ _ _ _ (head_text_lem n c.if-count-gt-MOST_STARS.false) _ (sized n _ c.count.ensures) _ c.has_room.ensures (not-true _ c.if-not-has_room.true-raw)
+    tested_no_room _ _ _ _ (head_text_lem n c.if-count-gt-MOST_STARS.false) _ (sized n _ c.count.ensures) _ c.has_room.ensures (c.if-not-has_room.true)
 
 pub returns : goal.returns
 returns c =
     let n = c.args.count in
-    tested_puts _ _ _ _ (head_text_lem n c.if-count-gt-MOST_STARS.false) _ (sized n _ c.count.ensures) _ c.has_room.ensures (not-false _ c.if-not-has_room.false-raw) _ _
+    tested_puts _ _ _ _ (head_text_lem n c.if-count-gt-MOST_STARS.false) _ (sized n _ c.count.ensures) _ c.has_room.ensures (c.if-not-has_room.false) _ _
     c.write_head.ensures

@@ -6,13 +6,13 @@ use Rattle.list_radio.specs.laws.Put.{star_text_lem, no_star_text}
 use Rattle.list_radio.proofs.put_star.Goals as goal
 
 pub returns-then-not-in_range : goal.returns-then-not-in_range
-returns-then-not-in_range c = put_refused _ _ _ _ (no_star_text _ (sym c.in_range.ensures ∙ not-true _ c.if-not-in_range.true-raw))
+returns-then-not-in_range c = put_refused _ _ _ _ (no_star_text _ (sym c.in_range.ensures ∙ c.if-not-in_range.true))
 
 pub returns-then-not-has_room : goal.returns-then-not-has_room
 returns-then-not-has_room c =
-    tested_no_room _ _ _ _ (star_text_lem _ (sym c.in_range.ensures ∙ not-false _ c.if-not-in_range.false-raw)) _ c.star_size.ensures _ c.has_room.ensures (not-true _ c.if-not-has_room.true-raw)
+    tested_no_room _ _ _ _ (star_text_lem _ (sym c.in_range.ensures ∙ c.if-not-in_range.false)) _ c.star_size.ensures _ c.has_room.ensures (c.if-not-has_room.true)
 
 pub returns : goal.returns
 returns c =
-    tested_puts _ _ _ _ (star_text_lem _ (sym c.in_range.ensures ∙ not-false _ c.if-not-in_range.false-raw)) _ c.star_size.ensures _ c.has_room.ensures (not-false _ c.if-not-has_room.false-raw) _ _
+    tested_puts _ _ _ _ (star_text_lem _ (sym c.in_range.ensures ∙ c.if-not-in_range.false)) _ c.star_size.ensures _ c.has_room.ensures (c.if-not-has_room.false) _ _
     c.write_star.ensures

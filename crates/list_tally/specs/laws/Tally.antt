@@ -6,6 +6,7 @@ use Rattle.std.proofs.Math.Bool.{cond}
 use mathlib.Core.List.{List, [], ◌∷◌, ◌++◌, append_assoc, append-nil}
 use Rattle.std.proofs.Math.ListN.{set}
 use borrow.Author.Tests.{le-leb, lt-leb, leb-true, lt-ltb, le-ltb, eq-eqb, ne_eqb}
+use Rattle.quantity.specs.rules.Answer.{checked, named}
 use Rattle.lent.specs.rules.Rows.{upto}
 use Rattle.lent.specs.laws.Flags.{at_most_one}
 use Rattle.lent.specs.laws.Upto.{get_d_upto, set_upto}
@@ -40,11 +41,21 @@ stored_raises t status = by_case (leb status highest_status) refl
 
     full : leb status highest_status ≡ true → (b : Bool) → ltb (get_or counts status 0) fullest ≡ b → stored_to t status ≡ raise_rule t status
     full e true f = simp (e, f)
-    full e false f = simp (e, f) (ap (λ (l : List ℕ). record { tally = record { counts = l }; refusal = 8 }) (same status))
+    full e false f = simp (e, f) (ap (λ (l : List ℕ). record { tally = record { counts = l }; check = named 8 }) (same status))
 
     by_case : (b : Bool) → leb status highest_status ≡ b → stored_to t status ≡ raise_rule t status
     by_case true e = full e (ltb (get_or counts status 0) fullest) refl
-    by_case false e = simp e (ap (λ (l : List ℕ). record { tally = record { counts = l }; refusal = 9 }) (same 0))
+    by_case false e = simp e (ap (λ (l : List ℕ). record { tally = record { counts = l }; check = named 9 }) (same 0))
+
+-- the check says the refusal number
+pub raise_checked : (t : Tally) (status : ℕ) → checked (raise_rule t status).check ≡ raise_refusal t status
+unfolding raise_rule raise_refusal
+raise_checked t status = by_case (leb status highest_status) (ltb (get_or t.counts status 0) fullest)
+  where
+    by_case : (b c : Bool) → checked (named (cond b (cond c 0 8) 9)) ≡ cond b (cond c 0 8) 9
+    by_case true true = refl
+    by_case true false = refl
+    by_case false c = refl
 
 -- what raising leaves, case by case
 module _ (t : Tally) (status : ℕ) where
@@ -101,11 +112,11 @@ module _ (xs : List ℕ) (x : ℕ) where
   not_refused h f = rw (le-leb x highest_status h, count_of_lem h, lt-ltb (times x xs) fullest f)
 
   -- a known status, of which there are not yet too many, is never refused
-  pub raise_more : x ≤ highest_status → times x xs < fullest → raise_rule (tally_of xs) x ≡ record { tally = tally_of more; refusal = 0 }
+  pub raise_more : x ≤ highest_status → times x xs < fullest → raise_rule (tally_of xs) x ≡ record { tally = tally_of more; check = named 0 }
   unfolding raise_rule
   raise_more h f =
-      ap (λ (n : ℕ). record { tally = cond (eqb n 0) (raised (tally_of xs) x) (tally_of xs); refusal = n }) (not_refused h f)
-      ∙ ap (λ (t : Tally). record { tally = t; refusal = 0 }) (raised_is h)
+      ap (λ (n : ℕ). record { tally = cond (eqb n 0) (raised (tally_of xs) x) (tally_of xs); check = named n }) (not_refused h f)
+      ∙ ap (λ (t : Tally). record { tally = t; check = named 0 }) (raised_is h)
 
 -- raising a tally by one status after the other gives the tally of all, where there are not too many
 raised_on : (done xs : List ℕ) → AllKnown xs → length done + length xs ≤ fullest → raised_by (tally_of done) xs ≡ tally_of (done ++ xs)

@@ -1,6 +1,7 @@
 -- Wrong variants are excluded: each differs from the rule at the input stated.
 use Rattle.std.specs.Prelude.{ℕ, ◌+◌, refl, get_or, ◌≢◌}
 use Rattle.double.specs.laws.Apart.{apart}
+use Rattle.quantity.specs.rules.Answer.{checked}
 use Rattle.list_tally.specs.declared.Tally.{Tally}
 use Rattle.list_tally.specs.declared.Raised.{Raised}
 use Rattle.list_tally.specs.rules.Status.{highest_status}
@@ -12,7 +13,7 @@ abbrev first : Tally → ℕ
 first t = get_or t.counts 0 0
 
 abbrev refusal : Raised → ℕ
-refusal r = r.refusal
+refusal r = checked r.check
 
 pub counts_start_at_one_excluded : counts_start_at_one ≢ empty
 unfolding tally_of

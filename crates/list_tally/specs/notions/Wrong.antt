@@ -1,5 +1,6 @@
 -- Wrong variants of the tally.
 use Rattle.std.specs.Prelude.{ℕ, ◌+◌, cond, leb, ltb, eqb, get_or, set}
+use Rattle.quantity.specs.rules.Answer.{named}
 use Rattle.lent.specs.rules.Rows.{upto}
 use Rattle.list_tally.specs.declared.Tally.{Tally}
 use Rattle.list_tally.specs.declared.Raised.{Raised}
@@ -17,7 +18,7 @@ counts_start_at_one = each 1
 -- raised with another refusal
 abbrev refusing : (Tally → ℕ → ℕ) → Tally → ℕ → Raised
 refusing refusal t status =
-    record { tally = cond (eqb (refusal t status) 0) (raised t status) t; refusal = refusal t status }
+    record { tally = cond (eqb (refusal t status) 0) (raised t status) t; check = named (refusal t status) }
 
 -- 8 where the count that is stored to is full, then 9
 abbrev pub eight_before_nine : Tally → ℕ → Raised
@@ -39,5 +40,5 @@ raised_by_two t status =
           cond (eqb (raise_refusal t status) 0)
           (record { counts = set t.counts status (get_or t.counts status 0 + 2) })
           t;
-      refusal = raise_refusal t status;
+      check = named (raise_refusal t status);
     }

@@ -1,5 +1,6 @@
 -- A tally: how many stars had each status. One status raises its own count.
 use Rattle.std.specs.Prelude.{ℕ, ◌+◌, ◌≤◌, cond, List, [], ◌∷◌, leb, ltb, eqb, get_or, set}
+use Rattle.quantity.specs.rules.Answer.{named}
 use Rattle.lent.specs.rules.Rows.{upto}
 use Rattle.list_tally.specs.rules.Status.{highest_status}
 use Rattle.list_tally.specs.declared.Tally.{Tally}
@@ -25,7 +26,7 @@ raised t status = record { counts = set t.counts status (get_or t.counts status 
 
 -- the tally with one count raised, or unchanged beside the refusal
 unfoldable pub raise_rule : Tally → ℕ → Raised
-raise_rule t status = record { tally = cond (eqb (raise_refusal t status) 0) (raised t status) t; refusal = raise_refusal t status }
+raise_rule t status = record { tally = cond (eqb (raise_refusal t status) 0) (raised t status) t; check = named (raise_refusal t status) }
 
 -- how many of the statuses are k
 abbrev pub times : ℕ → List ℕ → ℕ
@@ -63,5 +64,5 @@ stored_to t status =
     let n = get_or t.counts (count_of status) 0 in
     record {
       tally = record { counts = set t.counts (count_of status) (count_after status n) };
-      refusal = refusal_at status n;
+      check = named (refusal_at status n);
     }

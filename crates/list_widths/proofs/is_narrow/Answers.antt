@@ -7,6 +7,6 @@ pub returns-then-bytes-le-MOST_NARROW_BYTES : goal.returns-then-bytes-le-MOST_NA
 unfolding is_narrow
 returns-then-bytes-le-MOST_NARROW_BYTES c = simp (le-leb _ _ c.if-bytes-le-MOST_NARROW_BYTES.true)
 
-pub returns : goal.returns
+pub returns-else-bytes-le-MOST_NARROW_BYTES : goal.returns-else-bytes-le-MOST_NARROW_BYTES
 unfolding is_narrow
-returns c = simp (lt-leb _ _ c.if-bytes-le-MOST_NARROW_BYTES.false)
+returns-else-bytes-le-MOST_NARROW_BYTES c = simp (lt-leb _ _ c.if-bytes-le-MOST_NARROW_BYTES.false)

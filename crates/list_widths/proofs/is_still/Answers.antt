@@ -22,8 +22,8 @@ returns-then-size-eq0 c =
     simp (tested _ _ _ asc-rate-size (eq-eqb _ _ c.if-size-eq0.true))
     (ap (λ (n : ℕ). eqb n 0) dec-rate-size)
 
-pub returns : goal.returns
+pub returns-else-size-eq0 : goal.returns-else-size-eq0
 unfolding is_still
-returns c =
+returns-else-size-eq0 c =
     let asc-rate-size : c.size.result ≡ nat_abs c.args.star.asc_rate = c.size.ensures ∙ ap nat_abs (signed_word c.args.star.asc_rate c.struct_told-1.given.1.1.1.0.1) in
-    simp (tested _ _ _ asc-rate-size (ne_eqb _ _ c.if-size-eq0.false))
+    simp (tested _ _ _ asc-rate-size (ne_eqb _ _ c.if-size-eq0.false)) (ne_eqb _ _ c.if-size-eq0.false)

@@ -1,23 +1,19 @@
--- `list_widths::narrow_in_range` meets its contract: after i passes the first i stars are in range.
-use borrow.Author.Tests.{not-true, not-false}
-use mathlib.Core.Path.{sym, ap, ◌∙◌}
+-- `list_widths::narrow_in_range` meets its contract: whether each is in range.
+use mathlib.Core.Path.{refl, sym, ◌∙◌}
+use borrow.Author.Rules.{rules}
+use borrow.Author.Tests.{tests}
+use native.Mathlib.Omega.{arith}
+use Rattle.std.proofs.lemmas.Iterator.{cases_from_all, YieldsList-from_range}
 use Rattle.list.specs.rules.Record.{in_range}
+use Rattle.list_widths.specs.rules.Narrow.{narrow_stars}
 use Rattle.list_widths.specs.laws.Narrow.{length_narrow_stars}
-use Rattle.list_widths.specs.laws.Checked.{begun, on, stops, ends}
+use Rattle.list_widths.specs.laws.Checked.{So, NotSo, decided}
 use Rattle.list_widths.proofs.narrow_in_range.Goals as goal
 
-pub loop-i-init : goal.loop-i-init
-loop-i-init c = begun (c.narrow_count-n.ensures ∙ sym (length_narrow_stars _))
-
-pub returns-then-not-in_range : goal.returns-then-not-in_range
-returns-then-not-in_range c =
-    stops c.loop-i.invariant c.loop-i-test.true
-    (ap in_range (sym c.narrow_nth.ensures) ∙ sym c.in_range.ensures ∙ not-true _ c.if-not-in_range.true-raw)
-
-pub loop-i-preserved : goal.loop-i-preserved
-loop-i-preserved c =
-    on c.loop-i.invariant c.loop-i-test.true
-    (ap in_range (sym c.narrow_nth.ensures) ∙ sym c.in_range.ensures ∙ not-false _ c.if-not-in_range.false-raw)
-
 pub returns : goal.returns
-returns c = ends c.loop-i.invariant c.loop-i-test.false
+returns c =
+    let rs = narrow_stars c.args.bytes.now in
+    decided in_range rs _ c.narrow_count.result (c.narrow_count.ensures ∙ sym (length_narrow_stars _))
+    (cases_from_all _ _ _ (So in_range rs) (NotSo in_range rs) c.all.ensures.ran (YieldsList-from_range 0 _ _ refl (omega arith))
+    (λ x q k. search (rules, tests))
+    (λ x q k. search (rules, tests)))

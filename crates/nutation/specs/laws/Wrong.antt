@@ -4,7 +4,6 @@ use Rattle.std.specs.Prelude.{refl, false, take, ◌≢◌}
 use Rattle.std.specs.Float.{inf}
 use Rattle.double.specs.rules.Operations.{zero, one}
 use Rattle.double.specs.laws.Apart.{apart}
-use Rattle.quantity.specs.rules.Answer.{first}
 use Rattle.quantity.specs.notions.Code.{of_deg, of_first, of_answer, unread}
 use Rattle.quantity.specs.notions.Stated.{r0, r1, origin, north_pole}
 use Rattle.quantity.specs.notions.Varies.{Varies}

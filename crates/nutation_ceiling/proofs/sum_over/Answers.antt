@@ -1,6 +1,6 @@
 -- `nutation_ceiling::sum_over` meets its contract. The invariant: the sums over the rows that are left, from the sums so far, are those over
 -- all rows.
-use mathlib.Core.Path.{◌≡◌, refl, ◌∙◌}
+use mathlib.Core.Path.{◌≡◌, ◌∙◌}
 use mathlib.Core.List.{List}
 use Prim.Native.Nat.{ℕ, ◌+◌, ◌<◌}
 use native.Mathlib.Omega.{arith}
@@ -20,26 +20,17 @@ next : (xs : List (List ℤ)) (i : ℕ) (d : List ℤ) (u : Float) (s : Sums) �
 unfolding largest_sum
 next xs i d u s h = rw (drop-cons xs i d, add-one)
 
-pub loop-i-init : goal.loop-i-init
-loop-i-init c = (omega arith, refl, c.well_formed.0.1.0.1)
-
-pub overflow_add-i : goal.overflow_add-i
-overflow_add-i c = omega arith
-
-pub loop-i-smaller : goal.loop-i-smaller
-loop-i-smaller c = omega arith
-
 pub loop-i-preserved : goal.loop-i-preserved
 loop-i-preserved c =
     let inv = c.loop-i.invariant in
     let table = c.args.table in
-    let inside : c.loop-i.i < length table = omega (arith, inv.2) in
-    (omega (arith, inv.2), rw (c.with_largest-s.ensures, c.row_of.ensures) (next _ _ _ _ _ inside ∙ inv.1), inv.2)
+    let inside : c.loop-i.i < length table = omega (arith, inv.1) in
+    (rw (c.with_largest-s.ensures, c.row_of.ensures) (next _ _ _ _ _ inside ∙ inv.0), inv.1)
 
 pub returns : goal.returns
 unfolding largest_sum
 returns c =
     let loop = c.loop-i in
     let table = c.args.table in
-    let e : loop.i ≡ length table = omega (arith, loop.invariant.0, loop.invariant.2) in
-    rw (e, drop-length) at loop.invariant.1
+    let e : loop.i ≡ length table = omega (arith, loop.invariant.1) in
+    rw (e, drop-length) at loop.invariant.0

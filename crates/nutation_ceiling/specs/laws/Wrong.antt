@@ -1,6 +1,6 @@
 -- Wrong variants are excluded: each differs from the rule at the input stated. The rule varies: neither a constant nor a library that
 -- refuses everything meets it. The ceiling itself is worked out at the centuries 0 and 20 alone (laws/Ceiling).
-use Rattle.std.specs.Prelude.{ℕ, ◌≡◌, refl, false, ℤ, pos, negsuc, Float, ◌≢◌}
+use Rattle.std.specs.Prelude.{ℕ, ◌≡◌, refl, false, pos, negsuc, Float, ◌≢◌}
 use Rattle.std.proofs.Common.{sym, ◌∙◌}
 use Rattle.std.specs.Float.{inf}
 use Rattle.std.specs.Float.Ieee.{neg}

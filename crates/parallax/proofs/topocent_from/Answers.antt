@@ -1,14 +1,13 @@
 -- `parallax::topocent_from` meets its contract.
-use mathlib.Core.Path.{refl}
-use Rattle.quantity.specs.laws.Answer.{then_radians_answered, then_radians_refused}
+use Rattle.std.proofs.Common.{rules}
+use Rattle.quantity.specs.rules.Answer.{then}
 use Rattle.parallax.specs.rules.Equatorial.{topocent_from}
 use Rattle.parallax.proofs.topocent_from.Goals as goal
 
-pub returns-in-Are : goal.returns-in-Are
-unfolding topocent_from
-returns-in-Are c =
-    then_radians_answered _ c.topocent_dec.ensures c.in-Are.is refl
+pub returns-in_err-dec : goal.returns-in_err-dec
+unfolding topocent_from then
+returns-in_err-dec c = search rules
 
-pub returns-in-Refused : goal.returns-in-Refused
-unfolding topocent_from
-returns-in-Refused c = then_radians_refused _ c.topocent_dec.ensures c.in-Refused.is
+pub returns : goal.returns
+unfolding topocent_from then
+returns c = search rules

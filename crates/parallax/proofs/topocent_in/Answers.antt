@@ -1,13 +1,13 @@
 -- `parallax::topocent_in` meets its contract.
-use Rattle.quantity.specs.laws.Answer.{then_two_answered, then_two_refused}
+use Rattle.std.proofs.Common.{rules}
+use Rattle.quantity.specs.rules.Answer.{then}
 use Rattle.parallax.specs.rules.Equatorial.{topocent_in}
 use Rattle.parallax.proofs.topocent_in.Goals as goal
 
-pub returns-in-Are : goal.returns-in-Are
-unfolding topocent_in
-returns-in-Are c =
-    then_two_answered _ c.rho_in.ensures c.in-Are.is (rw (c.fold-in-Are.ensures, c.fold.ensures, c.hour_angle.ensures, c.centre_of.ensures) at c.topocent_at.ensures)
+pub returns-in_err-s : goal.returns-in_err-s
+unfolding topocent_in then
+returns-in_err-s c = search rules
 
-pub returns-in-Refused : goal.returns-in-Refused
-unfolding topocent_in
-returns-in-Refused c = then_two_refused _ c.rho_in.ensures c.in-Refused.is
+pub returns : goal.returns
+unfolding topocent_in then
+returns c = search rules

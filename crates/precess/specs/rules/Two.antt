@@ -1,4 +1,4 @@
--- Two places side by side: each with its two floats and its refusal, all of them fixed whatever is refused.
+-- Two places side by side: each with its two floats and its check, all of them fixed whatever is refused.
 -- `first_precessed` and `second_precessed` in laws/Two say that each is the place that it is alone.
 use Rattle.double.specs.rules.Operations.{◌⊕◌}
 use Rattle.quantity.specs.declared.Rad.{Rad}
@@ -8,7 +8,7 @@ use Rattle.elementary.specs.declared.Direction.{Direction}
 use Rattle.elementary.specs.rules.Direction.{direction_of}
 use Rattle.elementary_arc.specs.rules.Arcsine.{square}
 use Rattle.precess_angles.specs.declared.EqPrecession.{EqPrecession}
-use Rattle.precess_arcs.specs.rules.Arcs.{arcs_refusal, arcs_two}
+use Rattle.precess_arcs.specs.rules.Arcs.{arcs_check, arcs_two}
 use Rattle.precess.specs.rules.Equatorial.{arcs_of}
 
 unfoldable pub precessed_two_from : Direction → Direction → EqPrecession → Places
@@ -21,8 +21,8 @@ precessed_two_from d e precession =
       second_asc = p.second_asc ⊕ precession.zeta.0;
       first_dec = p.first_dec;
       second_dec = p.second_dec;
-      first_refusal = arcs_refusal a.up a.across a.height;
-      second_refusal = arcs_refusal b.up b.across b.height;
+      first_check = arcs_check a.up a.across a.height;
+      second_check = arcs_check b.up b.across b.height;
     }
 
 unfoldable pub precessed_two : Rad → Rad → Rad → Rad → EqPrecession → Places

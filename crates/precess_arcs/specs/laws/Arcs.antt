@@ -1,5 +1,5 @@
--- Both arcs of a place, by the tests that code makes, are its arctangent and its arcsine.
-use Rattle.std.specs.Prelude.{◌≡◌, Bool, true, cond, Float}
+-- Both arcs of a place, by the tests that code makes, are its arctangent and its arcsine; and the check of both shows its refusal.
+use Rattle.std.specs.Prelude.{◌≡◌, Bool, true, cond, Float, Ok, Err}
 use Rattle.std.proofs.Math.Path.{refl}
 use Rattle.std.proofs.Common.{sym, ap, ◌∙◌}
 use Rattle.std.proofs.Math.Bool.{false}
@@ -8,12 +8,25 @@ use Rattle.double.specs.rules.Operations.{one}
 use Rattle.double.specs.rules.Sign.{size}
 use Rattle.double.specs.laws.Tests.{holds, fails}
 use Rattle.quantity.specs.declared.Rad.{Rad}
-use Rattle.quantity.specs.rules.Answer.{Answer, answered, refused, Pair, pair, unless, with, then, both}
+use Rattle.quantity.specs.declared.Refusal.TheVariants as refusal
+use Rattle.quantity.specs.rules.Answer.{Answer, answered, refused, pair, checked, unless, with, then, both}
 use Rattle.root.specs.rules.Root.{root_of}
 use Rattle.elementary_arc.specs.rules.Arctangent.{both_zero, arctangent_of, arctangent_in}
 use Rattle.elementary_arc.specs.rules.Arcsine.{square, arcsine_in}
 use Rattle.elementary_arc.specs.laws.Arcsine.{arcsine_answered, arcsine_of_neither}
-use Rattle.precess_arcs.specs.rules.Arcs.{arcs_refusal}
+use Rattle.precess_arcs.specs.rules.Arcs.{arcs_refusal, arcs_check}
+
+pub arcs_checked : (up across height : Float) → checked (arcs_check up across height) ≡ arcs_refusal up across height
+unfolding arcs_check arcs_refusal
+arcs_checked up across height = by_case (both_zero up across) (le (size height) one) (lt one (size height))
+  where
+    by_case : (t u v : Bool)
+        → checked (cond t (Err refusal.NoDirection) (cond u (Ok tt) (cond v (Err refusal.Arcsine) (Err refusal.NotFinite))))
+        ≡ cond t 14 (cond u 0 (cond v 7 1))
+    by_case true u v = refl
+    by_case false true v = refl
+    by_case false false true = refl
+    by_case false false false = refl
 
 -- the declination of a height that is not refused
 abbrev pub height_arc : Float → Rad

@@ -1,15 +1,16 @@
 -- `quantity::both` meets its contract.
+use Rattle.std.proofs.Common.{rules}
 use Rattle.quantity.specs.rules.Answer.{both}
 use Rattle.quantity.proofs.both.Goals as goal
 
-pub returns-in-Are-b : goal.returns-in-Are-b
+pub returns-in_err-x : goal.returns-in_err-x
 unfolding both
-returns-in-Are-b c = rw (c.in-Are.is, c.in-Are-b.is)
+returns-in_err-x c = search rules
 
-pub returns-in-Refused-b : goal.returns-in-Refused-b
+pub returns : goal.returns
 unfolding both
-returns-in-Refused-b c = rw (c.in-Are.is, c.in-Refused-b.is)
+returns c = search rules
 
-pub returns-in-Refused : goal.returns-in-Refused
+pub returns-in_err-y : goal.returns-in_err-y
 unfolding both
-returns-in-Refused c = rw c.in-Refused.is
+returns-in_err-y c = search rules

@@ -1,11 +1,12 @@
 -- `quantity::plus` meets its contract.
+use Rattle.std.proofs.Common.{rules}
 use Rattle.quantity.specs.rules.Answer.{plus}
 use Rattle.quantity.proofs.plus.Goals as goal
 
-pub returns-in-Are : goal.returns-in-Are
+pub returns-in_err-x : goal.returns-in_err-x
 unfolding plus
-returns-in-Are c = rw c.in-Are.is
+returns-in_err-x c = search rules
 
-pub returns-in-Refused : goal.returns-in-Refused
+pub returns : goal.returns
 unfolding plus
-returns-in-Refused c = rw c.in-Refused.is
+returns c = search rules

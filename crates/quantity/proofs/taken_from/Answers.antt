@@ -1,11 +1,12 @@
 -- `quantity::taken_from` meets its contract.
+use Rattle.std.proofs.Common.{rules}
 use Rattle.quantity.specs.rules.Answer.{taken_from}
 use Rattle.quantity.proofs.taken_from.Goals as goal
 
-pub returns-in-Are : goal.returns-in-Are
+pub returns-in_err-x : goal.returns-in_err-x
 unfolding taken_from
-returns-in-Are c = rw c.in-Are.is
+returns-in_err-x c = search rules
 
-pub returns-in-Refused : goal.returns-in-Refused
+pub returns : goal.returns
 unfolding taken_from
-returns-in-Refused c = rw c.in-Refused.is
+returns c = search rules

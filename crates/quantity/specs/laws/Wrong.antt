@@ -1,11 +1,12 @@
 -- Wrong variants are excluded: each differs from the rule at the input stated.
-use Rattle.std.specs.Prelude.{refl, false, ◌≢◌}
+use Rattle.std.specs.Prelude.{refl, false, ◌≢◌, Ok, Err}
 use Rattle.std.specs.Float.{inf}
 use Rattle.double.specs.rules.Operations.{bits, zero, one}
 use Rattle.double.specs.rules.Table.{decimal}
 use Rattle.double.specs.notions.Code.{of_number}
 use Rattle.double.specs.laws.Apart.{apart}
 use Rattle.quantity.specs.declared.Places.{Places}
+use Rattle.quantity.specs.declared.Refusal.TheVariants.{Arcsine}
 use Rattle.quantity.specs.rules.Angle.{rad}
 use Rattle.quantity.specs.rules.Answer.{answered, first_place, second_place, plus, added_to, taken_from, both}
 use Rattle.quantity.specs.rules.Refusal.{lower, past, number_refusal, day_refusal, angle_refusal, latitude_refusal, steep_refusal, distance_refusal}
@@ -27,8 +28,8 @@ beside =
       second_asc = one;
       first_dec = one;
       second_dec = zero;
-      first_refusal = 7;
-      second_refusal = 0;
+      first_check = Err Arcsine;
+      second_check = Ok tt;
     }
 
 pub refused_place_answered_excluded : refused_place_answered beside ≢ first_place beside

@@ -6,7 +6,7 @@ use Rattle.double.specs.rules.Sign.{size, is_finite}
 use Rattle.quantity.specs.declared.Rad.{Rad}
 use Rattle.quantity.specs.declared.Places.{Places}
 use Rattle.quantity.specs.rules.Angle.{rad}
-use Rattle.quantity.specs.rules.Answer.{Answer, answered, refused, Pair, pair, unless, with, then}
+use Rattle.quantity.specs.rules.Answer.{Answer, answered, refused, checked, Pair, pair, unless, with, then}
 use Rattle.quantity.specs.rules.Refusal.{lower, past, outside, epoch, farthest, most_distance, most_height, latitude_refusal}
 
 -- ---- two places side by side
@@ -17,11 +17,11 @@ refused_place_answered p = answered (pair p.first_asc p.first_dec)
 
 -- refused by the other's number
 abbrev pub refused_by_the_other : Places → Answer Pair
-refused_by_the_other p = unless p.second_refusal (answered (pair p.first_asc p.first_dec))
+refused_by_the_other p = unless (checked p.second_check) (answered (pair p.first_asc p.first_dec))
 
 -- with the other's declination
 abbrev pub places_mixed : Places → Answer Pair
-places_mixed p = unless p.second_refusal (answered (pair p.second_asc p.first_dec))
+places_mixed p = unless (checked p.second_check) (answered (pair p.second_asc p.first_dec))
 
 -- ---- what is done with answers
 

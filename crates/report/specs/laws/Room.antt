@@ -33,8 +33,8 @@ use Rattle.text_answers.specs.declared.Style.{Style}
 use Rattle.text_answers.specs.declared.Style.TheVariants.{Lines, Table, Plan, PlanTable}
 use Rattle.text_answers.specs.rules.Answers.{star_text, heading_text, plan_heading_text, edition_text, head_text, count_text, count_at, tally_text}
 use Rattle.text_answers.specs.rules.Answers.{foot_text, refused_in}
+use Rattle.text_answers.specs.laws.Answers.{not_refused}
 use Rattle.report.specs.rules.Report.{line_by, text_by, stars_text, report_refusal, report_of, plan_style, plan_of, alone_text, rotated_of, room}
-use Rattle.report.specs.laws.Report.{not_refused}
 
 -- ---- what differs by the style
 

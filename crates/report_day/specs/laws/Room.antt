@@ -1,17 +1,15 @@
 -- The text of any day has room in `room` bytes.
-use Rattle.std.specs.Prelude.{ℕ, zero, suc, ◌/◌, ◌%◌, ◌≤◌, Bool, true, false, cond, List, [], ◌∷◌, ◌++◌, eqb, Float, length}
+use Rattle.std.specs.Prelude.{ℕ, zero, suc, ◌/◌, ◌%◌, ◌≤◌, Bool, true, false, cond, [], ◌∷◌, eqb, Float, length}
 use Rattle.std.proofs.Common.{arith, length-append}
 use Rattle.quantity.specs.declared.Rad.{Rad}
 use Rattle.quantity.specs.rules.Refusal.{day_refusal}
 use Rattle.sidereal.specs.rules.Mean.{mean_of}
 use Rattle.sidereal.specs.rules.Apparent.{apparent_of}
-use Rattle.text_number.specs.rules.Bytes.{ascii, point}
+use Rattle.text_number.specs.rules.Bytes.{point}
 use Rattle.text_number.specs.rules.Number.{decimal_text}
 use Rattle.text_number.specs.rules.Refused.{refused_text}
 use Rattle.text_number.specs.laws.Number.{any_decimal_short, refused_short}
-use Rattle.text_time.specs.rules.Time.{two_digits}
 use Rattle.text_time.specs.laws.Clock.{two_digits_lem}
-use Rattle.text_row.specs.rules.Place.{hours_text}
 use Rattle.text_row.specs.laws.Place.{hours_twelve_bytes}
 use Rattle.report_day.specs.rules.Digits.{whole_day, parts_of, left_of, digits_text, exact_text}
 use Rattle.report_day.specs.rules.Day.{millionths_of, six_digits, degrees_text, angle_text, open_text, day_text, day_of, room}

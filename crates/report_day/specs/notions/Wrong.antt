@@ -1,5 +1,5 @@
 -- Wrong variants of a day's text.
-use Rattle.std.specs.Prelude.{ℕ, ◌/◌, ◌%◌, Bool, List, [], ◌∷◌, ◌++◌, Float}
+use Rattle.std.specs.Prelude.{ℕ, ◌/◌, ◌%◌, Bool, List, ◌∷◌, ◌++◌, Float}
 use Rattle.quantity.specs.declared.Rad.{Rad}
 use Rattle.text_number.specs.rules.Bytes.{point}
 use Rattle.text_number.specs.rules.Number.{decimal_text}

@@ -2,10 +2,10 @@
 use Rattle.lent.specs.laws.Writing.{same}
 use Rattle.report_heading.proofs.put_found.Goals as goal
 
-pub returns-in-At : goal.returns-in-At
-returns-in-At c =
-    same (rw c.in-At.is (rw c.bearings_of-bearings.ensures)) c.put_bearings.ensures
+pub returns-in-Ok : goal.returns-in-Ok
+returns-in-Ok c =
+    same (rw c.in-Ok.is (rw c.bearings_of-bearings.ensures)) c.put_bearings.ensures
 
-pub returns-in-Refused : goal.returns-in-Refused
-returns-in-Refused c =
-    same (rw c.in-Refused.is) c.put_sight_refusal.ensures
+pub returns-in-Err : goal.returns-in-Err
+returns-in-Err c =
+    same (rw (c.in-Err.is, c.number.ensures)) c.put_sight_refusal.ensures

@@ -6,6 +6,6 @@ pub returns-in-None : goal.returns-in-None
 returns-in-None c =
     same (rw c.in-None.is) (after c.put_lines-a.ensures c.put_open.ensures)
 
-pub returns-in-At : goal.returns-in-At
-returns-in-At c =
-    same (rw c.in-At.is (rw c.mark_heading-answer.ensures)) c.put_beside.ensures
+pub returns-in-Some : goal.returns-in-Some
+returns-in-Some c =
+    same (rw c.in-Some.is (rw c.mark_heading-answer.ensures)) c.put_beside.ensures

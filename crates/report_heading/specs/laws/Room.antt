@@ -1,5 +1,5 @@
 -- The text of any sight has room in `room` bytes.
-use Rattle.std.specs.Prelude.{ℕ, ◌≤◌, List, length}
+use Rattle.std.specs.Prelude.{ℕ, ◌≤◌, List, length, Option, None, Some}
 use Rattle.std.proofs.Common.{arith, length-append}
 use Rattle.quantity.specs.declared.Deg.{Deg}
 use Rattle.quantity.specs.rules.Angle.{deg}
@@ -14,7 +14,6 @@ use Rattle.text_heading.specs.laws.Room.{sight_refusal_short, mark_refusal_short
 use Rattle.report_day.specs.laws.Room.{open_short}
 use Rattle.report_heading.specs.declared.Sight.{Sight}
 use Rattle.report_heading.specs.declared.Readings.{Readings}
-use Rattle.report_heading.specs.declared.Readings.TheVariants.{None, At}
 use Rattle.report_heading.specs.rules.Sight.{star_text, sky_from, sky_text, lines_text, beside_text, read_text, bearings_text, bearings_of}
 use Rattle.report_heading.specs.rules.Sight.{found_text, sight_text, room}
 
@@ -44,20 +43,20 @@ module _ (edition : Edition) (sight : Sight) where
       simp length-append (omega arith)
   beside_has_room heading az alt (refused n) = omega (arith, mark_refusal_short n)
 
-  read_has_room : (heading az alt : Deg) (readings : Readings) → length (read_text edition sight heading az alt readings) ≤ room
+  read_has_room : (heading az alt : Deg) (readings : Option Readings) → length (read_text edition sight heading az alt readings) ≤ room
   read_has_room heading az alt None =
       let a = lines_short edition sight heading az alt in
       let b = open_short sight.utc in
       simp length-append (omega arith)
-  read_has_room heading az alt (At star mark) = beside_has_room heading az alt (mark_heading_rule heading star mark)
+  read_has_room heading az alt (Some read) = beside_has_room heading az alt (mark_heading_rule heading read.star read.mark)
 
-  bearings_have_room : (a : Answer Triple) (readings : Readings) → length (bearings_text edition sight a readings) ≤ room
+  bearings_have_room : (a : Answer Triple) (readings : Option Readings) → length (bearings_text edition sight a readings) ≤ room
   bearings_have_room (answered (triple heading az alt)) readings = read_has_room (deg heading) (deg az) (deg alt) readings
   bearings_have_room (refused n) readings = omega (arith, sight_refusal_short n)
 
-  found_has_room : (found : Answer Entry) (readings : Readings) → length (found_text edition sight found readings) ≤ room
+  found_has_room : (found : Answer Entry) (readings : Option Readings) → length (found_text edition sight found readings) ≤ room
   found_has_room (answered e) readings = bearings_have_room (bearings_of edition e.star sight) readings
   found_has_room (refused n) readings = omega (arith, sight_refusal_short n)
 
-  pub has_room : (s : List ℕ) (readings : Readings) → length (sight_text edition s sight readings) ≤ room
+  pub has_room : (s : List ℕ) (readings : Option Readings) → length (sight_text edition s sight readings) ≤ room
   has_room s readings = found_has_room (find_rule s sight.number) readings

@@ -1,5 +1,5 @@
 -- Wrong variants are excluded: each differs from the rule at the input stated.
-use Rattle.std.specs.Prelude.{◌≡◌, refl, false, ◌++◌, ◌≢◌}
+use Rattle.std.specs.Prelude.{◌≡◌, refl, false, ◌++◌, ◌≢◌, None, Some}
 use Rattle.double.specs.rules.Operations.{bits, zero, one}
 use Rattle.double.specs.laws.Apart.{apart}
 use Rattle.quantity.specs.declared.Deg.{Deg}
@@ -9,7 +9,6 @@ use Rattle.edition.specs.declared.Edition.TheVariants.{Crate, Published}
 use Rattle.text_number.specs.rules.Bytes.{ascii}
 use Rattle.text_number.specs.notions.Code.{of_text}
 use Rattle.report_heading.specs.declared.Sight.{Sight}
-use Rattle.report_heading.specs.declared.Readings.TheVariants.{None, At}
 use Rattle.report_heading.specs.rules.Sight.{sky_text, lines_text, beside_text, bearings_text}
 use Rattle.report_heading.specs.notions.Computed.{computed}
 use Rattle.report_heading.specs.notions.Wrong.{seen_below_the_horizon, refraction_taken_away, azimuth_for_heading, edition_lost, star_for_mark}
@@ -49,7 +48,7 @@ unfolding computed
 star_for_mark_excluded = apart of_text refl
 
 -- a circle's reading past a turn: the refusal alone
-pub refused_alone : bearings_text Crate sight (answered (triple zero one one)) (At d1 (deg (bits 0x4076800000000000)))
+pub refused_alone : bearings_text Crate sight (answered (triple zero one one)) (Some (record { star = d1; mark = deg (bits 0x4076800000000000) }))
     ≡ ascii "refused 3: a reading is not from 0 to below 360 degrees: check both\n"
 unfolding computed
 refused_alone = refl

@@ -1,6 +1,6 @@
 -- The text of a sight: the observer's place, the edition where it is the published one, the star's number, its heading, azimuth and altitude, the heading of a mark where a circle
 -- was read, and that UT1 is taken for UTC, where it is. Of a refused sight its refusal alone. A text is a list of bytes.
-use Rattle.std.specs.Prelude.{ℕ, List, ◌++◌}
+use Rattle.std.specs.Prelude.{ℕ, List, ◌++◌, Option, None, Some}
 use Rattle.quantity.specs.declared.Deg.{Deg}
 use Rattle.quantity.specs.rules.Angle.{deg}
 use Rattle.quantity.specs.rules.Answer.{Answer, answered, refused, Triple, triple}
@@ -21,7 +21,6 @@ use Rattle.text_heading.specs.rules.Refusal.{sight_refusal_text, mark_refusal_te
 use Rattle.report_day.specs.rules.Day.{open_text}
 use Rattle.report_heading.specs.declared.Sight.{Sight}
 use Rattle.report_heading.specs.declared.Readings.{Readings}
-use Rattle.report_heading.specs.declared.Readings.TheVariants.{None, At}
 
 unfoldable pub star_text : ℕ → Deg → List ℕ
 star_text number heading =
@@ -43,11 +42,11 @@ abbrev pub beside_text : Edition → Sight → Deg → Deg → Deg → Answer De
 beside_text edition sight heading az alt (answered mark) = lines_text edition sight heading az alt ++ (mark_text mark ++ open_text sight.utc)
 beside_text edition sight heading az alt (refused n) = mark_refusal_text n
 
-abbrev pub read_text : Edition → Sight → Deg → Deg → Deg → Readings → List ℕ
+abbrev pub read_text : Edition → Sight → Deg → Deg → Deg → Option Readings → List ℕ
 read_text edition sight heading az alt None = lines_text edition sight heading az alt ++ open_text sight.utc
-read_text edition sight heading az alt (At star mark) = beside_text edition sight heading az alt (mark_heading_rule heading star mark)
+read_text edition sight heading az alt (Some read) = beside_text edition sight heading az alt (mark_heading_rule heading read.star read.mark)
 
-abbrev pub bearings_text : Edition → Sight → Answer Triple → Readings → List ℕ
+abbrev pub bearings_text : Edition → Sight → Answer Triple → Option Readings → List ℕ
 bearings_text edition sight (answered (triple heading az alt)) readings = read_text edition sight (deg heading) (deg az) (deg alt) readings
 bearings_text edition sight (refused n) readings = sight_refusal_text n
 
@@ -57,12 +56,12 @@ bearings_of edition star sight =
     heading_rule edition star.asc star.dec star.asc_rate star.dec_rate sight.day1 sight.day2
     (radians_of sight.long) (radians_of sight.lat)
 
-abbrev pub found_text : Edition → Sight → Answer Entry → Readings → List ℕ
+abbrev pub found_text : Edition → Sight → Answer Entry → Option Readings → List ℕ
 found_text edition sight (answered e) readings = bearings_text edition sight (bearings_of edition e.star sight) readings
 found_text edition sight (refused n) readings = sight_refusal_text n
 
 -- a star that is found has the sight's number
-abbrev pub sight_text : Edition → List ℕ → Sight → Readings → List ℕ
+abbrev pub sight_text : Edition → List ℕ → Sight → Option Readings → List ℕ
 sight_text edition s sight readings = found_text edition sight (find_rule s sight.number) readings
 
 -- bytes of the longest text, at most

@@ -5,9 +5,7 @@ use Rattle.quantity.specs.notions.Code.{of_deg}
 use Rattle.quantity.specs.rules.Angle.{deg}
 use Rattle.quantity.specs.rules.Answer.{Answer, answered, refused, Triple, triple}
 use Rattle.heading.specs.rules.Mark.{mark_heading_rule}
-use Rattle.report_marks.specs.declared.Marked.{Marked}
-use Rattle.report_marks.specs.declared.Marked.TheVariants.{Is, SightRefused, MarkRefused}
-use Rattle.report_marks.specs.rules.Marked.{mark_of, marked_by}
+use Rattle.report_marks.specs.rules.Marked.{Marked, Is, SightRefused, MarkRefused, mark_of, marked_by}
 
 -- a heading by its bits
 abbrev pub of_marked : Marked → ℕ

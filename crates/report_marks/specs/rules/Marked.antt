@@ -1,10 +1,10 @@
 -- What a sight came to: its star is looked up in the list by its number, the star's heading is that of `report_heading`, and the mark's
 -- follows from it and from what a circle reads at both. The first refusal met, by its kind: of the star, or of the mark.
-use Rattle.std.specs.Prelude.{ℕ, List, Float}
+use Rattle.std.specs.Prelude.{ℕ, List, Float, Result, Ok, Err}
 use Rattle.double.specs.rules.Pattern.{pattern_of}
 use Rattle.quantity.specs.declared.Deg.{Deg}
 use Rattle.quantity.specs.rules.Angle.{deg}
-use Rattle.quantity.specs.rules.Answer.{Answer, answered, refused, Triple, triple}
+use Rattle.quantity.specs.rules.Answer.{Answer, answered, refused, Triple, triple, number}
 use Rattle.edition.specs.declared.Edition.{Edition}
 use Rattle.list.specs.rules.Find as find
 use Rattle.list.specs.rules.Find.{find_rule}
@@ -14,8 +14,19 @@ use Rattle.text_night.specs.rules.Sights.{Entry}
 use Rattle.report_heading.specs.declared.Sight.{Sight}
 use Rattle.report_heading.specs.rules.Sight.{bearings_of}
 use Rattle.report_marks.specs.declared.Pad.{Pad}
-use Rattle.report_marks.specs.declared.Marked.{Marked}
-use Rattle.report_marks.specs.declared.Marked.TheVariants.{Is, SightRefused, MarkRefused}
+use Rattle.report_marks.specs.declared.Unmarked.{Unmarked}
+use Rattle.report_marks.specs.declared.Unmarked.TheVariants.{Sight as OfSight, Mark as OfMark}
+
+-- the mark's heading; the number of the star's refusal; or that of the mark's
+pub data Marked : Type 0 where
+  Is : Deg → Marked
+  SightRefused : ℕ → Marked
+  MarkRefused : ℕ → Marked
+
+abbrev pub shown_marked : Result Deg Unmarked → Marked
+shown_marked (Ok x) = Is x
+shown_marked (Err (OfSight e)) = SightRefused (number e)
+shown_marked (Err (OfMark e)) = MarkRefused (number e)
 
 abbrev pub mark_of : Answer Deg → Marked
 mark_of (answered x) = Is x

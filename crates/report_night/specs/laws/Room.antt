@@ -1,5 +1,5 @@
 -- Every text has room in the bytes that are named for it.
-use Rattle.std.specs.Prelude.{ℕ, ◌≤◌, ◌≡◌, Bool, cond, List, map, ℤ, length}
+use Rattle.std.specs.Prelude.{ℕ, ◌≤◌, ◌≡◌, Bool, cond, List, map, ℤ, length, Err}
 use Rattle.std.proofs.Math.Path.{refl}
 use Rattle.std.proofs.Math.Bool.{true, false}
 use native.Mathlib.Omega.{arith}
@@ -8,7 +8,7 @@ use Rattle.std.proofs.Math.ListN.{length-map}
 use Rattle.std.proofs.Common.{ltb-false}
 use Rattle.edition.specs.declared.Edition.{Edition}
 use Rattle.list.specs.rules.Stars.{most_stars}
-use Rattle.text_fields.specs.declared.Sights.TheVariants as sights
+use Rattle.text_fields.specs.declared.Stopped.TheVariants as stopped
 use Rattle.text_fields.specs.rules.Walk.{Ending, all_read, unclear_in}
 use Rattle.text_fields.specs.rules.Stored.{sights_with, stored_rule}
 use Rattle.text_night.specs.rules.Sights.{Entry, entries_of, ending_of}
@@ -41,7 +41,7 @@ module _ (edition : Edition) (pad : Pad) (s text : List ℕ) (dut1 : ℤ) where
   has_room = by_case (ltb most_stars (length es)) (ending_of dut1 text) refl
     where
       by_case : (u : Bool) (e : Ending) → ltb most_stars (length es) ≡ u
-          → Short room (sights_report (cond u sights.Full (sights_with (length es) e)) (night_text edition pad s es))
+          → Short room (sights_report (cond u (Err stopped.Full) (sights_with (length es) e)) (night_text edition pad s es))
       by_case true e h = omega arith
       by_case false (unclear_in l) h = tt
       by_case false all_read h = night_short (ltb-false most_stars (length es) h)

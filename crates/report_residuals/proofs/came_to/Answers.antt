@@ -4,20 +4,21 @@ use Rattle.list.specs.rules.Find.{shown_found}
 use Rattle.report_residuals.specs.rules.Came.{came_at, lent_came}
 use Rattle.report_residuals.proofs.came_to.Goals as goal
 
-pub returns-in-At : goal.returns-in-At
+pub returns-in-Ok : goal.returns-in-Ok
 unfolding lent_came
-returns-in-At c =
+returns-in-Ok c =
     let args = c.args in
     (λ j.
     record {
       status = c.status_at.ensures j;
       asc = c.number_at.ensures j;
-      dec = c.number_at-in-At.ensures j;
+      dec = c.number_at-in-Ok.ensures j;
     })
-    ∙ ap (came_at args.status.now args.asc.now args.dec.now) (ap shown_found (sym c.in-At.is) ∙ c.find.ensures)
+    ∙ ap (came_at args.status.now args.asc.now args.dec.now) (ap shown_found (sym c.in-Ok.is) ∙ c.find.ensures)
 
-pub returns-in-Refused : goal.returns-in-Refused
+pub returns-in-Err : goal.returns-in-Err
 unfolding lent_came
-returns-in-Refused c =
+returns-in-Err c =
     let args = c.args in
-    ap (came_at args.status.now args.asc.now args.dec.now) (ap shown_found (sym c.in-Refused.is) ∙ c.find.ensures)
+    (λ j. record { status = c.number.ensures j; asc = 0; dec = 0 })
+    ∙ ap (came_at args.status.now args.asc.now args.dec.now) (ap shown_found (sym c.in-Err.is) ∙ c.find.ensures)

@@ -1,10 +1,11 @@
 -- What the parts of the work answer and leave is the report of the night.
-use Rattle.std.specs.Prelude.{ℕ, ◌≤◌, ◌<◌, ◌≡◌, Bool, List, [], ◌∷◌, map, eqb, ltb, Float, length, take, ◌≢◌}
+use Rattle.std.specs.Prelude.{ℕ, ◌≤◌, ◌<◌, ◌≡◌, Bool, List, [], ◌∷◌, map, eqb, ltb, Float, length, take, Result, Ok}
 use Rattle.std.proofs.Math.Path.{refl, sym, ap}
 use Rattle.std.proofs.Common.{◌∙◌, arith}
 use Rattle.std.proofs.Math.Bool.{true, false, cond}
-use borrow.Author.Tests.{ltb-true, ne_eqb}
+use borrow.Author.Tests.{ltb-true}
 use Rattle.double.specs.laws.ReadBack.{zero_bits_lem}
+use Rattle.quantity.specs.declared.Refusal.{Refusal}
 use Rattle.quantity.specs.rules.Answer.{Answer, answered, refused, Pair, then, status_of}
 use Rattle.edition.specs.declared.Edition.{Edition}
 use Rattle.lent.specs.rules.Writing.{Wrote, offset_after}
@@ -13,39 +14,37 @@ use Rattle.list.specs.rules.Record.{in_range}
 use Rattle.list.specs.rules.Stars.{most_stars, is_list, count_of, stars, nth}
 use Rattle.list.specs.rules.Find.{Entry, entry_at, index_of}
 use Rattle.list.specs.laws.Stars.{length_stars}
-use Rattle.star_store.specs.declared.Tallied.{Tallied}
+use Rattle.list_tally.specs.declared.Tally.{Tally}
 use Rattle.star_store.specs.rules.Star.{first_bits, second_bits}
 use Rattle.star_store.specs.rules.Stored.{store_refusal}
 use Rattle.star_store.specs.laws.Stored.{status_at, asc_at, dec_at}
 use Rattle.batch.specs.rules.Star.{star_rule}
 use Rattle.batch.specs.rules.Batch.{Batch}
-use Rattle.text_fields.specs.declared.Sights.{Sights}
-use Rattle.text_fields.specs.declared.Sights.TheVariants as sights
+use Rattle.text_fields.specs.declared.Stopped.{Stopped}
 use Rattle.text_fields.specs.laws.Stored.{lines_front, stars_front, firsts_front, seconds_front}
 use Rattle.text_measured.specs.rules.Sight.{sight_rule}
 use Rattle.text_measured.specs.rules.Sights as measured
 use Rattle.text_measured.specs.rules.Sights.{entry_of, entries_of, sights_rule, asc_bits, dec_bits, ReadSights}
 use Rattle.report_residuals.specs.declared.Style.{Style}
 use Rattle.report_residuals.specs.declared.Came.{Came}
-use Rattle.report_residuals.specs.declared.Told.{Told}
-use Rattle.report_residuals.specs.declared.Told.TheVariants.{Text}
+use Rattle.report_residuals.specs.declared.Untold.{Untold}
 use Rattle.report_residuals.specs.rules.Came.{came_to, came_at, lent_came}
-use Rattle.report_residuals.specs.rules.Text.{Report, says, list_refused, unclear_line, too_many, sheet_refused, told_of, slice_of, length_of, Reported, sheets_report}
+use Rattle.report_residuals.specs.rules.Text.{Report, says, list_refused, unclear_line, too_many, sheet_refused, Text, shown_told, told_of, slice_of, length_of, Reported, sheets_report}
 use Rattle.report_residuals.specs.rules.Report.{night_report, sights_report, report_of, matched_report, sighted_report}
 
 -- ---- what is reported
 
-pub text_reported : {old : List ℕ} {p : Report} {t new : List ℕ} {k : ℕ} → p ≡ says t → Wrote old 0 t new k → Reported old p (Text k) new
+pub text_reported : {old : List ℕ} {p : Report} {t new : List ℕ} {k : ℕ} → p ≡ says t → Wrote old 0 t new k → Reported old p (Ok k) new
 text_reported e w = rw e (record { answer = ap Text w.offset; slice = w.text })
 
-pub as_said : {old : List ℕ} {p : Report} (q : Report) → p ≡ q → Reported old p (told_of old q) (slice_of old q)
-as_said q e = rw e (record { answer = refl; slice = refl })
+pub as_said : {old : List ℕ} {p : Report} (q : Report) (r : Result ℕ Untold) → p ≡ q → shown_told r ≡ told_of old q → Reported old p r (slice_of old q)
+as_said q r e h = rw e (record { answer = h; slice = refl })
 
-pub reported_as : {old : List ℕ} {p q : Report} {r : Told} {new : List ℕ} → p ≡ q → Reported old q r new → Reported old p r new
+pub reported_as : {old : List ℕ} {p q : Report} {r : Result ℕ Untold} {new : List ℕ} → p ≡ q → Reported old q r new → Reported old p r new
 reported_as e h = rw e h
 
 -- a text that is told lies in the slice
-pub text_inside : {old : List ℕ} {p : Report} {r : Told} {new : List ℕ} → Reported old p r new → length_of r ≤ length new
+pub text_inside : {old : List ℕ} {p : Report} {r : Result ℕ Untold} {new : List ℕ} → Reported old p r new → length_of (shown_told r) ≤ length new
 text_inside {old} {p = says t} {new = new} h =
     let w : Wrote old 0 t new (offset_after old 0 t) = record { text = h.slice; offset = refl } in
     omega (arith, inside w, ap length_of h.answer)
@@ -56,12 +55,12 @@ text_inside {p = sheet_refused n} h = omega (arith, ap length_of h.answer)
 
 -- a refused list
 pub list_refused_lem : (style : Style) (edition : Edition) (s : List ℕ) (day1 day2 : Float) (text : List ℕ) (n : ℕ)
-    → n ≡ store_refusal s day1 day2 most_stars most_stars most_stars → n ≢ 0 → report_of style edition s day1 day2 text ≡ list_refused n
+    → n ≡ store_refusal s day1 day2 most_stars most_stars most_stars → eqb n 0 ≡ false → report_of style edition s day1 day2 text ≡ list_refused n
 unfolding report_of
-list_refused_lem style edition s day1 day2 text n e h = rw (sym e, ne_eqb n 0 h)
+list_refused_lem style edition s day1 day2 text n e h = rw (sym e, h)
 
 -- a text that was read leads on by what it gave
-pub sighted_by : (style : Style) (s status asc dec text : List ℕ) (r : Sights) → r ≡ sights_rule most_stars text
+pub sighted_by : (style : Style) (s status asc dec text : List ℕ) (r : Result ℕ Stopped) → r ≡ sights_rule most_stars text
     → sighted_report style s status asc dec text
     ≡ sights_report r
     (matched_report style s status asc dec (map (λ (e : measured.Entry). e.line) (entries_of text))
@@ -69,14 +68,14 @@ pub sighted_by : (style : Style) (s status asc dec text : List ℕ) (r : Sights)
 unfolding sighted_report
 sighted_by style s status asc dec text r e =
     ap
-    (λ (q : Sights).
+    (λ (q : Result ℕ Stopped).
     sights_report q
     (matched_report style s status asc dec (map (λ (e : measured.Entry). e.line) (entries_of text))
     (map (λ (e : measured.Entry). e.number) (entries_of text)) (map asc_bits (entries_of text)) (map dec_bits (entries_of text))))
     (sym e)
 
 -- a text that was read whole leads on with its sights
-pub read_sighted : (text : List ℕ) (n : ℕ) (e : sights.Are n ≡ sights_rule most_stars text) {line star asc dec : List ℕ} {r : Sights} {line' star' asc' dec' : List ℕ}
+pub read_sighted : (text : List ℕ) (n : ℕ) (e : Ok n ≡ sights_rule most_stars text) {line star asc dec : List ℕ} {r : Result ℕ Stopped} {line' star' asc' dec' : List ℕ}
     → ReadSights most_stars text line star asc dec r line' star' asc' dec' → (style : Style) (s status ascs decs : List ℕ)
     → sighted_report style s status ascs decs text ≡ matched_report style s status ascs decs (take n line') (take n star') (take n asc') (take n dec')
 read_sighted text n e rs style s status ascs decs =
@@ -84,12 +83,12 @@ read_sighted text n e rs style s status ascs decs =
     let q = stars_front sight_rule entry_of most_stars text n e rs in
     let t = firsts_front sight_rule entry_of most_stars text n e rs in
     let u = seconds_front sight_rule entry_of most_stars text n e rs in
-    sighted_by style s status ascs decs text (sights.Are n) e
+    sighted_by style s status ascs decs text (Ok n) e
     ∙ sym (λ j. matched_report style s status ascs decs (p j) (q j) (t j) (u j))
 
 -- ---- what a star came to
 
-module _ (edition : Edition) {s : List ℕ} {day1 day2 : Float} {status asc dec : List ℕ} {r : Tallied} {status' asc' dec' : List ℕ}
+module _ (edition : Edition) {s : List ℕ} {day1 day2 : Float} {status asc dec : List ℕ} {r : Result Tally Refusal} {status' asc' dec' : List ℕ}
     (b : Batch edition s day1 day2 status asc dec r status' asc' dec')
     (none : store_refusal s day1 day2 (length status) (length asc) (length dec) ≡ 0) where
   abbrev came : Answer Pair → Came

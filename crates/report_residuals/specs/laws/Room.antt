@@ -1,5 +1,5 @@
 -- Every text has room in the bytes that are named for it.
-use Rattle.std.specs.Prelude.{ℕ, ◌≤◌, Bool, true, false, cond, ◌≡◌, refl, List, map, eqb, ltb, Float, length}
+use Rattle.std.specs.Prelude.{ℕ, ◌≤◌, Bool, true, false, cond, ◌≡◌, refl, List, map, eqb, ltb, Float, length, Err}
 use Rattle.std.proofs.Common.{arith, ltb-false}
 use Rattle.std.proofs.lemmas.List.{length-map}
 use Rattle.quantity.specs.rules.Answer.{Answer, answered, refused}
@@ -8,7 +8,7 @@ use Rattle.list.specs.rules.Stars.{most_stars}
 use Rattle.star_store.specs.rules.Stored.{store_refusal}
 use Rattle.residual_sheet.specs.declared.Sheet.{Sheet}
 use Rattle.residual_sheet.specs.rules.Residuals.{TwoSheets, two, residuals_rule}
-use Rattle.text_fields.specs.declared.Sights.TheVariants as sights
+use Rattle.text_fields.specs.declared.Stopped.TheVariants as stopped
 use Rattle.text_fields.specs.rules.Walk.{Ending, all_read, unclear_in}
 use Rattle.text_fields.specs.rules.Stored.{sights_with, stored_rule}
 use Rattle.text_measured.specs.rules.Sights.{Entry, entries_of, ending_of}
@@ -49,7 +49,7 @@ unfolding report_of stored_rule night_report
 has_room_lem style edition s day1 day2 text = by_case (eqb (store_refusal s day1 day2 most_stars most_stars most_stars) 0) (ltb most_stars (length (entries_of text))) (ending_of text) refl
   where
     by_case : (t u : Bool) (e : Ending) → ltb most_stars (length (entries_of text)) ≡ u
-        → Short room (cond t (sights_report (cond u sights.Full (sights_with (length (entries_of text)) e)) (night_report style edition s day1 day2 (entries_of text))) (list_refused (store_refusal s day1 day2 most_stars most_stars most_stars)))
+        → Short room (cond t (sights_report (cond u (Err stopped.Full) (sights_with (length (entries_of text)) e)) (night_report style edition s day1 day2 (entries_of text))) (list_refused (store_refusal s day1 day2 most_stars most_stars most_stars)))
     by_case false u e h = tt
     by_case true true e h = tt
     by_case true false (unclear_in l) h = tt

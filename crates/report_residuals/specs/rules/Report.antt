@@ -1,12 +1,12 @@
 -- A night: the list reduced, the sights of the text, each beside what its star came to, and their text in a style.
-use Rattle.std.specs.Prelude.{ℕ, ◌+◌, ◌*◌, cond, List, map, eqb, Float}
+use Rattle.std.specs.Prelude.{ℕ, ◌+◌, ◌*◌, cond, List, map, eqb, Float, Result, Ok, Err}
 use Rattle.quantity.specs.rules.Answer.{status_of}
 use Rattle.edition.specs.declared.Edition.{Edition}
 use Rattle.list.specs.rules.Stars.{most_stars}
 use Rattle.star_store.specs.rules.Star.{first_bits, second_bits}
 use Rattle.star_store.specs.rules.Stored.{store_refusal}
-use Rattle.text_fields.specs.declared.Sights.{Sights}
-use Rattle.text_fields.specs.declared.Sights.TheVariants as sights
+use Rattle.text_fields.specs.declared.Stopped.{Stopped}
+use Rattle.text_fields.specs.declared.Stopped.TheVariants as stopped
 use Rattle.text_measured.specs.rules.Sights.{Entry, entries_of, sights_rule, asc_bits, dec_bits}
 use Rattle.report_residuals.specs.declared.Style.{Style}
 use Rattle.report_residuals.specs.rules.Came.{came_to, lent_came}
@@ -22,10 +22,10 @@ night_report style edition s day1 day2 es =
     (map asc_bits es) (map dec_bits es)
 
 -- of what reading the text gave: its sights, a line that cannot be read, or more sights than a list has stars
-abbrev pub sights_report : Sights → Report → Report
-sights_report (sights.Are n) night = night
-sights_report (sights.Unclear line) night = unclear_line line
-sights_report sights.Full night = too_many
+abbrev pub sights_report : Result ℕ Stopped → Report → Report
+sights_report (Ok n) night = night
+sights_report (Err (stopped.Unclear line)) night = unclear_line line
+sights_report (Err stopped.Full) night = too_many
 
 -- the list's refusal first: 1, 2, 8; then the text's; then the sheet's
 unfoldable pub report_of : Style → Edition → List ℕ → Float → Float → List ℕ → Report

@@ -1,6 +1,6 @@
 -- The text of a night's sights, which are lent by their lines, stars, statuses, computed and measured angles, in a style.
-use Rattle.std.specs.Prelude.{ℕ, ◌≡◌, List}
-use Rattle.quantity.specs.rules.Answer.{Answer, answered, refused}
+use Rattle.std.specs.Prelude.{ℕ, ◌≡◌, List, Result, Ok, Err}
+use Rattle.quantity.specs.rules.Answer.{Answer, answered, refused, number}
 use Rattle.lent.specs.rules.Writing.{written, offset_after}
 use Rattle.residual_sheet.specs.declared.Sheet.{Sheet}
 use Rattle.residual_sheet.specs.rules.Residuals.{TwoSheets, two, residuals_rule}
@@ -8,8 +8,8 @@ use Rattle.text_residuals.specs.rules.Figures.{figures_text}
 use Rattle.text_sights.specs.rules.Sights.{sights_text, lefts_text, people_text}
 use Rattle.report_residuals.specs.declared.Style.{Style}
 use Rattle.report_residuals.specs.declared.Style.TheVariants.{People, Figures, Sights, Left}
-use Rattle.report_residuals.specs.declared.Told.{Told}
-use Rattle.report_residuals.specs.declared.Told.TheVariants.{Text, ListRefused, Unclear, TooMany, SheetRefused}
+use Rattle.report_residuals.specs.declared.Untold.{Untold}
+use Rattle.report_residuals.specs.declared.Untold.TheVariants as untold
 
 -- a text, or why there is none
 pub data Report : Type 0 where
@@ -18,6 +18,21 @@ pub data Report : Type 0 where
   unclear_line : ℕ → Report
   too_many : Report
   sheet_refused : ℕ → Report
+
+-- how long the text is, or why there is none, each refusal by its number
+pub data Told : Type 0 where
+  Text : ℕ → Told
+  ListRefused : ℕ → Told
+  Unclear : ℕ → Told
+  TooMany : Told
+  SheetRefused : ℕ → Told
+
+abbrev pub shown_told : Result ℕ Untold → Told
+shown_told (Ok k) = Text k
+shown_told (Err (untold.List e)) = ListRefused (number e)
+shown_told (Err (untold.Unclear l)) = Unclear l
+shown_told (Err untold.TooMany) = TooMany
+shown_told (Err (untold.Sheet e)) = SheetRefused (number e)
 
 -- what a call answers, and leaves in the slice: a text from its start on, or all as it was
 abbrev pub told_of : List ℕ → Report → Told
@@ -42,8 +57,8 @@ length_of (Unclear l) = 0
 length_of TooMany = 0
 length_of (SheetRefused n) = 0
 
-pub record Reported (old : List ℕ) (p : Report) (r : Told) (new : List ℕ) : Type 0 where
-  pub answer : r ≡ told_of old p
+pub record Reported (old : List ℕ) (p : Report) (r : Result ℕ Untold) (new : List ℕ) : Type 0 where
+  pub answer : shown_told r ≡ told_of old p
   pub slice : new ≡ slice_of old p
 
 unfoldable pub style_text : Style → Sheet → Sheet → List ℕ → List ℕ → List ℕ → List ℕ → List ℕ → List ℕ → List ℕ → List ℕ

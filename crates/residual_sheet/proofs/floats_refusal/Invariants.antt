@@ -1,12 +1,9 @@
 use mathlib.Core.Path.{◌≡◌}
-use Prim.Native.Nat.{◌-◌, ◌≤◌}
-use lib.ListN.{length, drop}
+use lib.ListN.{drop}
+use Rattle.quantity.specs.rules.Answer.{checked}
 use Rattle.quantity.specs.rules.Refusal.{lower}
 use Rattle.residual_sheet.specs.rules.Residuals.{floats_refusal}
 use Rattle.residual_sheet.proofs.floats_refusal.Given as goal
 
-abbrev pub invariant-loop-i : goal.invariant-loop-i
-invariant-loop-i l = (l.i ≤ length l.s) × (lower l.refusal (floats_refusal (drop l.i l.s)) ≡ floats_refusal l.s)
-
-abbrev pub decreases-loop-i : goal.decreases-loop-i
-decreases-loop-i l = length l.s - l.i
+abbrev pub invariant-loop-b : goal.invariant-loop-b
+invariant-loop-b l = lower (checked l.refusal) (floats_refusal (drop l.b-index l.s)) ≡ floats_refusal l.s

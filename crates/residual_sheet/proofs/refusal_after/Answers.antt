@@ -6,7 +6,3 @@ use Rattle.residual_sheet.proofs.refusal_after.Goals as goal
 pub returns-then-size : goal.returns-then-size
 returns-then-size c =
     near_changes_nothing _ _ (holds (rw (c.size.ensures, c.of_pattern-x.ensures) at c.if-size.true))
-
-pub returns : goal.returns
-returns c =
-    rw (c.angle_refusal.ensures, c.of_pattern-x.ensures) at c.lower.ensures

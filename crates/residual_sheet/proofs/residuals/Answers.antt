@@ -1,21 +1,21 @@
 -- `residual_sheet::residuals` meets its contract.
-use mathlib.Core.Path.{sym, ◌∙◌}
-use Rattle.quantity.specs.laws.Answer.{refuses, goes_on}
+use Rattle.std.proofs.Common.{rules}
+use mathlib.Core.Path.{sym}
 use Rattle.residual_sheet.specs.rules.Residuals.{residuals_rule}
 use Rattle.residual_sheet.specs.notions.Accepted.{Accepted}
 use Rattle.residual_sheet.specs.laws.Residuals.{slices_accepted}
 use Rattle.residual_sheet.proofs.residuals.Goals as goal
 
-pub returns-then-refusal-ne0 : goal.returns-then-refusal-ne0
+pub returns-in_err-residuals_refusal : goal.returns-in_err-residuals_refusal
 unfolding residuals_rule
-returns-then-refusal-ne0 c = refuses _ c.residuals_refusal-refusal.ensures c.if-refusal-ne0.true
+returns-in_err-residuals_refusal c = search rules
 
 pub coordinate_sheet-a-requires : goal.coordinate_sheet-a-requires
 coordinate_sheet-a-requires c =
-    let accepted : Accepted c.args.status.now c.args.asc.now c.args.dec.now c.args.measured_asc.now c.args.measured_dec.now = let a = c.args in
-    slices_accepted a.status.now a.asc.now a.dec.now a.measured_asc.now a.measured_dec.now
-    (sym c.residuals_refusal-refusal.ensures ∙ c.if-refusal-ne0.false) in
-    let a = accepted in
+    let g = c.args in
+    let a : Accepted g.status.now g.asc.now g.dec.now g.measured_asc.now g.measured_dec.now =
+    slices_accepted g.status.now g.asc.now g.dec.now g.measured_asc.now g.measured_dec.now
+    (sym c.in_ok-residuals_refusal.ensures) in
     record {
       status_len_bound = a.equal.few;
       computed_len = a.equal.first;
@@ -26,10 +26,10 @@ coordinate_sheet-a-requires c =
 
 pub coordinate_sheet-d-requires : goal.coordinate_sheet-d-requires
 coordinate_sheet-d-requires c =
-    let accepted : Accepted c.args.status.now c.args.asc.now c.args.dec.now c.args.measured_asc.now c.args.measured_dec.now = let a = c.args in
-    slices_accepted a.status.now a.asc.now a.dec.now a.measured_asc.now a.measured_dec.now
-    (sym c.residuals_refusal-refusal.ensures ∙ c.if-refusal-ne0.false) in
-    let a = accepted in
+    let g = c.args in
+    let a : Accepted g.status.now g.asc.now g.dec.now g.measured_asc.now g.measured_dec.now =
+    slices_accepted g.status.now g.asc.now g.dec.now g.measured_asc.now g.measured_dec.now
+    (sym c.in_ok-residuals_refusal.ensures) in
     record {
       status_len_bound = a.equal.few;
       computed_len = a.equal.second;
@@ -40,5 +40,4 @@ coordinate_sheet-d-requires c =
 
 pub returns : goal.returns
 unfolding residuals_rule
-returns c =
-    goes_on c.residuals_refusal-refusal.ensures c.if-refusal-ne0.false (rw (c.coordinate_sheet-d.ensures, c.coordinate_sheet-a.ensures))
+returns c = search rules

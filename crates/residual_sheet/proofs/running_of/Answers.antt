@@ -1,12 +1,11 @@
 -- `residual_sheet::running_of` meets its contract: after i passes the figures are those of the first i entries.
 use mathlib.Core.Bool.{not}
-use mathlib.Core.Path.{◌≡◌, refl, sym, ap, subst, ◌∙◌}
-use Prim.Native.Nat.{ℕ, ◌<◌}
+use mathlib.Core.Path.{refl, sym, subst, ◌∙◌}
+use Prim.Native.Nat.{◌<◌}
 use native.Mathlib.Omega.{arith}
 use lib.Dec.{T}
 use lib.Ieee.{binary64, nan_bits}
 use lib.ListN.{length, get_or}
-use Rattle.lent.specs.rules.Rows.{upto}
 use Rattle.list.specs.rules.Stars.{most_stars}
 use Rattle.residual_sheet.specs.rules.Entry.{entry_at}
 use Rattle.residual_sheet.specs.rules.Running.{running_of, AtMost}
@@ -16,32 +15,14 @@ use Rattle.residual_sheet.proofs.running_of.Goals as goal
 
 pub loop-i-init : goal.loop-i-init
 unfolding running_of
-loop-i-init c = (omega arith, refl)
+loop-i-init c = refl
 
 pub loop-i-preserved : goal.loop-i-preserved
 unfolding entry_at
 loop-i-preserved c =
-    let a = c.args in (
-      omega (arith, c.loop-i-test.true),
-      rw (c.residual_of-x.ensures, c.loop-i.invariant.1) at c.onward-r.ensures
-          ∙ one_more a.across a.status.now a.computed.now a.measured.now c.loop-i.i,
-    )
-
-pub returns : goal.returns
-returns c =
-    let i : c.loop-i.i ≡ length c.args.status.now = omega (arith, c.loop-i-test.false, c.loop-i.invariant.0) in
     let a = c.args in
-    c.loop-i.invariant.1 ∙ ap (λ (n : ℕ). running_of (upto n (entry_at a.across a.status.now a.computed.now a.measured.now))) i
-
-pub offset_bounds-computed-i : goal.offset_bounds-computed-i
-offset_bounds-computed-i c =
-    let there : c.loop-i.i < most_stars = omega (arith, c.loop-i-test.true, c.requires.status_len_bound) in
-    record { fits = omega (arith, there) }
-
-pub bounds-computed-i : goal.bounds-computed-i
-bounds-computed-i c =
-    let computed-there : c.loop-i.i < length c.args.computed.now = omega (arith, c.loop-i-test.true, c.requires.computed_len) in
-    computed-there
+    rw (c.residual_of-x.ensures, c.loop-i.invariant) at c.onward-r.ensures
+    ∙ one_more a.across a.status.now a.computed.now a.measured.now c.loop-i.i
 
 pub float_from_bits-c : goal.float_from_bits-c
 float_from_bits-c c =
@@ -65,21 +46,10 @@ float_from_bits-m c =
     let measured-no-nan : T (not (nan_bits binary64 (get_or c.args.measured.now c.loop-i.i 0))) = floats_no_nan c.args.measured.now c.loop-i.i measured-there c.requires.measured_value in
     measured-no-nan
 
-pub bounds-status-i : goal.bounds-status-i
-bounds-status-i c = c.loop-i-test.true
-
 pub onward-r-requires : goal.onward-r-requires
 onward-r-requires c =
     let there : c.loop-i.i < most_stars = omega (arith, c.loop-i-test.true, c.requires.status_len_bound) in
     let bounded : AtMost c.loop-i.i c.loop-i.r = let a = c.args in
-    subst (AtMost c.loop-i.i) (sym c.loop-i.invariant.1)
+    subst (AtMost c.loop-i.i) (sym c.loop-i.invariant)
     (first_at_most a.across a.status.now a.computed.now a.measured.now c.loop-i.i (omega (arith, there))) in
     bounded
-
-pub overflow_add-i : goal.overflow_add-i
-overflow_add-i c =
-    let there : c.loop-i.i < most_stars = omega (arith, c.loop-i-test.true, c.requires.status_len_bound) in
-    record { fits = omega (arith, there) }
-
-pub loop-i-smaller : goal.loop-i-smaller
-loop-i-smaller c = omega (arith, c.loop-i-test.true)

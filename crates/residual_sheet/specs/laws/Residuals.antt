@@ -1,5 +1,5 @@
 -- The refusals of floats, one after the other; what holds of slices that are accepted; and one answer alone meets the promise.
-use Rattle.std.specs.Prelude.{◌≡◌, Bool, true, false, not, cond, ◌&&◌, T, eqb, leb, length, drop, get_or}
+use Rattle.std.specs.Prelude.{◌≡◌, Bool, true, false, not, cond, ◌&&◌, T, eqb, leb, length, drop, get_or, Result, Ok, Err}
 use Rattle.std.proofs.Math.Path.{refl}
 use Rattle.std.proofs.Common.{sym, ap, ◌∙◌, le_of_suc-le-suc, add-one, arith, eqb→eq, leb→le, le-leb}
 use mathlib.Core.List.{List, [], ◌∷◌}
@@ -16,6 +16,8 @@ use Rattle.double.specs.laws.Between.{finite_of_size}
 use Rattle.double.specs.laws.Patterns.{finite_no_nan}
 use Rattle.quantity.specs.declared.Rad.{Rad}
 use Rattle.quantity.specs.rules.Angle.{rad}
+use Rattle.quantity.specs.declared.Refusal.{Refusal}
+use Rattle.quantity.specs.laws.Answer.{number_loses_nothing}
 use Rattle.quantity.specs.rules.Refusal.{lower, farthest, angle_refusal}
 use Rattle.quantity.specs.laws.Refusal.{finite_farthest, past_none}
 use Rattle.units.specs.notions.Nearest.{IsNearest}
@@ -23,8 +25,7 @@ use Rattle.quantity.specs.laws.Accepted.{lower_none, angle_accepted}
 use Rattle.list.specs.rules.Stars.{most_stars}
 use Rattle.residual_sheet.specs.rules.Residual.{difference, across_turn, unrounded, residual_of}
 use Rattle.residual_sheet.specs.laws.Residual.{asc_nearest, dec_nearest}
-use Rattle.residual_sheet.specs.declared.Sheets.{Sheets}
-use Rattle.residual_sheet.specs.declared.Sheets.TheVariants.{Are, Refused}
+use Rattle.residual_sheet.specs.declared.Sheet.{Sheet}
 use Rattle.residual_sheet.specs.rules.Residuals.{lengths_refusal, least_refusal, float_refusal, floats_refusal, residuals_refusal, shown_sheets}
 use Rattle.residual_sheet.specs.notions.Place.{Some, none, some, Order, less, same, more}
 use Rattle.residual_sheet.specs.notions.Accepted.{OneLength, Accepted}
@@ -199,8 +200,8 @@ module _ {status asc dec measuredAsc measuredDec : List ℕ} (a : Accepted statu
 
 -- ---- a contract `shown_sheets r ≡ rule` holds of one r only
 
-pub shown_sheets_loses_nothing : (r s : Sheets) → shown_sheets r ≡ shown_sheets s → r ≡ s
-shown_sheets_loses_nothing (Are a d) (Are b e) h = cc
-shown_sheets_loses_nothing (Are a d) (Refused n) h = cc
-shown_sheets_loses_nothing (Refused m) (Are b e) h = cc
-shown_sheets_loses_nothing (Refused m) (Refused n) h = cc
+pub shown_sheets_loses_nothing : (r s : Result (Sheet × Sheet) Refusal) → shown_sheets r ≡ shown_sheets s → r ≡ s
+shown_sheets_loses_nothing (Ok (a, d)) (Ok (b, e)) h = cc
+shown_sheets_loses_nothing (Ok (a, d)) (Err n) h = cc
+shown_sheets_loses_nothing (Err m) (Ok (b, e)) h = cc
+shown_sheets_loses_nothing (Err m) (Err n) h = ap Err (number_loses_nothing m n cc)

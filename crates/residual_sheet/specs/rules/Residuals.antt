@@ -1,13 +1,12 @@
 -- Both sheets of a night, or a refusal.
-use Rattle.std.specs.Prelude.{ℕ, Bool, true, false, cond, ◌&&◌, List, [], ◌∷◌, eqb, leb, length}
+use Rattle.std.specs.Prelude.{ℕ, Bool, true, false, cond, ◌&&◌, List, [], ◌∷◌, eqb, leb, length, Result, Ok, Err}
 use Rattle.double.specs.rules.Operations.{bits}
+use Rattle.quantity.specs.declared.Refusal.{Refusal}
 use Rattle.quantity.specs.rules.Angle.{rad}
-use Rattle.quantity.specs.rules.Answer.{Answer, answered, refused, unless}
+use Rattle.quantity.specs.rules.Answer.{Answer, answered, refused, number, unless}
 use Rattle.quantity.specs.rules.Refusal.{lower, angle_refusal}
 use Rattle.list.specs.rules.Stars.{most_stars}
 use Rattle.residual_sheet.specs.declared.Sheet.{Sheet}
-use Rattle.residual_sheet.specs.declared.Sheets.{Sheets}
-use Rattle.residual_sheet.specs.declared.Sheets.TheVariants.{Are, Refused}
 use Rattle.residual_sheet.specs.rules.Entry.{entries_of}
 use Rattle.residual_sheet.specs.rules.Sheet.{figures_of, sheet_of}
 
@@ -44,9 +43,9 @@ sheet_in across status computed measured = sheet_of (figures_of (entries_of acro
 pub data TwoSheets : Type 0 where
   two : Sheet → Sheet → TwoSheets
 
-abbrev pub shown_sheets : Sheets → Answer TwoSheets
-shown_sheets (Are a d) = answered (two a d)
-shown_sheets (Refused n) = refused n
+abbrev pub shown_sheets : Result (Sheet × Sheet) Refusal → Answer TwoSheets
+shown_sheets (Ok (a, d)) = answered (two a d)
+shown_sheets (Err n) = refused (number n)
 
 unfoldable pub residuals_rule : List ℕ → List ℕ → List ℕ → List ℕ → List ℕ → Answer TwoSheets
 residuals_rule status asc dec measuredAsc measuredDec =

@@ -1,6 +1,6 @@
 -- `root::is_digit` meets its contract: no difference that passes its test has wrapped.
 -- ---- at the start
-use Rattle.std.proofs.Common.{◌≡◌, ℕ, zero, suc, ◌+◌, ◌-◌, ◌*◌, ◌/◌, ◌%◌, ◌^◌, ◌<◌, ◌≤◌, true, false, sym, refl, ap, ◌∙◌, true≢false, mul-le-mul_right, div-lt_iff_lt-mul, mul-le-mul, mul-le-mul_left, mul-lt-mul_of_pos_right, le-div_iff_mul-le, le_of_mul-le-mul_right, arith, pow_pos, pow_mono, pow-add, leb-false, leb-true}
+use Rattle.std.proofs.Common.{◌≡◌, ℕ, zero, suc, ◌+◌, ◌-◌, ◌*◌, ◌/◌, ◌%◌, ◌^◌, ◌<◌, ◌≤◌, sym, refl, ap, ◌∙◌, true≢false, mul-le-mul_right, div-lt_iff_lt-mul, mul-le-mul, mul-le-mul_left, mul-lt-mul_of_pos_right, le-div_iff_mul-le, le_of_mul-le-mul_right, arith, pow_pos, pow_mono, pow-add, leb-false, leb-true}
 use Rattle.root.specs.rules.Whole.{IsDigit}
 use Rattle.root.proofs.is_digit.Goals as goal
 

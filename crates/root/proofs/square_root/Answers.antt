@@ -1,7 +1,7 @@
 -- `root::square_root` meets its contract: no normal number above zero is refused.
-use Rattle.std.proofs.Common.{T, sym, ap, ◌∙◌, subst}
+use Rattle.std.proofs.Common.{rules}
+use Rattle.std.proofs.Common.{rules, T, sym, ap, ◌∙◌, subst}
 use Rattle.quantity.specs.rules.Answer.{answered}
-use Rattle.quantity.specs.laws.Answer.{refuses, goes_on}
 use Rattle.root.specs.rules.Root.{root_rule}
 use Rattle.root.specs.laws.Root.{root_answered}
 use Rattle.root.specs.laws.Tests.{normal_tested}
@@ -13,10 +13,10 @@ returns-then-x-2 c =
     let n = normal_tested x (subst T (sym c.well_formed.0.1) tt) c.if-x.true c.if-x-2.true in
     ap answered c.normal_root.ensures ∙ sym (root_answered x n.above.finite n.plus)
 
-pub returns-then-refusal-ne0 : goal.returns-then-refusal-ne0
+pub returns-in_err-root_refusal : goal.returns-in_err-root_refusal
 unfolding root_rule
-returns-then-refusal-ne0 c = refuses _ c.root_refusal-refusal.ensures c.if-refusal-ne0.true
+returns-in_err-root_refusal c = search rules
 
 pub returns : goal.returns
 unfolding root_rule
-returns c = goes_on c.root_refusal-refusal.ensures c.if-refusal-ne0.false (ap answered c.root_of.ensures)
+returns c = search rules

@@ -1,16 +1,12 @@
 -- The bits of a root.
-use Rattle.std.specs.Prelude.{◌≡◌, ℕ, Float}
+use Rattle.std.specs.Prelude.{◌≡◌, ℕ, Float, Result, Ok, Err}
 use Rattle.std.proofs.Common.{sym, ap, ◌∙◌}
 use Rattle.double.specs.rules.Pattern.{pattern_of}
 use Rattle.double.specs.laws.ReadBack.{pattern_bits}
-use Rattle.quantity.specs.declared.One.{One}
-use Rattle.quantity.specs.declared.One.TheVariants.{Is, Refused}
-use Rattle.quantity.specs.rules.Answer.{Answer, answered, refused, shown, with}
-use Rattle.root.specs.declared.Bits.{Bits}
-use Rattle.root.specs.declared.Bits.TheVariants as bits
+use Rattle.quantity.specs.declared.Refusal.{Refusal}
+use Rattle.quantity.specs.rules.Answer.{Answer, answered, refused, number, shown, with}
 use Rattle.root.specs.rules.Nearest.{twice_root_squared}
 use Rattle.root.specs.rules.Root.{root_pattern, root_of, root_rule}
-use Rattle.root.specs.rules.Bits.{shown_bits}
 use Rattle.root.specs.notions.Steps.{IsNormal}
 use Rattle.root.specs.laws.Normal.{above_zero_normal}
 use Rattle.root.specs.laws.Nearest.{pattern_finite}
@@ -25,15 +21,10 @@ normal_bits_answered x n =
     ∙ ap answered (pattern_bits _ (pattern_finite (above_zero_normal x n.above).2)))
 
 -- each case of an answer
-pub bits_answered : {r : One} {a : Answer Float} {y : Float} {b : ℕ}
-    → shown r ≡ a → r ≡ Is y → b ≡ pattern_of y → answered b ≡ with pattern_of a
+pub bits_answered : {r : Result Float Refusal} {a : Answer Float} {y : Float} {b : ℕ}
+    → shown r ≡ a → r ≡ Ok y → b ≡ pattern_of y → answered b ≡ with pattern_of a
 bits_answered p e q = rw (← p, e) (ap answered q)
 
-pub bits_refused : {r : One} {a : Answer Float} {n : ℕ} → shown r ≡ a → r ≡ Refused n → refused n ≡ with pattern_of a
+pub bits_refused : {r : Result Float Refusal} {a : Answer Float} {n : Refusal} → shown r ≡ a → r ≡ Err n
+    → refused (number n) ≡ with pattern_of a
 bits_refused p e = rw (← p, e)
-
-pub shown_bits_loses_nothing : (r s : Bits) → shown_bits r ≡ shown_bits s → r ≡ s
-shown_bits_loses_nothing (bits.Are a) (bits.Are b) e = cc
-shown_bits_loses_nothing (bits.Are a) (bits.Refused n) e = cc
-shown_bits_loses_nothing (bits.Refused m) (bits.Are b) e = cc
-shown_bits_loses_nothing (bits.Refused m) (bits.Refused n) e = cc

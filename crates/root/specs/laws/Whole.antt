@@ -1,5 +1,5 @@
 -- `whole_root` finds the whole part of a root; there is one only; its digits can be found several at once.
-use Rattle.std.specs.Prelude.{◌≡◌, ℕ, zero, suc, ◌+◌, ◌-◌, ◌*◌, ◌/◌, ◌%◌, ◌^◌, ◌<◌, ◌≤◌, Bool, true, false, cond, ◌⊎◌, nat_le, nat_lt, refl}
+use Rattle.std.specs.Prelude.{◌≡◌, ℕ, zero, suc, ◌+◌, ◌-◌, ◌*◌, ◌/◌, ◌^◌, ◌<◌, ◌≤◌, Bool, true, false, cond, ◌⊎◌, nat_le, nat_lt, refl}
 use Rattle.std.proofs.Common.{sym, subst, inl, inr, lt_of_le_of_lt, le-div_iff_mul-le, div-lt_iff_lt-mul, mul-le-mul, mul-le-mul_left, mul-le-mul_right, mul-lt-mul_of_pos_right, leb-true, leb-false, lt-ltb, le-ltb}
 use Rattle.std.proofs.Math.Nat.{lt_of_lt_of_le, le_of_mul-le-mul_left, pow-succ'}
 use native.Mathlib.Omega.{arith}

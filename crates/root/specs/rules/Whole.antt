@@ -1,5 +1,5 @@
 -- The whole part of a whole number's square root.
-use Rattle.std.specs.Prelude.{ℕ, zero, suc, ◌+◌, ◌-◌, ◌*◌, ◌/◌, ◌<◌, ◌≤◌, cond, nat_le}
+use Rattle.std.specs.Prelude.{ℕ, zero, suc, ◌+◌, ◌*◌, ◌/◌, ◌<◌, ◌≤◌, cond, nat_le}
 
 pub record IsWholeRoot (n s : ℕ) : Type 0 where
   pub under : s * s ≤ n

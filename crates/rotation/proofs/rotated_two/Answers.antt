@@ -5,4 +5,4 @@ use Rattle.rotation.proofs.rotated_two.Goals as goal
 pub returns : goal.returns
 unfolding rotated_two
 returns c =
-    rw (c.arcs_two-arcs.ensures, c.arcsine_root-root2.ensures, c.arcsine_root-root.ensures, c.arcs_refusal-second_refusal.ensures, c.arcs_refusal-first_refusal.ensures, c.vector_under-w.ensures, c.vector_under-v.ensures)
+    rw (c.arcs_two-arcs.ensures, c.arcsine_root-root2.ensures, c.arcsine_root-root.ensures, c.arcs_refusal-second_check.ensures, c.arcs_refusal-first_check.ensures, c.vector_under-w.ensures, c.vector_under-v.ensures)

@@ -18,9 +18,9 @@ use Rattle.helpers.specs.rules.Time.{century_of}
 use Rattle.precess_angles.specs.declared.EqAngles.{EqAngles}
 use Rattle.precess_angles.specs.rules.Days.{span_of}
 use Rattle.precess_angles.specs.rules.Equatorial.{eq_theta, eq_angles_of}
-use Rattle.rotation.specs.rules.Matrix.{Vector, Matrix, part, row, entry, vector, product}
+use Rattle.rotation.specs.rules.Matrix.{Vector, Matrix, part, entry, vector, product}
 use Rattle.rotation.specs.rules.Turns.{about_y, about_z, minus, rotation_by, rotation_of}
-use Rattle.rotation.specs.rules.Place.{vector_of, place_along, turned, rotated_in}
+use Rattle.rotation.specs.rules.Place.{vector_of, place_along}
 
 -- ---- one turn
 

@@ -10,7 +10,7 @@ use Rattle.elementary.specs.declared.Direction.{Direction}
 use Rattle.elementary.specs.rules.Direction.{direction_of}
 use Rattle.elementary_arc.specs.rules.Arctangent.{arctangent_in}
 use Rattle.elementary_arc.specs.rules.Arcsine.{square, arcsine_in}
-use Rattle.precess_arcs.specs.rules.Arcs.{arcs_refusal, arcs_two}
+use Rattle.precess_arcs.specs.rules.Arcs.{arcs_check, arcs_two}
 use Rattle.rotation.specs.rules.Matrix.{Vector, Matrix, part, applied}
 
 -- (cos δ·cos α, cos δ·sin α, sin δ)
@@ -51,6 +51,6 @@ rotated_two m d e =
       second_asc = arcs.second_asc;
       first_dec = arcs.first_dec;
       second_dec = arcs.second_dec;
-      first_refusal = arcs_refusal (part v 1) (part v 0) (part v 2);
-      second_refusal = arcs_refusal (part w 1) (part w 0) (part w 2);
+      first_check = arcs_check (part v 1) (part v 0) (part v 2);
+      second_check = arcs_check (part w 1) (part w 0) (part w 2);
     }

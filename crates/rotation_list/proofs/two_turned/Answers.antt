@@ -32,5 +32,5 @@ returns c =
     c.arcs_two-arcs.ensures
     (c.two_sin_cos_of-next_ascs.ensures ∙ (λ j. two_sin_cos_of (c.asc_of-first_asc.ensures j) (c.asc_of-second_asc.ensures j)))
     (c.two_sin_cos_of-next_decs.ensures ∙ (λ j. two_sin_cos_of (decs j) (decs2 j)))
-    (c.star_refusal-first_refusal.ensures ∙ (λ j. refused_at begin.first (decs j)))
-    (c.star_refusal-second_refusal.ensures ∙ (λ j. refused_at begin.second (decs2 j)))
+    (c.star_refusal-first_check.ensures ∙ (λ j. refused_at begin.first (decs j)))
+    (c.star_refusal-second_check.ensures ∙ (λ j. refused_at begin.second (decs2 j)))

@@ -1,5 +1,5 @@
 -- What is stored of a star's answer are doubles, so that their bits read back as they are.
-use Rattle.std.specs.Prelude.{ℕ, Bool, true, false, cond, T, Float}
+use Rattle.std.specs.Prelude.{Bool, true, false, cond, T, Float}
 use Rattle.std.specs.Float.{nan, inf, fin, binary64}
 use Rattle.std.specs.Float.Ieee.{fits, le, lt}
 use Rattle.std.specs.Float.Ieee.Fits.{cond-fits, neg-fits, add-fits, sub-fits}

@@ -6,11 +6,11 @@ use Rattle.double.specs.rules.Operations.{one}
 use Rattle.double.specs.laws.Apart.{apart}
 use Rattle.quantity.specs.rules.Answer.{first_place}
 use Rattle.quantity.specs.rules.Refusal.{epoch}
-use Rattle.quantity.specs.notions.Code.{of_answer, of_first, of_second}
+use Rattle.quantity.specs.notions.Code.{of_answer, of_second}
 use Rattle.quantity.specs.notions.Stated.{earlier}
 use Rattle.quantity.specs.notions.Varies.{Varies}
 use Rattle.edition.specs.declared.Edition.{Edition}
-use Rattle.edition.specs.declared.Edition.TheVariants.{Crate, Published}
+use Rattle.edition.specs.declared.Edition.TheVariants.{Crate}
 use Rattle.lent.specs.notions.Code.{of_bytes}
 use Rattle.list.specs.declared.Star.{Star}
 use Rattle.list.specs.rules.Record.{in_range}

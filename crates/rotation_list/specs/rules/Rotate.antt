@@ -1,15 +1,16 @@
 -- Every star of a list under the rotation of two days, stored as star_store says.
-use Rattle.std.specs.Prelude.{ℕ, List, Float}
+use Rattle.std.specs.Prelude.{ℕ, List, Float, Result}
 use Rattle.double.specs.rules.Operations.{zero}
 use Rattle.quantity.specs.declared.Places.{Places}
-use Rattle.quantity.specs.rules.Answer.{Answer, Pair, unless}
+use Rattle.quantity.specs.declared.Refusal.{Refusal}
+use Rattle.list_tally.specs.declared.Tally.{Tally}
+use Rattle.quantity.specs.rules.Answer.{checked, named, Answer, Pair, unless}
 use Rattle.edition.specs.declared.Edition.{Edition}
 use Rattle.elementary.specs.declared.Direction.{Direction}
 use Rattle.elementary.specs.declared.TwoSinCos.{TwoSinCos}
 use Rattle.elementary.specs.rules.Sine.{two_sin_cos_of}
 use Rattle.list.specs.declared.Star.{Star}
 use Rattle.star_place.specs.rules.Place.{years_between, asc_of, dec_of}
-use Rattle.star_store.specs.declared.Tallied.{Tallied}
 use Rattle.star_store.specs.rules.Star.{star_refusal, earlier}
 use Rattle.star_store.specs.rules.Stored.{StarsStored}
 use Rattle.rotation.specs.rules.Matrix.{Matrix}
@@ -31,8 +32,8 @@ two_stars_rotated m years a b =
       second_asc = p.second_asc;
       first_dec = p.first_dec;
       second_dec = p.second_dec;
-      first_refusal = earlier (star_refusal a years) p.first_refusal;
-      second_refusal = earlier (star_refusal b years) p.second_refusal;
+      first_check = named (earlier (star_refusal a years) (checked p.first_check));
+      second_check = named (earlier (star_refusal b years) (checked p.second_check));
     }
 
 -- ---- how it is done: two stars' places, and meanwhile the next two stars
@@ -53,8 +54,8 @@ two_turned m ascs decs years a b =
       places = rotated_two m (first_aimed ascs decs) (second_aimed ascs decs);
       ascs = two_sin_cos_of (asc_of a years) (asc_of b years);
       decs = two_sin_cos_of (dec_of a years) (dec_of b years);
-      first_refusal = star_refusal a years;
-      second_refusal = star_refusal b years;
+      first_check = named (star_refusal a years);
+      second_check = named (star_refusal b years);
     }
 
 -- what the first turn begins with
@@ -66,5 +67,5 @@ abbrev pub rotated_on : Edition → Float → Float → Star → Answer Pair
 rotated_on edition day1 day2 star = rotated_star (rotation_of edition day1 day2) (years_between day1 day2) star
 
 -- what a call leaves
-abbrev pub Rotated : Edition → List ℕ → Float → Float → List ℕ → List ℕ → List ℕ → Tallied → List ℕ → List ℕ → List ℕ → Type 0
+abbrev pub Rotated : Edition → List ℕ → Float → Float → List ℕ → List ℕ → List ℕ → Result Tally Refusal → List ℕ → List ℕ → List ℕ → Type 0
 Rotated edition s day1 day2 = StarsStored (rotated_on edition day1 day2) s day1 day2

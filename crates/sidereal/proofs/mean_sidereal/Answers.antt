@@ -1,12 +1,12 @@
 -- `sidereal::mean_sidereal` meets its contract.
-use Rattle.quantity.specs.laws.Answer.{refuses, goes_on}
+use Rattle.std.proofs.Common.{rules}
 use Rattle.sidereal.specs.rules.Mean.{mean_sidereal_rule}
 use Rattle.sidereal.proofs.mean_sidereal.Goals as goal
 
-pub returns-then-refusal-ne0 : goal.returns-then-refusal-ne0
+pub returns-in_err-day_refusal : goal.returns-in_err-day_refusal
 unfolding mean_sidereal_rule
-returns-then-refusal-ne0 c = refuses _ c.day_refusal-refusal.ensures c.if-refusal-ne0.true
+returns-in_err-day_refusal c = search rules
 
 pub returns : goal.returns
 unfolding mean_sidereal_rule
-returns c = goes_on c.day_refusal-refusal.ensures c.if-refusal-ne0.false (rw c.mean_on.ensures)
+returns c = search rules

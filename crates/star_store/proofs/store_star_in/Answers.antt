@@ -4,6 +4,7 @@ use mathlib.Core.List.{List}
 use Prim.Native.Nat.{ℕ}
 use Rattle.list_tally.specs.declared.Tally.{Tally}
 use Rattle.list_tally.specs.rules.Tally.{raise_rule}
+use Rattle.quantity.specs.rules.Answer.{checked}
 use Rattle.star_store.specs.laws.StarStored.{status_is}
 use Rattle.star_store.proofs.store_star_in.Goals as goal
 
@@ -11,6 +12,6 @@ pub returns : goal.returns
 returns c =
     let begin = c.args in
     let placed = c.put_star.ensures in
-    let status = status_is begin.refusal begin.a begin.d in
+    let status = status_is (checked begin.refusal) begin.a begin.d in
     let tally : Tally = record { counts = begin.counts.now } in
-    record { raised = ap (λ (l : List ℕ). record { counts = l }) c.raise_in.ensures ∙ ap (λ (n : ℕ). (raise_rule tally n).tally) status; status_set = placed.status_set; asc_set = placed.asc_set; dec_set = placed.dec_set }
+    record { raised = ap (λ (l : List ℕ). record { counts = l }) (rw c.status_of.ensures at c.raise_in.ensures) ∙ ap (λ (n : ℕ). (raise_rule tally n).tally) status; status_set = placed.status_set; asc_set = placed.asc_set; dec_set = placed.dec_set }

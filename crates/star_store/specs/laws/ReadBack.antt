@@ -1,5 +1,5 @@
 -- What is stored of a star's answer are doubles, so that their bits read back as they are.
-use Rattle.std.specs.Prelude.{Bool, true, false, cond, ℕ, T, eqb, Float}
+use Rattle.std.specs.Prelude.{Bool, true, false, cond, ℕ, T, eqb}
 use Rattle.std.specs.Float.{binary64}
 use Rattle.std.specs.Float.Ieee.{fits}
 use Rattle.std.specs.Float.Ieee.Bits.{of_bits-fits}

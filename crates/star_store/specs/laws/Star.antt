@@ -1,12 +1,15 @@
 -- A star's own refusals: they come before those of its place, alone or beside another star; and what holds of a star that they let pass.
-use Rattle.std.specs.Prelude.{ℕ, suc, ◌≡◌, refl, Bool, true, false, cond, pos, Float}
+use Rattle.std.specs.Prelude.{ℕ, suc, ◌≡◌, refl, Bool, true, false, cond, pos, eqb, ⊤, Float, Result}
 use Rattle.std.proofs.Common.{arith, ap, ◌∙◌}
 use Rattle.std.proofs.Math.Dec.{eqb-suc-zero}
 use Rattle.std.specs.Float.Ieee.{neg}
 use Rattle.double.specs.rules.Order.{Between}
 use Rattle.double.specs.rules.Table.{over}
 use Rattle.quantity.specs.rules.Angle.{HALF}
-use Rattle.quantity.specs.rules.Answer.{Answer, answered, refused, Pair, unless}
+use Rattle.quantity.specs.declared.Refusal.{Refusal}
+use Rattle.quantity.specs.notions.Named.{IsNamed}
+use Rattle.quantity.specs.laws.Answer.{named_latitude}
+use Rattle.quantity.specs.rules.Answer.{Answer, answered, refused, checked, named, Pair, unless}
 use Rattle.quantity.specs.rules.Refusal.{day_refusal, angle_refusal, latitude_refusal}
 use Rattle.quantity.specs.laws.Refusal.{past_none, finite_half}
 use Rattle.quantity.specs.laws.Accepted.{lower_none}
@@ -29,6 +32,23 @@ in_its_lane star years n p place h = by_case (star_refusal star years) ∙ ap (u
     by_case : (m : ℕ) → unless (earlier m n) (answered p) ≡ unless m (unless n (answered p))
     by_case ℕ.zero = refl
     by_case (suc m) = rw (eqb-suc-zero m, eqb-suc-zero m)
+
+-- both are numbers of the table
+pub star_named : (star : Star) (years : Float) → IsNamed (star_refusal star years)
+unfolding star_refusal
+star_named star years = by_case (is_kept star) (in_range star)
+  where
+    by_case : (k b : Bool) → IsNamed (cond k (cond b (latitude_refusal (dec_of star years)) 9) 10)
+    by_case true true = named_latitude (dec_of star years)
+    by_case true false = refl
+    by_case false b = refl
+
+pub earlier_named : (m : ℕ) (c : Result ⊤ Refusal) → IsNamed m → IsNamed (checked c) → checked (named (earlier m (checked c))) ≡ earlier m (checked c)
+earlier_named m c h k = by_case (eqb m 0)
+  where
+    by_case : (b : Bool) → IsNamed (cond b (checked c) m)
+    by_case true = k
+    by_case false = h
 
 -- an empty place is 10 whatever stands behind its number, and a kept record out of range is 9 whatever the rest
 pub empty_place : (star : Star) (years : Float) → is_kept star ≡ false → star_refusal star years ≡ 10

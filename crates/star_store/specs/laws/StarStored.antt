@@ -1,9 +1,11 @@
 -- A call that stores its stars one after the other, each at its place, leaves what is promised, by any rule of a star.
-use Rattle.std.specs.Prelude.{ℕ, ◌+◌, ◌≤◌, ◌<◌, ◌≡◌, refl, Bool, true, false, cond, List, ◌++◌, map, T, eqb, Float, length, drop}
+use Rattle.std.specs.Prelude.{ℕ, ◌+◌, ◌≤◌, ◌<◌, ◌≡◌, refl, Bool, true, false, cond, List, ◌++◌, map, T, eqb, Float, length, drop, Ok, Err}
 use Rattle.std.proofs.Common.{sym, ap, ◌∙◌, arith, eqb→eq, eq-eqb}
 use Rattle.double.specs.rules.Operations.{zero}
 use Rattle.double.specs.rules.Pattern.{pattern_of}
-use Rattle.quantity.specs.rules.Answer.{Answer, answered, refused, Pair, pair, unless, status_of}
+use Rattle.quantity.specs.declared.Refusal.{Refusal}
+use Rattle.quantity.specs.laws.Answer.{number_not_none}
+use Rattle.quantity.specs.rules.Answer.{Answer, answered, refused, number, Pair, pair, unless, status_of}
 use Rattle.lent.specs.laws.Rows.{start, store, finish}
 use Rattle.list.specs.declared.Star.{Star}
 use Rattle.list.specs.rules.Stars.{most_stars, count_of, nth}
@@ -11,7 +13,7 @@ use Rattle.list.specs.laws.Stars.{few}
 use Rattle.list_tally.specs.declared.Tally.{Tally}
 use Rattle.list_tally.specs.rules.Tally.{raise_rule, tally_of, empty}
 use Rattle.star_store.specs.rules.Star.{first_bits, second_bits}
-use Rattle.star_store.specs.rules.Stored.{answers_by, StarsStored}
+use Rattle.star_store.specs.rules.Stored.{answers_by, store_refusal, StarsStored}
 use Rattle.star_store.specs.notions.Accepted.{Accepted}
 use Rattle.star_store.specs.notions.StarStored.{StarStored, Begun, Upto}
 use Rattle.star_store.specs.laws.Stored.{accepted, how_many_lem, value, raised_at, raised_all}
@@ -91,7 +93,7 @@ module _ {rule : Star → Answer Pair} {s : List ℕ} {day1 day2 : Float} {statu
 
     -- no star is left, and the answers are those of the rule that is promised
     pub all_stars_stored : {promise : Star → Answer Pair} → answers_by rule s ≡ answers_by promise s → i ≡ count_of s
-        → StarsStored promise s day1 day2 status₀ asc₀ dec₀ (record { refusal = 0; tally = tally }) status asc dec
+        → StarsStored promise s day1 day2 status₀ asc₀ dec₀ (Ok tally) status asc dec
     all_stars_stored same end =
         let goes = eq-eqb _ 0 b.none in
         let every = raised_all rule b.known s i end in
@@ -101,3 +103,17 @@ module _ {rule : Star → Answer Pair} {s : List ℕ} {day1 day2 : Float} {statu
           ascs = simp goes (finish _ _ _ (all first_bits) _ _ end u.ascs ∙ ap (laid first_bits _) same);
           decs = simp goes (finish _ _ _ (all second_bits) _ _ end u.decs ∙ ap (laid second_bits _) same);
         }
+
+-- a call that is refused leaves all as it was
+pub refused_stores_nothing : {rule : Star → Answer Pair} (s : List ℕ) (day1 day2 : Float) (status asc dec : List ℕ) (e : Refusal)
+    → number e ≡ store_refusal s day1 day2 (length status) (length asc) (length dec)
+    → StarsStored rule s day1 day2 status asc dec (Err e) status asc dec
+refused_stores_nothing s day1 day2 status asc dec e h =
+    let refused : eqb (store_refusal s day1 day2 (length status) (length asc) (length dec)) 0 ≡ false =
+    ap (λ (n : ℕ). eqb n 0) (sym h) ∙ number_not_none e in
+    record {
+      answer = simp refused (λ j. record { refusal = h j; tally = empty });
+      statuses = simp refused;
+      ascs = simp refused;
+      decs = simp refused;
+    }

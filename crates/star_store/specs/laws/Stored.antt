@@ -1,5 +1,5 @@
 -- The whole call, by any rule of a star: what an accepted one has, its values by their places, its tally, and that all of it is fixed.
-use Rattle.std.specs.Prelude.{ℕ, zero, suc, ◌+◌, ◌≤◌, ◌<◌, ◌≡◌, refl, Bool, true, false, cond, ◌&&◌, List, [], ◌∷◌, ◌++◌, map, eqb, leb, Float, length, take, drop}
+use Rattle.std.specs.Prelude.{ℕ, zero, suc, ◌+◌, ◌≤◌, ◌<◌, ◌≡◌, refl, Bool, true, false, cond, ◌&&◌, List, [], ◌∷◌, ◌++◌, map, eqb, leb, Float, length, take, drop, ⊤, Result, Ok, Err}
 use Rattle.std.proofs.Common.{sym, ◌∙◌, add-one, arith, length-take-le, take-suc, take_at, leb-true, eq-eqb, eqb-true}
 use Rattle.std.proofs.Math.Path.{ap}
 use Rattle.std.proofs.Math.ListN.{get_or, get_or-map, get_or-append}
@@ -8,6 +8,8 @@ use Rattle.std.proofs.Math.Seq.{take-length}
 use Rattle.std.proofs.lemmas.Bool.{eqb-false}
 use Rattle.double.specs.rules.Operations.{bits}
 use Rattle.double.specs.laws.ReadBack.{bits_pattern}
+use Rattle.quantity.specs.declared.Refusal.{Refusal}
+use Rattle.quantity.specs.laws.Answer.{checked_loses_nothing, number_loses_nothing}
 use Rattle.quantity.specs.rules.Answer.{Answer, Pair, status_of}
 use Rattle.precess_angles.specs.rules.Days.{days_refusal}
 use Rattle.lent.specs.laws.Flags.{both_hold}
@@ -20,9 +22,8 @@ use Rattle.list_tally.specs.declared.Tally.{Tally}
 use Rattle.list_tally.specs.rules.Status.{highest_status}
 use Rattle.list_tally.specs.rules.Tally.{counts_in_all, raise_rule, times, tally_of, empty, raised_by, AllKnown}
 use Rattle.list_tally.specs.laws.Tally.{times_most, raise_more, counts_all}
-use Rattle.star_store.specs.declared.Tallied.{Tallied}
 use Rattle.star_store.specs.rules.Star.{first_of, second_of, first_bits, second_bits}
-use Rattle.star_store.specs.rules.Stored.{has_room, store_refusal, answers_by, statuses_by, lent_rule, StarsStored}
+use Rattle.star_store.specs.rules.Stored.{Tallied, shown_tallied, has_room, store_refusal, answers_by, statuses_by, lent_rule, StarsStored}
 use Rattle.star_store.specs.laws.ReadBack.{Held}
 use Rattle.star_store.specs.notions.Accepted.{Accepted}
 
@@ -99,11 +100,21 @@ module _ (answer : Star → Answer Pair) (known : (star : Star) → status_of (a
   pub raised_all : (i : ℕ) → i ≡ count_of s → take i statuses ≡ statuses
   raised_all i e = ap (λ (n : ℕ). take n statuses) (e ∙ sym (how_many_lem status_of answer s)) ∙ take-length statuses
 
+-- ---- a contract `shown_tallied r ≡ rule` holds of one r only
+
+pub shown_tallied_loses_nothing : (r q : Result Tally Refusal) → shown_tallied r ≡ shown_tallied q → r ≡ q
+shown_tallied_loses_nothing (Ok t) (Ok u) e = ap Ok (ap (λ (k : Tallied). k.tally) e)
+shown_tallied_loses_nothing (Ok t) (Err n) e =
+    let k : ◌≡◌ {A = Result ⊤ Refusal} (Ok tt) (Err n) = checked_loses_nothing (Ok tt) (Err n) (ap (λ (k : Tallied). k.refusal) e) in cc
+shown_tallied_loses_nothing (Err m) (Ok u) e =
+    let k : ◌≡◌ {A = Result ⊤ Refusal} (Err m) (Ok tt) = checked_loses_nothing (Err m) (Ok tt) (ap (λ (k : Tallied). k.refusal) e) in cc
+shown_tallied_loses_nothing (Err m) (Err n) e = ap Err (number_loses_nothing m n (ap (λ (k : Tallied). k.refusal) e))
+
 -- ---- what the rule of a call says of its slices and its tally, and that it fixes all
 
-module _ {rule : Star → Answer Pair} {s : List ℕ} {day1 day2 : Float} {status asc dec : List ℕ} {r : Tallied} {status' asc' dec' : List ℕ} (b : StarsStored rule s day1 day2 status asc dec r status' asc' dec') where
+module _ {rule : Star → Answer Pair} {s : List ℕ} {day1 day2 : Float} {status asc dec : List ℕ} {r : Result Tally Refusal} {status' asc' dec' : List ℕ} (b : StarsStored rule s day1 day2 status asc dec r status' asc' dec') where
   module _ (none : store_refusal s day1 day2 (length status) (length asc) (length dec) ≡ 0) where
-    pub tally_is : r.tally ≡ tally_of (statuses_by rule s)
+    pub tally_is : (shown_tallied r).tally ≡ tally_of (statuses_by rule s)
     tally_is =
         ap (λ (q : Tallied). q.tally) b.answer
         ∙ ap (λ (t : Bool). cond t (tally_of (statuses_by rule s)) empty) (eq-eqb _ 0 none)
@@ -145,7 +156,7 @@ module _ {rule : Star → Answer Pair} {s : List ℕ} {day1 day2 : Float} {statu
         ∙ take_at (statuses_by rule s) (drop (length (statuses_by rule s)) status) (count_of s) (how_many_lem status_of rule s)
 
     -- each count is the number of status bytes of that value
-    pub tally_counts_bytes : (k : ℕ) → k < counts_in_all → get_or r.tally.counts k 0 ≡ times k (take (count_of s) status')
+    pub tally_counts_bytes : (k : ℕ) → k < counts_in_all → get_or (shown_tallied r).tally.counts k 0 ≡ times k (take (count_of s) status')
     unfolding tally_of
     tally_counts_bytes k h =
         ap (λ (t : Tally). get_or t.counts k 0) tally_is
@@ -153,13 +164,13 @@ module _ {rule : Star → Answer Pair} {s : List ℕ} {day1 day2 : Float} {statu
         ∙ ap (times k) (sym bytes_are)
 
     -- the tally is the empty one, raised by each star's status in the list's order
-    pub tally_raised : ((star : Star) → status_of (rule star) ≤ highest_status) → r.tally ≡ raised_by empty (statuses_by rule s)
+    pub tally_raised : ((star : Star) → status_of (rule star) ≤ highest_status) → (shown_tallied r).tally ≡ raised_by empty (statuses_by rule s)
     tally_raised known =
         tally_is
         ∙ sym (counts_all (statuses_by rule s) (all_known rule known s) (omega (arith, how_many_lem status_of rule s, few s (accepted s day1 day2 (length status) (length asc) (length dec) none).list)))
 
   -- two calls that meet one contract answer alike and leave the slices alike
-  pub stored_fixes_all : {q : Tallied} {status'' asc'' dec'' : List ℕ}
+  pub stored_fixes_all : {q : Result Tally Refusal} {status'' asc'' dec'' : List ℕ}
       → StarsStored rule s day1 day2 status asc dec q status'' asc'' dec''
       → (r ≡ q) × ((status' ≡ status'') × ((asc' ≡ asc'') × (dec' ≡ dec'')))
-  stored_fixes_all d = (b.answer ∙ sym d.answer, (b.statuses ∙ sym d.statuses, (b.ascs ∙ sym d.ascs, b.decs ∙ sym d.decs)))
+  stored_fixes_all d = (shown_tallied_loses_nothing r _ (b.answer ∙ sym d.answer), (b.statuses ∙ sym d.statuses, (b.ascs ∙ sym d.ascs, b.decs ∙ sym d.decs)))

@@ -1,15 +1,15 @@
 -- `text_answers::put_answers` meets its contract.
-use borrow.Author.Tests.{eq-eqb, ne_eqb}
+use Rattle.std.proofs.Common.{ap, sym, ◌∙◌}
 use Rattle.lent.specs.laws.Writing.{same}
-use Rattle.text_answers.specs.rules.Answers.{answers_text}
+use Rattle.text_answers.specs.rules.Answers.{refused_in}
+use Rattle.text_answers.specs.laws.Answers.{told, told_lem}
 use Rattle.text_answers.proofs.put_answers.Goals as goal
 
-pub returns-then-stated-ne0 : goal.returns-then-stated-ne0
-unfolding answers_text
-returns-then-stated-ne0 c =
-    same (rw (← c.refusal_in-stated.ensures, ne_eqb _ _ c.if-stated-ne0.true)) c.put_refused.ensures
+pub returns-in-Ok : goal.returns-in-Ok
+returns-in-Ok c =
+    let a = c.args in
+    same (ap (told _ _ _ _ _ _) (sym c.in-Ok.is ∙ c.and-accepted.ensures) ∙ told_lem _ _ _ _ _ _ _ _ (rw c.and.ensures at c.refusal_in.ensures)) c.put_list.ensures
 
-pub returns : goal.returns
-unfolding answers_text
-returns c =
-    same (rw (← c.refusal_in-stated.ensures, eq-eqb _ _ c.if-stated-ne0.false)) c.put_list.ensures
+pub returns-in-Err : goal.returns-in-Err
+returns-in-Err c =
+    same (ap (refused_in _) c.number.ensures ∙ ap (told _ _ _ _ _ _) (sym c.in-Err.is ∙ c.and-accepted.ensures) ∙ told_lem _ _ _ _ _ _ _ _ (rw c.and.ensures at c.refusal_in.ensures)) c.put_refused.ensures

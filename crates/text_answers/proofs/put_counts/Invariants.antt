@@ -1,4 +1,4 @@
-use Prim.Native.Nat.{◌+◌, ◌-◌}
+use Prim.Native.Nat.{◌+◌}
 use Rattle.list_tally.specs.rules.Status.{highest_status}
 use Rattle.text_answers.specs.rules.Answers.{count_at}
 use Rattle.lent.specs.notions.Walk.{Walked}
@@ -6,6 +6,3 @@ use Rattle.text_answers.proofs.put_counts.Given as goal
 
 abbrev pub invariant-loop-k : goal.invariant-loop-k
 invariant-loop-k l = Walked l.initial.out l.at (highest_status + 1) (count_at l.counts) l.out l.offset l.k
-
-abbrev pub decreases-loop-k : goal.decreases-loop-k
-decreases-loop-k l = highest_status + 1 - l.k

@@ -1,6 +1,5 @@
 -- `text_answers::put_star` meets its contract.
 use Rattle.lent.specs.laws.Writing.{same}
-use Rattle.text_time.proofs.put_line.Reads as put-line-reads'
 use Rattle.text_answers.proofs.put_star.Goals as goal
 
 pub returns-in-Lines : goal.returns-in-Lines

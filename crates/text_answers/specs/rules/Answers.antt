@@ -3,6 +3,7 @@ use Rattle.std.specs.Prelude.{ℕ, ◌+◌, cond, List, [], ◌∷◌, ◌++◌,
 use Rattle.double.specs.rules.Operations.{bits}
 use Rattle.quantity.specs.declared.Rad.{Rad}
 use Rattle.quantity.specs.rules.Angle.{rad}
+use Rattle.quantity.specs.rules.Answer.{Answer, answered, refused}
 use Rattle.quantity.specs.rules.Refusal.{lower}
 use Rattle.edition.specs.declared.Edition.{Edition}
 use Rattle.edition.specs.rules.Edition.{by_edition}
@@ -97,7 +98,9 @@ unfoldable pub list_text : Style → Edition → List ℕ → List ℕ → List 
 list_text style edition s status asc dec tally =
     head_text style edition ++ (texts (count_of s) (lent_line style s status asc dec) ++ foot_text style tally)
 
-unfoldable pub answers_text : Style → Edition → List ℕ → List ℕ → List ℕ → List ℕ → ℕ → Tally → List ℕ
-answers_text style edition s status asc dec refusal tally =
-    let stated = refusal_in style refusal in
+-- of a list whose reduction answered its tally, or was refused
+unfoldable pub answers_text : Style → Edition → List ℕ → List ℕ → List ℕ → List ℕ → Answer Tally → List ℕ
+answers_text style edition s status asc dec (answered tally) =
+    let stated = refusal_in style 0 in
     cond (eqb stated 0) (list_text style edition s status asc dec tally) (refused_in style stated)
+answers_text style edition s status asc dec (refused n) = refused_in style (refusal_in style n)

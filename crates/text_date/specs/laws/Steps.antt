@@ -1,19 +1,15 @@
 -- The rules as the code goes: their tests, one after the other.
-use Rattle.std.specs.Prelude.{ℕ, ◌-◌, ◌≤◌, ◌<◌, ◌≡◌, refl, Bool, true, false, not, cond, List, eqb, ltb, ℤ, length}
+use Rattle.std.specs.Prelude.{ℕ, ◌+◌, ◌*◌, ◌-◌, ◌≤◌, ◌<◌, ◌≡◌, refl, Bool, true, false, not, cond, List, eqb, ltb, ℤ, length, Result, Ok, Err}
 use Rattle.std.proofs.Common.{sym, arith}
-use borrow.Author.Tests.{lt-ltb, le-ltb, eq-eqb, ltb-false}
+use borrow.Author.Tests.{lt-ltb, le-ltb, eq-eqb, ltb-true, ltb-false}
 use Rattle.text_number.specs.rules.Bytes.{minus_sign, colon}
 use Rattle.calendar.specs.rules.Date.{date}
 use Rattle.calendar.specs.rules.Number.{number_rule}
 use Rattle.calendar.specs.rules.Julian.{julian_of}
 use Rattle.text_date.specs.declared.Reason.{Reason}
 use Rattle.text_date.specs.declared.Reason.TheVariants.{NoDate, NoMonth, NoDay, NoTime, NoFraction, NoHour, NoMinute, NoSecond}
-use Rattle.text_date.specs.declared.Dated.{Dated}
-use Rattle.text_date.specs.declared.Dated.TheVariants as dated
-use Rattle.text_date.specs.declared.Timed.{Timed}
-use Rattle.text_date.specs.declared.Timed.TheVariants as timed
-use Rattle.text_date.specs.rules.Digits.{at, missing, pair_at, year_at}
-use Rattle.text_date.specs.rules.Date.{Reading, is, none, from_number, shown_dated, date_of}
+use Rattle.text_date.specs.rules.Digits.{at, missing, joined, pair_at, year_at}
+use Rattle.text_date.specs.rules.Date.{Reading, is, none, from_number, shown, below, date_of}
 use Rattle.text_date.specs.rules.Time.{
   Time,
   on,
@@ -31,6 +27,41 @@ use Rattle.text_date.specs.rules.Time.{
   time_rule,
 }
 use Rattle.text_date.specs.rules.Moment.{moment_rule}
+
+-- ---- two numbers one after the other: one of them missing, and both there
+
+pub joined_first : (k x y : ℕ) → x ≡ missing → joined k x y ≡ missing
+unfolding joined
+joined_first k x y e = rw (le-ltb x missing (omega (arith, e)))
+
+pub joined_second : (k x y : ℕ) → y ≡ missing → joined k x y ≡ missing
+unfolding joined
+joined_second k x y e = by_test (ltb x missing)
+  where
+    by_test : (b : Bool) → cond b (cond (ltb y missing) (x * k + y) missing) missing ≡ missing
+    by_test true = rw (le-ltb y missing (omega (arith, e)))
+    by_test false = refl
+
+pub joined_both : (k x y : ℕ) → x < missing → y < missing → x * k + y ≡ joined k x y
+unfolding joined
+joined_both k x y h g = rw (lt-ltb x missing h, lt-ltb y missing g)
+
+-- ---- a number below a limit, and one that is not
+
+module _ (limit x : ℕ) (r : Reason) where
+  pub holds : {n : ℕ} → is n ≡ below limit x r → (n ≡ x) × (x < limit)
+  holds {n = n} e = by_test (ltb x limit) refl e
+    where
+      by_test : (b : Bool) → ltb x limit ≡ b → is n ≡ cond b (is x) (none r) → (n ≡ x) × (x < limit)
+      by_test true p e = (cc, ltb-true x limit p)
+      by_test false p e = cc
+
+  pub fails : {k : Reason} → none k ≡ below limit x r → (k ≡ r) × (limit ≤ x)
+  fails {k = k} e = by_test (ltb x limit) refl e
+    where
+      by_test : (b : Bool) → ltb x limit ≡ b → none k ≡ cond b (is x) (none r) → (k ≡ r) × (limit ≤ x)
+      by_test true p e = cc
+      by_test false p e = (cc, ltb-false x limit p)
 
 -- ---- the date
 
@@ -122,18 +153,18 @@ module _ (text : List ℕ) (n : ℕ) (eT : at text 10 ≡ letter_t) (eZ : at tex
 
 -- ---- both
 
-pub goes_on : (text : List ℕ) (b : Reading Time) (r : Dated) (n : ℕ) → shown_dated r ≡ date_of text → r ≡ dated.Is n → b ≡ with_number text n
+pub goes_on : (text : List ℕ) (b : Reading Time) (r : Result ℕ Reason) (n : ℕ) → shown r ≡ date_of text → r ≡ Ok n → b ≡ with_number text n
     → b ≡ after_date text (date_of text)
 goes_on text b r n p e work = rw (← p, e) work
 
-pub stops : (text : List ℕ) (r : Dated) (k : Reason) → shown_dated r ≡ date_of text → r ≡ dated.Not k → none k ≡ after_date text (date_of text)
+pub stops : (text : List ℕ) (r : Result ℕ Reason) (k : Reason) → shown r ≡ date_of text → r ≡ Err k → none k ≡ after_date text (date_of text)
 stops text r k p e = rw (← p, e)
 
-pub at_time : (text : List ℕ) (z : ℤ) (r : Timed) (n t : ℕ) → shown_timed r ≡ time_rule text → r ≡ timed.At n t
+pub at_time : (text : List ℕ) (z : ℤ) (r : Result (ℕ × ℕ) Reason) (n t : ℕ) → shown_timed r ≡ time_rule text → r ≡ Ok (n, t)
     → is (julian_of n t z) ≡ moment_rule text z
 unfolding moment_rule
 at_time text z r n t p e = rw (← p, e)
 
-pub no_time : (text : List ℕ) (z : ℤ) (r : Timed) (k : Reason) → shown_timed r ≡ time_rule text → r ≡ timed.Not k → none k ≡ moment_rule text z
+pub no_time : (text : List ℕ) (z : ℤ) (r : Result (ℕ × ℕ) Reason) (k : Reason) → shown_timed r ≡ time_rule text → r ≡ Err k → none k ≡ moment_rule text z
 unfolding moment_rule
 no_time text z r k p e = rw (← p, e)

@@ -1,16 +1,14 @@
 -- The promise of `read` fixes its answer: a text says one day only.
-use Rattle.std.specs.Prelude.{◌≡◌, Float}
+use Rattle.std.specs.Prelude.{◌≡◌, Result, Ok, Err}
 use Rattle.std.proofs.Common.{sym, ◌∙◌}
-use Rattle.text_date.specs.declared.Moment.{Moment}
-use Rattle.text_date.specs.declared.Moment.TheVariants.{Is, Not}
-use Rattle.text_date.specs.rules.Date.{Reading}
-use Rattle.text_date.specs.rules.Moment.{shown_moment}
+use Rattle.text_date.specs.declared.Reason.{Reason}
+use Rattle.text_date.specs.rules.Date.{Reading, shown}
 
-shown_moment_loses_nothing : (r s : Moment) → shown_moment r ≡ shown_moment s → r ≡ s
-shown_moment_loses_nothing (Is x) (Is y) e = cc
-shown_moment_loses_nothing (Is x) (Not k) e = cc
-shown_moment_loses_nothing (Not k) (Is y) e = cc
-shown_moment_loses_nothing (Not k) (Not l) e = cc
+shown_loses_nothing : {A : Type 0} (r s : Result A Reason) → shown r ≡ shown s → r ≡ s
+shown_loses_nothing (Ok x) (Ok y) e = cc
+shown_loses_nothing (Ok x) (Err k) e = cc
+shown_loses_nothing (Err k) (Ok y) e = cc
+shown_loses_nothing (Err k) (Err l) e = cc
 
-pub one_moment : {a : Reading Float} (r s : Moment) → shown_moment r ≡ a → shown_moment s ≡ a → r ≡ s
-one_moment r s p q = shown_moment_loses_nothing r s (p ∙ sym q)
+pub one_moment : {A : Type 0} {a : Reading A} (r s : Result A Reason) → shown r ≡ a → shown s ≡ a → r ≡ s
+one_moment r s p q = shown_loses_nothing r s (p ∙ sym q)

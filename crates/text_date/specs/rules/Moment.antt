@@ -1,14 +1,8 @@
 -- What a text says as a Julian day.
 use Rattle.std.specs.Prelude.{ℕ, List, ℤ, Float}
 use Rattle.calendar.specs.rules.Julian.{julian_of}
-use Rattle.text_date.specs.declared.Moment.{Moment}
-use Rattle.text_date.specs.declared.Moment.TheVariants.{Is, Not}
 use Rattle.text_date.specs.rules.Date.{Reading, is, none}
 use Rattle.text_date.specs.rules.Time.{Time, on, time_rule}
-
-abbrev pub shown_moment : Moment → Reading Float
-shown_moment (Is x) = is x
-shown_moment (Not k) = none k
 
 -- `dut1` is UT1 − UTC, in milliseconds
 abbrev pub moment_at : ℤ → Reading Time → Reading Float

@@ -1,10 +1,9 @@
 -- The time after a date: Thh:mm:ssZ, or with a point and up to three digits before the Z, which must be there. Without one it is 0h.
-use Rattle.std.specs.Prelude.{ℕ, ◌+◌, ◌*◌, ◌-◌, Bool, true, false, cond, List, eqb, leb, ltb, length}
+use Rattle.std.specs.Prelude.{ℕ, ◌+◌, ◌*◌, ◌-◌, Bool, true, false, cond, List, eqb, leb, ltb, length, Result, Ok, Err}
 use Prim.Native.Char.{code}
 use Rattle.text_number.specs.rules.Bytes.{colon, point, digit0}
+use Rattle.text_date.specs.declared.Reason.{Reason}
 use Rattle.text_date.specs.declared.Reason.TheVariants.{NoDate, TooEarly, TooLate, NoTime, NoZ, NoFraction, NoHour, NoMinute, NoSecond}
-use Rattle.text_date.specs.declared.Timed.{Timed}
-use Rattle.text_date.specs.declared.Timed.TheVariants.{At, Not}
 use Rattle.text_date.specs.rules.Digits.{at, digit_of, joined, pair_at}
 use Rattle.text_date.specs.rules.Date.{Reading, is, none, date_of}
 
@@ -12,9 +11,9 @@ use Rattle.text_date.specs.rules.Date.{Reading, is, none, date_of}
 pub data Time : Type 0 where
   on : ℕ → ℕ → Time
 
-abbrev pub shown_timed : Timed → Reading Time
-shown_timed (At n t) = is (on n t)
-shown_timed (Not k) = none k
+abbrev pub shown_timed : Result (ℕ × ℕ) Reason → Reading Time
+shown_timed (Ok (n, t)) = is (on n t)
+shown_timed (Err k) = none k
 
 abbrev pub letter_t : ℕ
 letter_t = code "T"

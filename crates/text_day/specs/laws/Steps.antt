@@ -1,8 +1,6 @@
 -- The rules as the code goes.
-use Rattle.std.specs.Prelude.{ℕ, ◌≡◌, true, false, List, ℤ, Float}
+use Rattle.std.specs.Prelude.{ℕ, ◌≡◌, true, false, List, ℤ, Float, Option, Some, None}
 use Rattle.text_number.specs.rules.Bytes.{ascii}
-use Rattle.text_decimal.specs.declared.Decimal.{Decimal}
-use Rattle.text_decimal.specs.declared.Decimal.TheVariants.{Is, Unclear}
 use Rattle.text_decimal.specs.rules.Decimal.{shown_decimal, decimal_rule}
 use Rattle.text_word.specs.rules.Word.{is_word}
 use Rattle.text_date.specs.rules.Date.{is}
@@ -18,10 +16,10 @@ module _ (text : List ℕ) (dut1 : ℤ) where
   unfolding named_day
   is_dated e = rw e
 
-  pub is_decimal : (r : Decimal) (x : Float) → shown_decimal r ≡ decimal_rule text → r ≡ Is x → is x ≡ day_rule text dut1
+  pub is_decimal : (r : Option Float) (x : Float) → shown_decimal r ≡ decimal_rule text → r ≡ Some x → is x ≡ day_rule text dut1
   unfolding day_rule
   is_decimal r x p e = rw (← p, e)
 
-  pub is_named : (r : Decimal) → shown_decimal r ≡ decimal_rule text → r ≡ Unclear → named_day text dut1 ≡ day_rule text dut1
+  pub is_named : (r : Option Float) → shown_decimal r ≡ decimal_rule text → r ≡ None → named_day text dut1 ≡ day_rule text dut1
   unfolding day_rule
   is_named r p e = rw (← p, e)

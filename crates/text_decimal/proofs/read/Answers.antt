@@ -1,5 +1,6 @@
 -- `text_decimal::read` meets its contract: what is left to scan leads to the same end.
-use Rattle.std.proofs.Common.{◌≡◌, ℕ, ◌+◌, ◌<◌, ◌≤◌, List, length, get_or, drop, sym, refl, ap, ◌∙◌, add-one, drop_of_length-le, drop-cons, rules}
+use Rattle.std.proofs.Common.{arith}
+use Rattle.std.proofs.Common.{◌≡◌, ℕ, ◌+◌, ◌<◌, ◌≤◌, List, length, get_or, drop, sym, ap, ◌∙◌, add-one, drop_of_length-le, drop-cons}
 use Rattle.text_decimal.specs.declared.Scan.{Scan}
 use Rattle.text_decimal.specs.rules.Decimal.{with_byte, scanned, decimal_from, decimal_rule}
 use Rattle.text_decimal.proofs.read.Goals as goal
@@ -12,15 +13,15 @@ all : (text : List ℕ) (i : ℕ) (scan : Scan) → length text ≤ i → scanne
 unfolding scanned
 all text i scan h = ap (scanned scan) (drop_of_length-le text {i = i} h)
 
-pub loop-i-init : goal.loop-i-init
-loop-i-init c = (search rules, refl)
-
-pub loop-i-preserved : goal.loop-i-preserved
-loop-i-preserved c =
+pub loop-b-preserved : goal.loop-b-preserved
+loop-b-preserved c =
     let text = c.args.text.now in
-    (search rules, ap (λ (s : Scan). scanned s (drop (c.loop-i.i + 1) text)) c.with_byte-scan.ensures ∙ pass text c.loop-i.i c.loop-i.scan c.loop-i-test.true ∙ c.loop-i.invariant.1)
+    let i = c.loop-b.b-index in
+    ap (λ (s : Scan). scanned s (drop (i + 1) text)) c.with_byte-scan.ensures
+    ∙ pass text i c.loop-b.scan (omega arith)
+    ∙ c.loop-b.invariant
 
 pub returns : goal.returns
 unfolding decimal_rule
 returns c =
-    c.decimal_from.ensures ∙ ap decimal_from (sym (all c.args.text.now c.loop-i.i c.loop-i.scan c.loop-i-test.false) ∙ c.loop-i.invariant.1)
+    c.decimal_from.ensures ∙ ap decimal_from (sym (all c.args.text.now c.loop-b.b-index c.loop-b.scan (omega arith)) ∙ c.loop-b.invariant)

@@ -1,13 +1,11 @@
 -- A day in decimal: digits, and at most one point. The digits as a whole number, up to 2^53, over a power of ten, up to 10^22: both
 -- are exact, so that the one division is the only rounding. Anything else is not a day.
-use Rattle.std.specs.Prelude.{ℕ, ◌+◌, ◌-◌, ◌*◌, true, false, cond, List, [], ◌∷◌, pos, ◌==◌, nat_le, Float}
+use Rattle.std.specs.Prelude.{ℕ, ◌+◌, ◌-◌, ◌*◌, true, false, cond, List, [], ◌∷◌, pos, ◌==◌, nat_le, Float, Option, Some, None}
 use Rattle.std.specs.Float.{binary64}
 use Rattle.std.specs.Float.Ieee.{of_int, lt}
 use Rattle.double.specs.rules.Operations.{bits, one, ◌⊗◌, ◌⊘◌}
 use Rattle.text_number.specs.rules.Bytes.{point, digit0, digit9}
 use Rattle.text_decimal.specs.declared.Scan.{Scan}
-use Rattle.text_decimal.specs.declared.Decimal.{Decimal}
-use Rattle.text_decimal.specs.declared.Decimal.TheVariants.{Is, Unclear}
 
 -- 2^53
 abbrev pub most : ℕ
@@ -61,9 +59,9 @@ pub data Reading : Type 0 where
   is : Float → Reading
   none : Reading
 
-abbrev pub shown_decimal : Decimal → Reading
-shown_decimal (Is x) = is x
-shown_decimal Unclear = none
+abbrev pub shown_decimal : Option Float → Reading
+shown_decimal (Some x) = is x
+shown_decimal None = none
 
 -- the whole text was clear, and had a digit
 unfoldable pub decimal_from : Scan → Reading

@@ -1,10 +1,9 @@
 -- The rule without a byte and by the first one, and that the promise of `read` fixes its answer.
-use Rattle.std.specs.Prelude.{ℕ, ◌<◌, ◌≡◌, refl, true, false, cond, List, [], ◌∷◌, eqb, length, drop, get_or}
+use Rattle.std.specs.Prelude.{ℕ, ◌<◌, ◌≡◌, refl, true, false, cond, List, [], ◌∷◌, eqb, length, drop, get_or, Option, Some, None}
 use Rattle.std.proofs.Common.{sym, ◌∙◌, arith}
 use Rattle.text_number.specs.rules.Bytes.{plus_sign, minus_sign}
 use Rattle.text_decimal.specs.rules.Decimal.{decimal_rule}
-use Rattle.text_degrees.specs.declared.ReadDegrees.{ReadDegrees}
-use Rattle.text_degrees.specs.declared.ReadDegrees.TheVariants.{Are, Unclear}
+use Rattle.quantity.specs.declared.Deg.{Deg}
 use Rattle.text_degrees.specs.rules.Degrees.{Angle, unclear, shown_read_degrees, with_sign, degrees_rule}
 
 pub no_angle : (text : List ℕ) → length text ≡ 0 → degrees_rule text ≡ unclear
@@ -20,11 +19,11 @@ unfolding degrees_rule
 by_first_byte [] h = absurd (omega arith)
 by_first_byte (b ∷ text) h = refl
 
-read_degrees_loses_nothing : (r s : ReadDegrees) → shown_read_degrees r ≡ shown_read_degrees s → r ≡ s
-read_degrees_loses_nothing (Are x) (Are y) e = cc
-read_degrees_loses_nothing (Are x) Unclear e = cc
-read_degrees_loses_nothing Unclear (Are y) e = cc
-read_degrees_loses_nothing Unclear Unclear e = cc
+read_degrees_loses_nothing : (r s : Option Deg) → shown_read_degrees r ≡ shown_read_degrees s → r ≡ s
+read_degrees_loses_nothing (Some x) (Some y) e = cc
+read_degrees_loses_nothing (Some x) None e = cc
+read_degrees_loses_nothing None (Some y) e = cc
+read_degrees_loses_nothing None None e = cc
 
-pub one_angle : {a : Angle} (r s : ReadDegrees) → shown_read_degrees r ≡ a → shown_read_degrees s ≡ a → r ≡ s
+pub one_angle : {a : Angle} (r s : Option Deg) → shown_read_degrees r ≡ a → shown_read_degrees s ≡ a → r ≡ s
 one_angle r s p q = read_degrees_loses_nothing r s (p ∙ sym q)

@@ -1,20 +1,18 @@
 -- An angle in decimal degrees: what a day is made of, digits and at most one point, with a plus or a minus sign in front or none.
-use Rattle.std.specs.Prelude.{ℕ, Bool, true, false, cond, List, [], ◌∷◌, eqb}
+use Rattle.std.specs.Prelude.{ℕ, Bool, true, false, cond, List, [], ◌∷◌, eqb, Option, Some, None}
 use Rattle.double.specs.rules.Sign.{negated_if}
 use Rattle.quantity.specs.declared.Deg.{Deg}
 use Rattle.quantity.specs.rules.Angle.{deg}
 use Rattle.text_number.specs.rules.Bytes.{plus_sign, minus_sign}
 use Rattle.text_decimal.specs.rules.Decimal.{Reading, is, none, decimal_rule}
-use Rattle.text_degrees.specs.declared.ReadDegrees.{ReadDegrees}
-use Rattle.text_degrees.specs.declared.ReadDegrees.TheVariants.{Are, Unclear}
 
 pub data Angle : Type 0 where
   of : Deg → Angle
   unclear : Angle
 
-abbrev pub shown_read_degrees : ReadDegrees → Angle
-shown_read_degrees (Are x) = of x
-shown_read_degrees Unclear = unclear
+abbrev pub shown_read_degrees : Option Deg → Angle
+shown_read_degrees (Some x) = of x
+shown_read_degrees None = unclear
 
 -- the number behind a sign
 unfoldable pub with_sign : Bool → Reading → Angle

@@ -1,6 +1,6 @@
 -- `text_dut1::scan_of` meets its contract: what is left to scan leads to the same end.
-use borrow.Author.Rules.{rules}
-use mathlib.Core.Path.{◌≡◌, refl, sym, ap, ◌∙◌}
+use Rattle.std.proofs.Common.{arith}
+use mathlib.Core.Path.{◌≡◌, sym, ap, ◌∙◌}
 use mathlib.Core.List.{List}
 use Prim.Native.Nat.{ℕ, ◌+◌, ◌≤◌, ◌<◌}
 use native.Mathlib.Numerals.{add-one}
@@ -22,19 +22,14 @@ all : (text : List ℕ) (i : ℕ) (scan : Scan) → length text ≤ i → scanne
 unfolding scanned
 all text i scan h = ap (scanned scan) (drop_of_length-le text {i = i} h)
 
-pub loop-i-init : goal.loop-i-init
-loop-i-init c = (search rules, refl)
-
-pub loop-i-preserved : goal.loop-i-preserved
-loop-i-preserved c =
+pub loop-b-preserved : goal.loop-b-preserved
+loop-b-preserved c =
     let text = c.args.text.now in
-    let i = c.loop-i.i in (
-      search rules,
-      ap (λ (s : Scan). scanned s (drop (i + 1) text)) c.with_byte-scan.ensures
-          ∙ pass text i c.loop-i.scan c.loop-i-test.true
-          ∙ c.loop-i.invariant.1,
-    )
+    let i = c.loop-b.b-index in
+    ap (λ (s : Scan). scanned s (drop (i + 1) text)) c.with_byte-scan.ensures
+    ∙ pass text i c.loop-b.scan (omega arith)
+    ∙ c.loop-b.invariant
 
 pub returns : goal.returns
 returns c =
-    sym (all c.args.text.now c.loop-i.i c.loop-i.scan c.loop-i-test.false) ∙ c.loop-i.invariant.1
+    sym (all c.args.text.now c.loop-b.b-index c.loop-b.scan (omega arith)) ∙ c.loop-b.invariant

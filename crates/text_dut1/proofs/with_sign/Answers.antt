@@ -1,10 +1,6 @@
 -- `text_dut1::with_sign` meets its contract.
 use Rattle.text_dut1.specs.rules.Dut1.{with_sign}
-use Rattle.text_dut1.specs.laws.Steps.{product_small}
 use Rattle.text_dut1.proofs.with_sign.Goals as goal
-
-pub overflow_mul-scan : goal.overflow_mul-scan
-overflow_mul-scan c = record { fits = product_small _ _ c.struct_known-1.given.0.fits c.struct_known-then-scan-2-1.given.1.0.fits }
 
 pub returns-then-scan-2 : goal.returns-then-scan-2
 unfolding with_sign

@@ -1,18 +1,16 @@
 -- UT1 − UTC in seconds: a plus or a minus sign or none, and digits, as whole milliseconds, 900 at most.
-use Rattle.std.specs.Prelude.{ℕ, ◌*◌, Bool, true, false, cond, List, [], ◌∷◌, eqb, leb, ℤ, pos, neg_ℤ}
+use Rattle.std.specs.Prelude.{ℕ, ◌*◌, Bool, true, false, cond, List, [], ◌∷◌, eqb, leb, ℤ, pos, neg_ℤ, Option, Some, None}
 use Rattle.text_number.specs.rules.Bytes.{plus_sign, minus_sign}
 use Rattle.text_dut1.specs.declared.Scan.{Scan}
-use Rattle.text_dut1.specs.declared.Dut1.{Dut1}
-use Rattle.text_dut1.specs.declared.Dut1.TheVariants.{Is, Unclear}
 use Rattle.text_dut1.specs.rules.Scan.{most, start, scanned}
 
 pub data Reading : Type 0 where
   is : ℤ → Reading
   none : Reading
 
-abbrev pub shown_dut1 : Dut1 → Reading
-shown_dut1 (Is z) = is z
-shown_dut1 Unclear = none
+abbrev pub shown_dut1 : Option ℤ → Reading
+shown_dut1 (Some z) = is z
+shown_dut1 None = none
 
 -- n, or −n behind a minus sign
 unfoldable pub signed_in : Bool → ℕ → Reading

@@ -1,5 +1,4 @@
 -- `text_fields::length_before` meets its contract: the bytes so far and those before a stop in what is left are as many as in all.
-use borrow.Author.Rules.{rules}
 use mathlib.Core.Path.{◌≡◌, sym, ap, ◌∙◌}
 use mathlib.Core.Bool.{true, false, cond}
 use mathlib.Core.List.{List, [], ◌∷◌}
@@ -30,20 +29,17 @@ module _ (stop : Stop) (text : List ℕ) (i : ℕ) where
   unfolding before
   ends h = ap (λ (l : List ℕ). length (before stop l)) (drop_of_length-le text {i = i} h)
 
-pub loop-i-init : goal.loop-i-init
-loop-i-init c = (search rules, omega arith)
-
 pub returns-then-is_stop : goal.returns-then-is_stop
 returns-then-is_stop c =
     let a = c.args in
-    omega (arith, c.loop-i.invariant.1, stops a.stop a.text.now c.loop-i.i c.loop-i-test.true (sym c.is_stop.ensures ∙ c.if-is_stop.true))
+    omega (arith, c.loop-i.invariant, stops a.stop a.text.now c.loop-i.i (omega arith) (sym c.is_stop.ensures ∙ c.if-is_stop.true))
 
 pub loop-i-preserved : goal.loop-i-preserved
 loop-i-preserved c =
     let a = c.args in
-    (search rules, omega (arith, c.loop-i.invariant.1, goes_on a.stop a.text.now c.loop-i.i c.loop-i-test.true (sym c.is_stop.ensures ∙ c.if-is_stop.false)))
+    omega (arith, c.loop-i.invariant, goes_on a.stop a.text.now c.loop-i.i (omega arith) (sym c.is_stop.ensures ∙ c.if-is_stop.false))
 
 pub returns : goal.returns
 returns c =
     let a = c.args in
-    omega (arith, c.loop-i.invariant.1, ends a.stop a.text.now c.loop-i.i c.loop-i-test.false)
+    omega (arith, c.loop-i.invariant, ends a.stop a.text.now c.loop-i.i (omega arith))

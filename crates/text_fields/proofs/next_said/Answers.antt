@@ -1,7 +1,7 @@
 -- `text_fields::next_said` meets its contract: what is left leads to the same line.
 use borrow.Author.Rules.{rules}
 use mathlib.Core.Bool.{Bool}
-use mathlib.Core.Path.{◌≡◌, refl, sym, ap, ◌∙◌}
+use mathlib.Core.Path.{◌≡◌, sym, ap, ◌∙◌}
 use mathlib.Core.List.{List}
 use Prim.Native.Nat.{ℕ, ◌+◌, ◌-◌, ◌≤◌, ◌<◌}
 use native.Mathlib.Omega.{arith}
@@ -17,9 +17,6 @@ use Rattle.text_fields.proofs.next_said.Goals as goal
 none_left : (text : List ℕ) (at passed : ℕ) → length text ≤ at → next_said passed (lines (drop at text)) ≡ end
 unfolding next_said lines
 none_left text at passed h = ap (λ (l : List ℕ). next_said passed (lines l)) (drop_of_length-le text {i = at} h)
-
-pub loop-offset-init : goal.loop-offset-init
-loop-offset-init c = (search rules, refl)
 
 -- what is left of the text, as a part of it
 module _ (text : List ℕ) (at : ℕ) (inside : at < length text) where

@@ -1,5 +1,5 @@
 -- One line further on the way to the next that says something; and what a rule reads of it where it stands.
-use Rattle.std.specs.Prelude.{ℕ, suc, ◌+◌, ◌-◌, ◌≤◌, ◌<◌, ◌≡◌, true, false, drop}
+use Rattle.std.specs.Prelude.{ℕ, suc, ◌+◌, ◌-◌, ◌≤◌, ◌<◌, ◌≡◌, true, false, drop, refl, Option, Some, None, Result, Ok, Err}
 use Rattle.std.proofs.Math.Path.{sym, ap}
 use Rattle.std.proofs.Common.{◌∙◌, add-one, drop-drop, take-take}
 use Rattle.std.proofs.Math.Bool.{cond}
@@ -8,10 +8,12 @@ use native.Mathlib.Omega.{arith}
 use Rattle.std.proofs.Math.ListN.{length, take, length-drop}
 use Rattle.text_whole.specs.rules.Unsigned.{Reading}
 use Rattle.text_fields.specs.declared.Said.{Said}
+use Rattle.text_fields.specs.declared.Unclear.{Unclear}
 use Rattle.text_fields.specs.declared.Stop.TheVariants.{LineEnd, Hash}
 use Rattle.text_fields.specs.rules.Fields.{before, is_bare}
 use Rattle.text_fields.specs.rules.Lines.{lines, line_length, first_said}
 use Rattle.text_fields.specs.rules.Next.{found, next_said, shown_said, SaidNext, read_by, next_of}
+use Rattle.text_fields.specs.rules.Walk.{Told, shown_line}
 use Rattle.text_fields.specs.laws.Fields.{before_short, take_before}
 use Rattle.text_fields.specs.laws.Lines.{first_and_rest}
 
@@ -57,7 +59,24 @@ module _ (text : List ℕ) (at passed : ℕ) (h : at < length text) where
     stops said s e = rw (n, s, add-one passed) (sym (further ∙ rw e))
 
 -- the bytes that a call answers, read by a rule
-pub next_read : {A : Type 0} (rule : List ℕ → Reading A) (text : List ℕ) (at : ℕ) (r s : Said) → r ≡ s → SaidNext text at r
+pub next_read : {A : Type 0} (rule : List ℕ → Reading A) (text : List ℕ) (at : ℕ) (r s : Option Said) → r ≡ s → SaidNext text at r
     → read_by rule (shown_said text s) ≡ next_of rule 0 (lines (drop at text))
 unfolding next_of
-next_read rule text at r s e h = ap (λ (t : Said). read_by rule (shown_said text t)) (sym e) ∙ ap (read_by rule) h.says
+next_read rule text at r s e h = ap (λ (t : Option Said). read_by rule (shown_said text t)) (sym e) ∙ ap (read_by rule) h.says
+
+-- ---- a line that is shown is the only one
+
+shown_line_loses_nothing : {A : Type 0} (r s : Result (Option A) Unclear) → shown_line r ≡ shown_line s → r ≡ s
+shown_line_loses_nothing (Ok (Some x)) (Ok (Some y)) e = cc
+shown_line_loses_nothing (Ok (Some x)) (Ok None) e = cc
+shown_line_loses_nothing (Ok (Some x)) (Err u) e = cc
+shown_line_loses_nothing (Ok None) (Ok (Some y)) e = cc
+shown_line_loses_nothing (Ok None) (Ok None) e = cc
+shown_line_loses_nothing (Ok None) (Err u) e = cc
+shown_line_loses_nothing (Err t) (Ok (Some y)) e = cc
+shown_line_loses_nothing (Err t) (Ok None) e = cc
+shown_line_loses_nothing (Err t) (Err u) e = refl
+
+-- a promise over it fixes its answer
+pub one_line : {A : Type 0} {a : Told A} (r s : Result (Option A) Unclear) → shown_line r ≡ a → shown_line s ≡ a → r ≡ s
+one_line r s p q = shown_line_loses_nothing r s (p ∙ sym q)

@@ -1,13 +1,13 @@
 -- A walk that stores each sight at its place leaves what `EntriesStored` says; and what is read back of it.
-use Rattle.std.specs.Prelude.{ℕ, zero, suc, ◌+◌, ◌≤◌, ◌<◌, min, ◌≡◌, Bool, true, false, List, [], ◌∷◌, map, ltb, length, take, drop, get_or, set}
+use Rattle.std.specs.Prelude.{ℕ, zero, suc, ◌+◌, ◌≤◌, ◌<◌, min, ◌≡◌, Bool, true, false, List, [], ◌∷◌, map, ltb, length, take, drop, get_or, set, Result, Ok, Err}
 use Rattle.std.proofs.Math.Path.{refl, sym, ap}
 use Rattle.std.proofs.Common.{◌∙◌, arith, length-take, take_all, take_at, lt-ltb, le-ltb, ltb-false}
 use Rattle.std.proofs.Math.Bool.{cond}
 use Rattle.std.proofs.lemmas.List.{length-map}
 use Rattle.lent.specs.laws.Rows.{start, store, finish}
 use Rattle.text_whole.specs.rules.Unsigned.{Reading}
-use Rattle.text_fields.specs.declared.Sights.{Sights}
-use Rattle.text_fields.specs.declared.Sights.TheVariants.{Are, Unclear, Full}
+use Rattle.text_fields.specs.declared.Stopped.{Stopped}
+use Rattle.text_fields.specs.declared.Stopped.TheVariants.{Unclear, Full}
 use Rattle.text_fields.specs.rules.Lines.{lines}
 use Rattle.text_fields.specs.rules.Next.{found, unclear_at, end, next_of}
 use Rattle.text_fields.specs.rules.Walk.{entries_in, Ending, all_read, unclear_in, ending_in}
@@ -58,14 +58,14 @@ module _ {A E : Type 0} {rule : List ℕ → Reading A} {entry : A → ℕ → E
   abbrev es : List E
   es = entries_in rule entry text
 
-  abbrev Leaves : Sights → Type 0
+  abbrev Leaves : Result ℕ Stopped → Type 0
   Leaves r = EntriesStored rule entry columns places text line₀ star₀ first₀ second₀ r line star first second
 
   -- every sight that finds a place is stored
   end_row : (f : E → ℕ) (old cur : List ℕ) → n ≡ min places (length es) → RowOf es f places old cur n → cur ≡ over (map f (take places es)) old
   end_row f old cur e r = finish _ _ _ refl cur n (e ∙ sym (how_many_lem f es places)) r
 
-  ends : (r : Sights) → r ≡ stored_rule rule entry places text → n ≡ min places (length es) → Leaves r
+  ends : (r : Result ℕ Stopped) → r ≡ stored_rule rule entry places text → n ≡ min places (length es) → Leaves r
   ends r a e =
       record {
         answer = a;
@@ -81,14 +81,14 @@ module _ {A E : Type 0} {rule : List ℕ → Reading A} {entry : A → ℕ → E
   ended ending h =
       ends (sights_with n ending)
       (ap (sights_with n) h.ends ∙ ap (λ (k : ℕ). sights_with k (ending_in rule text)) h.all_met
-      ∙ sym (ap (λ (t : Bool). cond t Full (sights_with (length es) (ending_in rule text))) (le-ltb places (length es) (omega (arith, h.all_met, u.placed)))))
+      ∙ sym (ap (λ (t : Bool). cond t (Err Full) (sights_with (length es) (ending_in rule text))) (le-ltb places (length es) (omega (arith, h.all_met, u.placed)))))
       (omega (arith, h.all_met, u.placed))
 
   -- nothing any more, or a line that cannot be read
-  pub at_no_more : end ≡ next_of rule 0 (lines (drop at text)) → Leaves (Are n)
+  pub at_no_more : end ≡ next_of rule 0 (lines (drop at text)) → Leaves (Ok n)
   at_no_more e = ended all_read (walk.no_more u.walked e)
 
-  pub at_unclear : (k : ℕ) → unclear_at k ≡ next_of rule 0 (lines (drop at text)) → Leaves (Unclear (passed + k))
+  pub at_unclear : (k : ℕ) → unclear_at k ≡ next_of rule 0 (lines (drop at text)) → Leaves (Err (Unclear (passed + k)))
   at_unclear k e = ended (unclear_in (passed + k)) (walk.at_unclear u.walked k e)
 
   -- one sight more
@@ -100,11 +100,11 @@ module _ {A E : Type 0} {rule : List ℕ → Reading A} {entry : A → ℕ → E
     is_one = walk.is_one u.walked x k next e
 
     -- which finds no place
-    pub at_full : places ≤ n → Leaves Full
+    pub at_full : places ≤ n → Leaves (Err Full)
     unfolding stored_rule
     at_full h =
-        ends Full
-        (sym (ap (λ (t : Bool). cond t Full (sights_with (length es) (ending_in rule text))) (lt-ltb places (length es) (omega (arith, is_one, u.placed)))))
+        ends (Err Full)
+        (sym (ap (λ (t : Bool). cond t (Err Full) (sights_with (length es) (ending_in rule text))) (lt-ltb places (length es) (omega (arith, is_one, u.placed)))))
         (omega (arith, is_one, u.placed))
 
     next_row : n < places → (f : E → ℕ) (old cur : List ℕ) → RowOf es f places old cur n → RowOf es f places old (set cur n (f met_now)) (n + 1)
@@ -129,17 +129,17 @@ module _ {A E : Type 0} {rule : List ℕ → Reading A} {entry : A → ℕ → E
 -- ---- sights that are all read
 
 module _ {A E : Type 0} (rule : List ℕ → Reading A) (entry : A → ℕ → E) (places : ℕ) (text : List ℕ) (n : ℕ)
-    (e : Are n ≡ stored_rule rule entry places text) where
+    (e : Ok n ≡ stored_rule rule entry places text) where
   abbrev all : List E
   all = entries_in rule entry text
 
   -- one more than how many there are, 0 where there is no such number
-  abbrev many : Sights → ℕ
-  many (Are k) = suc k
-  many (Unclear line) = 0
-  many Full = 0
+  abbrev many : Result ℕ Stopped → ℕ
+  many (Ok k) = suc k
+  many (Err (Unclear line)) = 0
+  many (Err Full) = 0
 
-  counted : (t : Bool) (b : Ending) → ltb places (length all) ≡ t → Are n ≡ cond t Full (sights_with (length all) b)
+  counted : (t : Bool) (b : Ending) → ltb places (length all) ≡ t → Ok n ≡ cond t (Err Full) (sights_with (length all) b)
       → (n ≡ length all) × (length all ≤ places)
   counted true b h q = absurd (omega (arith, ap many q))
   counted false all_read h q = (omega (arith, ap many q), ltb-false places (length all) h)
@@ -163,7 +163,7 @@ module _ {A E : Type 0} (rule : List ℕ → Reading A) (entry : A → ℕ → E
       let long : n ≡ length (take n cur) = omega (arith, ap length (read_front f old cur h), length-map all f, known.0) in
       (omega (arith, long, length-take n cur), long)
 
-  module _ {columns : Columns E} {line star first second : List ℕ} {r : Sights} {line' star' first' second' : List ℕ}
+  module _ {columns : Columns E} {line star first second : List ℕ} {r : Result ℕ Stopped} {line' star' first' second' : List ℕ}
       (s : EntriesStored rule entry columns places text line star first second r line' star' first' second') where
     pub lines_front : take n line' ≡ map columns.line all
     lines_front = read_front columns.line line line' s.lines_are

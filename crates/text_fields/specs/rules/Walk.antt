@@ -1,7 +1,8 @@
 -- All that a rule reads of a text's lines, in their order, each with the number of its line from 1 on, up to the first line that cannot be
 -- read; and how the reading ends.
-use Rattle.std.specs.Prelude.{ℕ, suc, cond, List, [], ◌∷◌}
+use Rattle.std.specs.Prelude.{ℕ, suc, cond, List, [], ◌∷◌, Option, Some, None, Result, Ok, Err}
 use Rattle.text_whole.specs.rules.Unsigned.{Reading, is, none}
+use Rattle.text_fields.specs.declared.Unclear.{Unclear}
 use Rattle.text_fields.specs.declared.Stop.TheVariants.{Hash}
 use Rattle.text_fields.specs.rules.Fields.{before, is_bare}
 use Rattle.text_fields.specs.rules.Lines.{lines}
@@ -15,6 +16,11 @@ pub data Told (A : Type 0) : Type 0 where
 abbrev pub told_by : {A : Type 0} → Reading A → Told A
 told_by (is x) = told x
 told_by none = unclear
+
+abbrev pub shown_line : {A : Type 0} → Result (Option A) Unclear → Told A
+shown_line (Ok (Some x)) = told x
+shown_line (Ok None) = nothing
+shown_line (Err e) = unclear
 
 -- of what stands in front of its comment, where that has a field
 unfoldable pub told_of : {A : Type 0} → (List ℕ → Reading A) → List ℕ → Told A

@@ -1,5 +1,5 @@
 -- Wrong variants are excluded: each differs from the rule at the input stated.
-use Rattle.std.specs.Prelude.{ℕ, refl, true, false, List, [], ◌∷◌, ◌≢◌}
+use Rattle.std.specs.Prelude.{ℕ, refl, true, List, [], ◌∷◌, ◌≢◌}
 use Rattle.double.specs.laws.Apart.{apart}
 use Rattle.text_number.specs.notions.Code.{of_text}
 use Rattle.text_headings.specs.rules.Sight.{seconds_text, way_text, aside_text, row_at}

@@ -1,9 +1,9 @@
 -- Wrong variants are excluded: each differs from the rule at the text stated.
-use Rattle.std.specs.Prelude.{ℕ, refl, List, [], ◌∷◌, length, ◌≢◌}
+use Rattle.std.specs.Prelude.{ℕ, refl, List, [], ◌∷◌, length, ◌≢◌, Result, Ok, Err}
 use Rattle.double.specs.laws.Apart.{apart}
 use Rattle.text_number.specs.rules.Bytes.{ascii}
-use Rattle.text_fields.specs.declared.Sights.{Sights}
-use Rattle.text_fields.specs.declared.Sights.TheVariants as sights
+use Rattle.text_fields.specs.declared.Stopped.{Stopped}
+use Rattle.text_fields.specs.declared.Stopped.TheVariants as stopped
 use Rattle.text_fields.specs.rules.Lines.{lines}
 use Rattle.text_fields.specs.rules.Walk.{told_of}
 use Rattle.text_fields.specs.rules.Stored.{sights_with, stored_rule}
@@ -51,10 +51,10 @@ abbrev two : List ℕ
 two = ascii "1 2 3\n4 5 6"
 
 -- which of its cases an answer is
-abbrev of_sights : Sights → ℕ
-of_sights (sights.Are n) = 0
-of_sights (sights.Unclear line) = 1
-of_sights sights.Full = 2
+abbrev of_sights : Result ℕ Stopped → ℕ
+of_sights (Ok n) = 0
+of_sights (Err (stopped.Unclear line)) = 1
+of_sights (Err stopped.Full) = 2
 
 -- entries by their first line
 abbrev of_entries : List Entry → ℕ

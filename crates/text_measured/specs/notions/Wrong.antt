@@ -3,7 +3,8 @@ use Rattle.std.specs.Prelude.{ℕ, suc, List, [], ◌∷◌}
 use Rattle.text_whole.specs.rules.Unsigned.{Reading, unsigned_rule}
 use Rattle.text_degrees.specs.rules.Degrees.{degrees_rule}
 use Rattle.text_fields.specs.rules.Fields.{field_of, after_field}
-use Rattle.text_measured.specs.rules.Sight.{Sight, sight_from}
+use Rattle.text_measured.specs.declared.Sight.{Sight}
+use Rattle.text_measured.specs.rules.Sight.{sight_from}
 use Rattle.text_measured.specs.rules.Sights.{Entry}
 
 -- whatever follows the third

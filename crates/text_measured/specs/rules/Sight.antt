@@ -5,18 +5,11 @@ use Rattle.quantity.specs.declared.Deg.{Deg}
 use Rattle.text_whole.specs.rules.Unsigned.{Reading, is, none, unsigned_rule}
 use Rattle.text_degrees.specs.rules.Degrees.{Angle, of, unclear, degrees_rule}
 use Rattle.text_fields.specs.rules.Fields.{is_bare, field_of, after_field}
-use Rattle.text_fields.specs.rules.Walk as walk
 use Rattle.text_fields.specs.rules.Walk.{Told, told_of}
-use Rattle.text_measured.specs.declared.Line.{Line}
-use Rattle.text_measured.specs.declared.Line.TheVariants as line
+use Rattle.text_measured.specs.declared.Sight.{Sight}
 
-pub data Sight : Type 0 where
-  sight : ℕ → Deg → Deg → Sight
-
-abbrev pub shown_line : Line → Told Sight
-shown_line (line.Sight n a d) = walk.told (sight n a d)
-shown_line line.Bare = walk.nothing
-shown_line line.Unclear = walk.unclear
+abbrev pub sight : ℕ → Deg → Deg → Sight
+sight n a d = record { number = n; asc = a; dec = d }
 
 -- each of three fields clear
 unfoldable pub sight_from : Reading ℕ → Angle → Angle → Reading Sight

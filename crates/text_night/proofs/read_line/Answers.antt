@@ -1,4 +1,5 @@
 -- `text_night::read_line` meets its contract.
+use Rattle.std.proofs.Common.{rules}
 use lib.ListN.{take}
 use lib.Seq.{length-take-le}
 use native.Mathlib.Omega.{arith}
@@ -40,8 +41,18 @@ pub returns-then-is_bare : goal.returns-then-is_bare
 unfolding line_rule told_of
 returns-then-is_bare c = rw (sym (bare c.args.line.now _ c.length_before-end.ensures _ c.is_bare.ensures) ∙ c.if-is_bare.true)
 
-pub returns : goal.returns
+pub returns-in-Some : goal.returns-in-Some
 unfolding line_rule told_of
-returns c =
-    rw (sym (bare c.args.line.now _ c.length_before-end.ensures _ c.is_bare.ensures) ∙ c.if-is_bare.false)
-    (rw (said c.args.line.now _ c.length_before-end.ensures, to_z-of_z c.ranges.dut1) at c.read_sight.ensures)
+returns-in-Some c =
+    rw (
+      sym (bare c.args.line.now _ c.length_before-end.ensures _ c.is_bare.ensures) ∙ c.if-is_bare.false,
+      ← (rw (said c.args.line.now _ c.length_before-end.ensures, to_z-of_z c.ranges.dut1) at c.read_sight.ensures),
+    ) (search rules)
+
+pub returns-in-None : goal.returns-in-None
+unfolding line_rule told_of
+returns-in-None c =
+    rw (
+      sym (bare c.args.line.now _ c.length_before-end.ensures _ c.is_bare.ensures) ∙ c.if-is_bare.false,
+      ← (rw (said c.args.line.now _ c.length_before-end.ensures, to_z-of_z c.ranges.dut1) at c.read_sight.ensures),
+    ) (search rules)

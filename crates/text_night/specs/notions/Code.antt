@@ -2,7 +2,7 @@
 use Rattle.std.specs.Prelude.{ℕ, suc, List, [], ◌∷◌}
 use Rattle.quantity.specs.notions.Code.{of_deg, of_float}
 use Rattle.text_fields.specs.rules.Walk.{Told, told, nothing, unclear}
-use Rattle.text_night.specs.rules.Sight.{Sight, sight}
+use Rattle.text_night.specs.declared.Sight.{Sight}
 use Rattle.text_night.specs.rules.Sights.{Entry}
 
 -- by a number of its sight
@@ -12,13 +12,13 @@ of_told code nothing = 0
 of_told code unclear = 1
 
 abbrev pub of_day : Sight → ℕ
-of_day (sight t n s m) = of_float t
+of_day s = of_float s.day
 
 abbrev pub of_number : Sight → ℕ
-of_number (sight t n s m) = n
+of_number s = s.number
 
 abbrev pub of_star : Sight → ℕ
-of_star (sight t n s m) = of_deg s
+of_star s = of_deg s.star
 
 -- entries by their first line
 abbrev pub of_entries : List Entry → ℕ

@@ -4,7 +4,8 @@ use Rattle.text_whole.specs.rules.Unsigned.{Reading, unsigned_rule}
 use Rattle.text_day.specs.rules.Day.{day_rule}
 use Rattle.text_degrees.specs.rules.Degrees.{degrees_rule}
 use Rattle.text_fields.specs.rules.Fields.{field_of, after_field}
-use Rattle.text_night.specs.rules.Sight.{Sight, sight_from, on_day, sight_rule}
+use Rattle.text_night.specs.declared.Sight.{Sight}
+use Rattle.text_night.specs.rules.Sight.{sight_from, on_day, sight_rule}
 
 -- the fields of a line, from the second on
 abbrev second : List ℕ → List ℕ

@@ -7,18 +7,11 @@ use Rattle.text_date.specs.rules.Date as date
 use Rattle.text_day.specs.rules.Day.{day_rule}
 use Rattle.text_degrees.specs.rules.Degrees.{Angle, of, unclear, degrees_rule}
 use Rattle.text_fields.specs.rules.Fields.{is_bare, field_of, after_field}
-use Rattle.text_fields.specs.rules.Walk as walk
 use Rattle.text_fields.specs.rules.Walk.{Told, told_of}
-use Rattle.text_night.specs.declared.Line.{Line}
-use Rattle.text_night.specs.declared.Line.TheVariants as line
+use Rattle.text_night.specs.declared.Sight.{Sight}
 
-pub data Sight : Type 0 where
-  sight : Float → ℕ → Deg → Deg → Sight
-
-abbrev pub shown_line : Line → Told Sight
-shown_line (line.Sight t n s m) = walk.told (sight t n s m)
-shown_line line.Bare = walk.nothing
-shown_line line.Unclear = walk.unclear
+abbrev pub sight : Float → ℕ → Deg → Deg → Sight
+sight t n s m = record { day = t; number = n; star = s; mark = m }
 
 -- each of the three fields behind the time clear
 unfoldable pub sight_from : Float → Reading ℕ → Angle → Angle → Reading Sight

@@ -3,7 +3,8 @@
 use Rattle.std.specs.Prelude.{ℕ, List, ℤ, Float}
 use Rattle.quantity.specs.declared.Deg.{Deg}
 use Rattle.text_fields.specs.rules.Walk.{Ending, entries_in, ending_in}
-use Rattle.text_night.specs.rules.Sight.{Sight, sight, sight_rule}
+use Rattle.text_night.specs.declared.Sight.{Sight}
+use Rattle.text_night.specs.rules.Sight.{sight_rule}
 
 -- the day, the star's number, the two readings, and the line that says so
 pub record Entry : Type 0 where
@@ -14,7 +15,7 @@ pub record Entry : Type 0 where
   pub line : ℕ
 
 abbrev pub entry_of : Sight → ℕ → Entry
-entry_of (sight t n s m) line = record { day = t; number = n; star = s; mark = m; line = line }
+entry_of s line = record { day = s.day; number = s.number; star = s.star; mark = s.mark; line = line }
 
 abbrev pub entries_of : ℤ → List ℕ → List Entry
 entries_of dut1 = entries_in (sight_rule dut1) entry_of

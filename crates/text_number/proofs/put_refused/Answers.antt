@@ -1,5 +1,4 @@
 -- `text_number::put_refused` meets its contract.
-use borrow.Author.Rules.{rules}
 use mathlib.Core.List.{append_assoc}
 use Rattle.lent.specs.laws.Writing.{after, same}
 use Rattle.text_number.specs.rules.Refused.{refused_text}

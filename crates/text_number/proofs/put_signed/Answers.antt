@@ -5,6 +5,3 @@ use Rattle.text_number.proofs.put_signed.Goals as goal
 pub returns-then-minus : goal.returns-then-minus
 returns-then-minus c =
     same (simp c.if-minus.true) (after c.put_byte-a.ensures c.put_decimal.ensures)
-
-pub returns : goal.returns
-returns c = same (simp c.if-minus.false) c.put_decimal-2.ensures

@@ -1,20 +1,17 @@
 -- `text_refusal::put_observer_words` meets its contract.
-use borrow.Author.Tests.{eq-eqb, ne_eqb}
+use Rattle.std.proofs.Common.{rules}
 use Rattle.lent.specs.laws.Writing.{nothing, same}
 use Rattle.text_refusal.specs.rules.Refusal.{observer_words}
 use Rattle.text_refusal.proofs.put_observer_words.Goals as goal
 
-pub returns-then-n-eq3 : goal.returns-then-n-eq3
+pub returns-in-3 : goal.returns-in-3
 unfolding observer_words
-returns-then-n-eq3 c =
-    same (simp (eq-eqb _ _ c.if-n-eq3.true)) c.put.ensures
+returns-in-3 c = same (rw c.in-3.is) c.put.ensures
 
-pub returns-then-n-eq4 : goal.returns-then-n-eq4
+pub returns-in-4 : goal.returns-in-4
 unfolding observer_words
-returns-then-n-eq4 c =
-    same (simp (ne_eqb _ _ c.if-n-eq3.false, eq-eqb _ _ c.if-n-eq4.true)) c.put-then-n-eq4.ensures
+returns-in-4 c = same (rw c.in-4.is) c.put-in-4.ensures
 
-pub returns : goal.returns
+pub returns-in_default : goal.returns-in_default
 unfolding observer_words
-returns c =
-    same (simp (ne_eqb _ _ c.if-n-eq3.false, ne_eqb _ _ c.if-n-eq4.false)) (nothing _ _ _ c.within.ensures)
+returns-in_default c = same (search rules) (nothing _ _ _ c.within.ensures)

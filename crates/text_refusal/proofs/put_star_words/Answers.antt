@@ -1,59 +1,33 @@
 -- `text_refusal::put_star_words` meets its contract.
-use borrow.Author.Rules.{rules}
-use borrow.Author.Tests.{eq-eqb, ne_eqb}
+use Rattle.std.proofs.Common.{rules}
 use Rattle.lent.specs.laws.Writing.{nothing, same}
 use Rattle.text_refusal.specs.rules.Refusal.{star_words}
 use Rattle.text_refusal.proofs.put_star_words.Goals as goal
 
-pub returns-then-n-eq3 : goal.returns-then-n-eq3
+pub returns-in-3 : goal.returns-in-3
 unfolding star_words
-returns-then-n-eq3 c =
-    same (simp (eq-eqb _ _ c.if-n-eq3.true)) c.put.ensures
+returns-in-3 c = same (rw c.in-3.is) c.put.ensures
 
-pub returns-then-n-eq4 : goal.returns-then-n-eq4
+pub returns-in-4 : goal.returns-in-4
 unfolding star_words
-returns-then-n-eq4 c =
-    same (simp (ne_eqb _ _ c.if-n-eq3.false, eq-eqb _ _ c.if-n-eq4.true)) c.put-then-n-eq4.ensures
+returns-in-4 c = same (rw c.in-4.is) c.put-in-4.ensures
 
-pub returns-then-n-eq7 : goal.returns-then-n-eq7
+pub returns-in-7 : goal.returns-in-7
 unfolding star_words
-returns-then-n-eq7 c =
-    same (simp (ne_eqb _ _ c.if-n-eq3.false, ne_eqb _ _ c.if-n-eq4.false, eq-eqb _ _ c.if-n-eq7.true)) c.put-then-n-eq7.ensures
+returns-in-7 c = same (rw c.in-7.is) c.put-in-7.ensures
 
-pub returns-then-n-eq9 : goal.returns-then-n-eq9
+pub returns-in-9 : goal.returns-in-9
 unfolding star_words
-returns-then-n-eq9 c =
-    same (simp (ne_eqb _ _ c.if-n-eq3.false, ne_eqb _ _ c.if-n-eq4.false, ne_eqb _ _ c.if-n-eq7.false, eq-eqb _ _ c.if-n-eq9.true)) c.put-then-n-eq9.ensures
+returns-in-9 c = same (rw c.in-9.is) c.put-in-9.ensures
 
-pub returns-then-n-eq10 : goal.returns-then-n-eq10
+pub returns-in-10 : goal.returns-in-10
 unfolding star_words
-returns-then-n-eq10 c =
-    same (simp (ne_eqb _ _ c.if-n-eq3.false, ne_eqb _ _ c.if-n-eq4.false, ne_eqb _ _ c.if-n-eq7.false, ne_eqb _ _ c.if-n-eq9.false, eq-eqb _ _ c.if-n-eq10.true)) c.put-then-n-eq10.ensures
+returns-in-10 c = same (rw c.in-10.is) c.put-in-10.ensures
 
-pub returns-then-n-eq14 : goal.returns-then-n-eq14
+pub returns-in-14 : goal.returns-in-14
 unfolding star_words
-returns-then-n-eq14 c =
-    same
-    (simp (
-      ne_eqb _ _ c.if-n-eq3.false,
-      ne_eqb _ _ c.if-n-eq4.false,
-      ne_eqb _ _ c.if-n-eq7.false,
-      ne_eqb _ _ c.if-n-eq9.false,
-      ne_eqb _ _ c.if-n-eq10.false,
-      eq-eqb _ _ c.if-n-eq14.true,
-    ))
-    c.put-then-n-eq14.ensures
+returns-in-14 c = same (rw c.in-14.is) c.put-in-14.ensures
 
-pub returns : goal.returns
+pub returns-in_default : goal.returns-in_default
 unfolding star_words
-returns c =
-    same
-    (simp (
-      ne_eqb _ _ c.if-n-eq3.false,
-      ne_eqb _ _ c.if-n-eq4.false,
-      ne_eqb _ _ c.if-n-eq7.false,
-      ne_eqb _ _ c.if-n-eq9.false,
-      ne_eqb _ _ c.if-n-eq10.false,
-      ne_eqb _ _ c.if-n-eq14.false,
-    ))
-    (nothing _ _ _ c.within.ensures)
+returns-in_default c = same (search rules) (nothing _ _ _ c.within.ensures)

@@ -1,5 +1,4 @@
 -- `text_row::put_place` meets its contract.
-use borrow.Author.Rules.{rules}
 use mathlib.Core.List.{append_assoc}
 use Rattle.lent.specs.laws.Writing.{after, same}
 use Rattle.text_row.specs.rules.Row.{place_text}

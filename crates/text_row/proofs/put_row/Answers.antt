@@ -1,5 +1,4 @@
 -- `text_row::put_row` meets its contract.
-use borrow.Author.Rules.{rules}
 use borrow.Author.Tests.{eq-eqb, ne_eqb}
 use mathlib.Core.List.{append_assoc}
 use Rattle.lent.specs.laws.Writing.{after, same}

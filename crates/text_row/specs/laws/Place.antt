@@ -1,6 +1,6 @@
 -- A place in its columns: a right ascension has twelve bytes, and so has a declination below a hundred degrees; what the parts say is the
 -- whole number that was rounded to; and a whole turn is shown as none.
-use Rattle.std.specs.Prelude.{ℕ, ◌+◌, ◌*◌, ◌/◌, ◌%◌, ◌<◌, ◌≡◌, refl, Bool, ◌∷◌, [], length}
+use Rattle.std.specs.Prelude.{ℕ, ◌+◌, ◌*◌, ◌/◌, ◌%◌, ◌<◌, ◌≡◌, refl, Bool, ◌∷◌, length}
 use Rattle.std.proofs.Common.{mod-lt, arith, length-append}
 use Rattle.std.specs.Float.Ieee.{neg}
 use Rattle.double.specs.rules.Operations.{bits}

@@ -12,7 +12,7 @@ use Rattle.text_sheet.specs.laws.Sheet.{kept_all, count_more, goods_more, goods_
 use Rattle.text_sheet.proofs.counts.Goals as goal
 
 pub loop-i-init : goal.loop-i-init
-loop-i-init c = (omega arith, (c.count-n.ensures, ((omega arith, refl), (omega arith, refl))))
+loop-i-init c = record { all_few = omega arith; all_is = refl; good_few = omega arith; good_is = refl }
 
 one_more : (r : Star) (n : ℕ) → n ≡ length (kept (r ∷ [])) → n ≤ 1
 one_more r n e = omega (arith, e, fewer_kept (r ∷ []))
@@ -34,20 +34,20 @@ loop-i-preserved c =
     let star = c.nth-star in
     -- in a turn i is an index of the list
     let index : loop.i < count_of s = omega arith in
-    let all =
-    ap (λ (n : ℕ). n + c.one_kept-all.result) inv.1.1.0.1
-    ∙ ap (λ (n : ℕ). length (kept (take loop.i (stars s))) + n) c.one_kept-all.ensures
-    ∙ count_more s loop.i index star.result star.ensures in
-    let good =
-    ap (λ (n : ℕ). n + c.one_good-good.result) inv.1.1.1.1
-    ∙ ap (λ (n : ℕ). goods (kept (take loop.i (stars s))) + n) c.one_good-good.ensures
-    ∙ goods_more s loop.i index star.result star.ensures in (
-      omega arith,
-      (inv.1.0, ((omega (arith, one_more _ _ c.one_kept-all.ensures), all), (omega (arith, one_good_more _ _ c.one_good-good.ensures), good))),
-    )
+    record {
+      all_few = omega (arith, inv.all_few, one_more _ _ c.one_kept-all.ensures);
+      all_is =
+          ap (λ (n : ℕ). n + c.one_kept-all.result) inv.all_is
+          ∙ ap (λ (n : ℕ). length (kept (take loop.i (stars s))) + n) c.one_kept-all.ensures
+          ∙ count_more s loop.i index star.result star.ensures;
+      good_few = omega (arith, inv.good_few, one_good_more _ _ c.one_good-good.ensures);
+      good_is =
+          ap (λ (n : ℕ). n + c.one_good-good.result) inv.good_is
+          ∙ ap (λ (n : ℕ). goods (kept (take loop.i (stars s))) + n) c.one_good-good.ensures
+          ∙ goods_more s loop.i index star.result star.ensures;
+    }
 
 pub returns : goal.returns
 returns c =
-    let loop = c.loop-i in
-    let whole = kept_all c.args.bytes.now loop.i (omega arith) in
-    record { all = loop.invariant.1.1.0.1 ∙ ap length whole; good = loop.invariant.1.1.1.1 ∙ ap goods whole }
+    let whole = kept_all c.args.bytes.now c.loop-i.i (omega arith) in
+    record { all = c.loop-i.invariant.all_is ∙ ap length whole; good = c.loop-i.invariant.good_is ∙ ap goods whole }

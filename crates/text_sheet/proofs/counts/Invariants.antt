@@ -1,16 +1,17 @@
 use mathlib.Core.Path.{◌≡◌}
-use mathlib.Core.List.{[]}
-use Prim.Native.Nat.{◌-◌, ◌≤◌}
+use Prim.Native.Nat.{ℕ, ◌≤◌}
+use mathlib.Core.List.{List}
 use lib.ListN.{length, take}
-use Rattle.list.specs.rules.Stars.{count_of, stars, kept}
+use Rattle.list.specs.rules.Stars.{stars, kept}
 use Rattle.text_sheet.specs.rules.Sheet.{goods}
 use Rattle.text_sheet.proofs.counts.Given as goal
 
-abbrev pub invariant-loop-i : goal.invariant-loop-i
-invariant-loop-i l =
-    (l.i ≤ l.n)
-    × ((l.n ≡ count_of l.bytes)
-    × (((l.all ≤ l.i) × (l.all ≡ length (kept (take l.i (stars l.bytes))))) × ((l.good ≤ l.i) × (l.good ≡ goods (kept (take l.i (stars l.bytes)))))))
+-- of the first i stars, so many are kept, and so many of those in range
+pub record Counting (s : List ℕ) (all good i : ℕ) : Type 0 where
+  pub all_few : all ≤ i
+  pub all_is : all ≡ length (kept (take i (stars s)))
+  pub good_few : good ≤ i
+  pub good_is : good ≡ goods (kept (take i (stars s)))
 
-abbrev pub decreases-loop-i : goal.decreases-loop-i
-decreases-loop-i l = l.n - l.i
+abbrev pub invariant-loop-i : goal.invariant-loop-i
+invariant-loop-i l = Counting l.bytes l.all l.good l.i

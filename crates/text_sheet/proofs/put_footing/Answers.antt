@@ -1,5 +1,4 @@
 -- `text_sheet::put_footing` meets its contract.
-use borrow.Author.Rules.{rules}
 use mathlib.Core.List.{append_assoc}
 use Rattle.lent.specs.laws.Writing.{after, same}
 use Rattle.text_sheet.specs.rules.Sheet.{footing}

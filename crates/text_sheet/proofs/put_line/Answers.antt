@@ -1,5 +1,4 @@
 -- `text_sheet::put_line` meets its contract, piece by piece.
-use borrow.Author.Rules.{rules}
 use mathlib.Core.Path.{◌≡◌, sym, ◌∙◌}
 use mathlib.Core.Bool.{Bool, true, false}
 use mathlib.Core.List.{◌++◌, append_assoc}

@@ -1,5 +1,5 @@
 -- `text_sheet::put_sheet` meets its contract: heading, lines and footing, one after the other.
-use mathlib.Core.Path.{◌≡◌, sym, ◌∙◌}
+use mathlib.Core.Path.{◌≡◌, sym, ap, ◌∙◌}
 use mathlib.Core.Bool.{Bool, true, false}
 use mathlib.Core.List.{List, ◌++◌, append_assoc}
 use Prim.Native.Nat.{ℕ, ◌-◌}
@@ -24,7 +24,8 @@ a_list rates s all good t e g = simp (append_assoc, t, e, g)
 
 pub returns-then-not-is_list : goal.returns-then-not-is_list
 returns-then-not-is_list c =
-    same (no_list c.args.rates c.args.bytes.now (sym c.is_list.ensures ∙ c.if-not-is_list.true)) c.put_refused.ensures
+    same (ap refused_text c.number.ensures ∙ no_list c.args.rates c.args.bytes.now (sym c.is_list.ensures ∙ c.if-not-is_list.true))
+    c.put_refused.ensures
 
 pub overflow_sub-all : goal.overflow_sub-all
 overflow_sub-all c =

@@ -1,5 +1,5 @@
 -- The kept stars of a list, one after the other: their lines and their number, and how many are good.
-use Rattle.std.specs.Prelude.{◌≡◌, refl, Bool, cond, List, [], ◌∷◌, ◌++◌, ℕ, ◌+◌, ◌≤◌, ◌<◌, length, take}
+use Rattle.std.specs.Prelude.{◌≡◌, refl, Bool, cond, List, [], ◌∷◌, ◌++◌, ℕ, ◌+◌, ◌≤◌, ◌<◌, length, take, Ok}
 use Rattle.std.proofs.Common.{sym, ap, ◌∙◌, append_assoc, add_assoc, zero-add, arith, length-append, eq-eqb, ne_eqb}
 use Rattle.lent.specs.laws.Flags.{at_most_one}
 use Rattle.list.specs.rules.Record.{in_range}
@@ -10,7 +10,6 @@ use Rattle.list_edit.specs.rules.Edit.{gather_rule, Edit}
 use Rattle.list_edit.specs.laws.Gather.{kept_join}
 use Rattle.list_edit.specs.laws.Fitting.{list_by_length}
 use Rattle.list_edit.specs.laws.Calls.{gather_keeps, gather_as_long}
-use Rattle.list_edit.specs.declared.Edited.TheVariants.{Done}
 use Rattle.text_number.specs.rules.Refused.{refused_text}
 use Rattle.text_sheet.specs.rules.Sheet.{line, lines, goods, sheet_in, sheet_of}
 
@@ -63,7 +62,7 @@ goods_most (r ∷ rs) = omega (arith, goods_most rs, at_most_one (in_range r))
 
 -- ---- the sheet of a gathered list is the sheet before
 
-pub sheet_after_gather : (rates : Bool) (s : List ℕ) → Bytes s → (new : List ℕ) → Edit (gather_rule s) s new Done
+pub sheet_after_gather : (rates : Bool) (s : List ℕ) → Bytes s → (new : List ℕ) → Edit (gather_rule s) s new (Ok tt)
     → sheet_of rates new ≡ sheet_of rates s
 unfolding sheet_of
 sheet_after_gather rates s y new p =

@@ -1,20 +1,14 @@
 -- The sheet written into a lent slice. One that is shorter than the longest sheet is refused by 8 and stays as it was.
-use Rattle.std.specs.Prelude.{ℕ, ◌+◌, ◌*◌, Bool, cond, List, ◌++◌, ltb, length, drop}
+use Rattle.std.specs.Prelude.{ℕ, ◌+◌, ◌*◌, Bool, cond, List, ◌++◌, ltb, length, drop, Result, Ok, Err}
+use Rattle.quantity.specs.declared.Refusal.{Refusal}
 use Rattle.quantity.specs.rules.Answer.{Answer, answered, refused}
 use Rattle.list.specs.rules.Stars.{most_stars}
 use Rattle.text_sheet.specs.rules.Sheet.{sheet_of}
-use Rattle.text_sheet.specs.declared.Sheet.{Sheet}
-use Rattle.text_sheet.specs.declared.Sheet.TheVariants.{Bytes, Refused}
 
--- how many bytes were written
-abbrev pub shown_sheet : Sheet → Answer ℕ
-shown_sheet (Bytes n) = answered n
-shown_sheet (Refused n) = refused n
-
--- the same as a number: 0 of a refusal
-abbrev pub bytes_of : Sheet → ℕ
-bytes_of (Bytes n) = n
-bytes_of (Refused n) = 0
+-- how many bytes were written: 0 of a refusal
+abbrev pub bytes_of : Result ℕ Refusal → ℕ
+bytes_of (Ok n) = n
+bytes_of (Err e) = 0
 
 -- sixty-four bytes a star, and sixty more
 abbrev pub room : ℕ

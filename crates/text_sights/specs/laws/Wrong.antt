@@ -1,5 +1,5 @@
 -- Wrong variants are excluded: each differs from the rule at the input stated.
-use Rattle.std.specs.Prelude.{ℕ, List, [], ◌∷◌, pos, length, ◌≢◌}
+use Rattle.std.specs.Prelude.{[], ◌∷◌, pos, length, ◌≢◌}
 use Rattle.std.proofs.Common.{ap, arith, length-append}
 use Rattle.text_residuals.specs.rules.Sheet.{sheet_text, line_star_text, left_text}
 use Rattle.text_sights.specs.rules.Sights.{left_at, lefts_text, place_at, people_text}

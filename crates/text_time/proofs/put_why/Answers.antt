@@ -1,21 +1,17 @@
 -- `text_time::put_why` meets its contract.
-use borrow.Author.Rules.{rules}
-use borrow.Author.Tests.{eq-eqb, ne_eqb}
+use Rattle.std.proofs.Common.{rules}
 use Rattle.lent.specs.laws.Writing.{same}
 use Rattle.text_time.specs.rules.Line.{why_text}
 use Rattle.text_time.proofs.put_why.Goals as goal
 
-pub returns-then-n-eq15 : goal.returns-then-n-eq15
+pub returns-in-15 : goal.returns-in-15
 unfolding why_text
-returns-then-n-eq15 c =
-    same (simp (eq-eqb _ _ c.if-n-eq15.true)) c.put.ensures
+returns-in-15 c = same (rw c.in-15.is) c.put.ensures
 
-pub returns-then-n-eq16 : goal.returns-then-n-eq16
+pub returns-in-16 : goal.returns-in-16
 unfolding why_text
-returns-then-n-eq16 c =
-    same (simp (ne_eqb _ _ c.if-n-eq15.false, eq-eqb _ _ c.if-n-eq16.true)) c.put-then-n-eq16.ensures
+returns-in-16 c = same (rw c.in-16.is) c.put-in-16.ensures
 
-pub returns : goal.returns
+pub returns-in_default : goal.returns-in_default
 unfolding why_text
-returns c =
-    same (simp (ne_eqb _ _ c.if-n-eq15.false, ne_eqb _ _ c.if-n-eq16.false)) c.put_refused.ensures
+returns-in_default c = same (search rules) c.put_refused.ensures

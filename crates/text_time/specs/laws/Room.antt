@@ -3,7 +3,7 @@ use Rattle.std.specs.Prelude.{ℕ, ◌/◌, ◌%◌, ◌≤◌, Bool, true, fals
 use Rattle.std.proofs.Common.{arith, length-append}
 use Rattle.std.specs.Float.Ieee.{lt}
 use Rattle.quantity.specs.rules.Answer.{Answer, answered, refused, Triple, triple}
-use Rattle.text_number.specs.rules.Bytes.{ascii, space, line_end, colon, digit0}
+use Rattle.text_number.specs.rules.Bytes.{ascii, space, colon, digit0}
 use Rattle.text_number.specs.rules.Number.{decimal_text}
 use Rattle.text_number.specs.rules.Refused.{refused_text}
 use Rattle.text_number.specs.laws.Number.{any_decimal_short, refused_short}

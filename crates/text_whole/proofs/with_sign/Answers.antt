@@ -1,15 +1,12 @@
 -- `text_whole::with_sign` meets its contract.
-use mathlib.Core.Path.{sym, ap, ◌∙◌}
-use Rattle.text_whole.specs.declared.Unsigned.{Unsigned}
-use Rattle.text_whole.specs.rules.Unsigned.{shown_unsigned}
+use Rattle.std.proofs.Common.{rules}
 use Rattle.text_whole.specs.rules.Signed.{with_sign}
 use Rattle.text_whole.proofs.with_sign.Goals as goal
 
-pub returns-in-Is : goal.returns-in-Is
+pub returns-in_err-number : goal.returns-in_err-number
 unfolding with_sign
-returns-in-Is c =
-    c.signed_in.ensures ∙ ap (λ (n : Unsigned). with_sign c.args.minus (shown_unsigned n)) (sym c.in-Is.is)
+returns-in_err-number c = search rules
 
-pub returns-in-Unclear : goal.returns-in-Unclear
+pub returns : goal.returns
 unfolding with_sign
-returns-in-Unclear c = ap (λ (n : Unsigned). with_sign c.args.minus (shown_unsigned n)) (sym c.in-Unclear.is)
+returns c = search rules

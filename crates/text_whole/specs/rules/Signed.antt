@@ -3,12 +3,6 @@ use Rattle.std.specs.Prelude.{ℕ, Bool, true, false, cond, List, [], ◌∷◌,
 use Rattle.signed.specs.rules.Signed.{reach}
 use Rattle.text_number.specs.rules.Bytes.{plus_sign, minus_sign}
 use Rattle.text_whole.specs.rules.Unsigned.{Reading, is, none, unsigned_rule}
-use Rattle.text_whole.specs.declared.Signed.{Signed}
-use Rattle.text_whole.specs.declared.Signed.TheVariants.{Is, Unclear}
-
-abbrev pub shown_signed : Signed → Reading ℤ
-shown_signed (Is z) = is z
-shown_signed Unclear = none
 
 -- n, or −n behind a minus sign
 abbrev pub behind_sign : Bool → ℕ → ℤ

@@ -1,9 +1,7 @@
 -- A whole number of 32 bits in decimal: digits alone, at least one, and zeros in front as many as are wanted. Anything else is none.
-use Rattle.std.specs.Prelude.{ℕ, ◌+◌, ◌*◌, ◌-◌, true, false, cond, List, [], ◌∷◌, leb}
+use Rattle.std.specs.Prelude.{ℕ, ◌+◌, ◌*◌, ◌-◌, true, false, cond, List, [], ◌∷◌, leb, Option, Some, None}
 use Rattle.text_number.specs.rules.Bytes.{digit0, digit9}
 use Rattle.text_whole.specs.declared.Scan.{Scan}
-use Rattle.text_whole.specs.declared.Unsigned.{Unsigned}
-use Rattle.text_whole.specs.declared.Unsigned.TheVariants.{Is, Unclear}
 
 -- 2^32 − 1
 abbrev pub most : ℕ
@@ -31,9 +29,9 @@ pub data Reading (A : Type 0) : Type 0 where
   is : A → Reading A
   none : Reading A
 
-abbrev pub shown_unsigned : Unsigned → Reading ℕ
-shown_unsigned (Is n) = is n
-shown_unsigned Unclear = none
+abbrev pub shown : {A : Type 0} → Option A → Reading A
+shown (Some x) = is x
+shown None = none
 
 -- the whole text was clear, and had a digit
 unfoldable pub unsigned_from : Scan → Reading ℕ

@@ -1,7 +1,8 @@
 -- `transit::again` meets its contract.
+use Rattle.std.proofs.Common.{rules}
 use lib.Ieee.{div, of_bits, round}
 use Rattle.transit.proofs.again.Goals as goal
 
-pub returns-in-Are : goal.returns-in-Are
+pub returns-in-Ok : goal.returns-in-Ok
 unfolding div of_bits round
-returns-in-Are c = rw c.in-Are.is
+returns-in-Ok c = search rules

@@ -3,6 +3,7 @@ use borrow.Author.Rules.{rules}
 use Prim.Native.Nat.{ℕ, ◌<◌}
 use mathlib.Core.Path.{◌≡◌}
 use native.Mathlib.Omega.{arith}
+use Rattle.quantity.specs.laws.Answer.{named_checked}
 use Rattle.list_tally.specs.rules.Tally.{counts_in_all, count_of}
 use Rattle.list_tally.specs.laws.Tally.{count_below, stored_raises}
 use Rattle.list_tally.proofs.Tally.raise.Goals as goal
@@ -24,5 +25,5 @@ bounds-tally-k-2 c = search (rules, index c.args.status _ c.count_of-k.ensures)
 
 pub returns : goal.returns
 returns c =
-    rw (c.count_after.ensures, c.refusal_at-refusal.ensures, c.count_of-k.ensures)
+    rw (c.count_after.ensures, ← named_checked c.refusal_at-check.result, c.refusal_at-check.ensures, c.count_of-k.ensures)
     (stored_raises c.args.self c.args.status)

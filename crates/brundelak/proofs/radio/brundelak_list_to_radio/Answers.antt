@@ -1,9 +1,0 @@
--- `brundelak::radio::brundelak_list_to_radio` meets its contract.
-use Rattle.brundelak.specs.laws.Put.{put_handed, not_put_handed}
-use Rattle.brundelak.proofs.radio.brundelak_list_to_radio.Goals as goal
-
-pub returns-in-To : goal.returns-in-To
-returns-in-To c = put_handed c.list_to_radio.ensures c.in-To.is
-
-pub returns-in-Refused : goal.returns-in-Refused
-returns-in-Refused c = not_put_handed c.list_to_radio.ensures c.in-Refused.is

@@ -1,6 +1,0 @@
--- `chain::angles_refusal` meets its contract.
-use Rattle.chain.proofs.angles_refusal.Goals as goal
-
-pub returns : goal.returns
-returns c =
-    rw (c.lower.ensures, c.angle_refusal-3.ensures, c.angle_refusal-2.ensures, c.angle_refusal.ensures) at c.lower-2.ensures

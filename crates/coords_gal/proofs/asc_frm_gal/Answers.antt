@@ -1,9 +1,0 @@
--- `coords_gal::asc_frm_gal` meets its contract.
-use Rattle.quantity.specs.laws.Answer.{refuses, goes_on}
-use Rattle.coords_gal.proofs.asc_frm_gal.Goals as goal
-
-pub returns-then-refusal-ne0 : goal.returns-then-refusal-ne0
-returns-then-refusal-ne0 c = refuses _ c.steep_gal_refusal-refusal.ensures c.if-refusal-ne0.true
-
-pub returns : goal.returns
-returns c = goes_on c.steep_gal_refusal-refusal.ensures c.if-refusal-ne0.false c.asc_frm_gal_in.ensures

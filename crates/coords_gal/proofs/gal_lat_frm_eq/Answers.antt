@@ -1,9 +1,0 @@
--- `coords_gal::gal_lat_frm_eq` meets its contract.
-use Rattle.quantity.specs.laws.Answer.{refuses, goes_on}
-use Rattle.coords_gal.proofs.gal_lat_frm_eq.Goals as goal
-
-pub returns-then-refusal-ne0 : goal.returns-then-refusal-ne0
-returns-then-refusal-ne0 c = refuses _ c.gal_refusal-refusal.ensures c.if-refusal-ne0.true
-
-pub returns : goal.returns
-returns c = goes_on c.gal_refusal-refusal.ensures c.if-refusal-ne0.false c.gal_lat_in.ensures

@@ -1,9 +1,0 @@
--- `helpers::time::julian_cent` meets its contract.
-use Rattle.quantity.specs.laws.Answer.{refuses, goes_on}
-use Rattle.helpers.proofs.time.julian_cent.Goals as goal
-
-pub returns-then-refusal-ne0 : goal.returns-then-refusal-ne0
-returns-then-refusal-ne0 c = refuses _ c.day_refusal-refusal.ensures c.if-refusal-ne0.true
-
-pub returns : goal.returns
-returns c = goes_on c.day_refusal-refusal.ensures c.if-refusal-ne0.false (rw c.century.ensures)

@@ -1,9 +1,0 @@
--- `parallax::topocent_eq_coords` meets its contract.
-use Rattle.quantity.specs.laws.Answer.{refuses, goes_on}
-use Rattle.parallax.proofs.topocent_eq_coords.Goals as goal
-
-pub returns-then-refusal-ne0 : goal.returns-then-refusal-ne0
-returns-then-refusal-ne0 c = refuses _ c.topocent_refusal-refusal.ensures c.if-refusal-ne0.true
-
-pub returns : goal.returns
-returns c = goes_on c.topocent_refusal-refusal.ensures c.if-refusal-ne0.false c.topocent_in.ensures
