@@ -6,7 +6,7 @@
 ghost use Rattle.std.specs.Prelude.{◌<◌, ◌≡◌, cond, eqb, length};
 ghost use Rattle.double.specs.rules.Operations.{zero};
 ghost use Rattle.double.specs.rules.Pattern.{pattern_of};
-ghost use Rattle.quantity.specs.rules.Answer.{checked, answered, pair, unless};
+ghost use Rattle.quantity.specs.rules.Answer.{checked, checked_by, answered, pair, unless};
 ghost use Rattle.quantity.specs.rules.Refusal.{latitude_refusal};
 ghost use Rattle.list.specs.rules.Record.{in_range};
 ghost use Rattle.list.specs.rules.Stars.{most_stars, is_kept};
@@ -16,7 +16,7 @@ ghost use Rattle.star_store.specs.notions.StarStored.{Placed, StarStored};
 
 use list::Star;
 use list_tally::Tally;
-use quantity::{HALF, Rad, Refusal};
+use quantity::{HALF, Numbered, Rad, Refusal};
 
 // ---- one star
 
@@ -37,30 +37,35 @@ pub fn star_refusal(star: Star, dec: Rad) -> Result<(), Refusal>
     Err(Refusal::Record)
 }
 
-// The earlier of two refusals.
-pub fn earlier(refusal: Result<(), Refusal>, later: Result<(), Refusal>) -> Result<(), Refusal>
-    ensures { checked result ≡ earlier (checked refusal) (checked later) }
+// The earlier of two refusals; the number 0 is none.
+pub fn earlier<E: Numbered>(refusal: Result<(), E>, later: Result<(), E>) -> Result<(), E>
+    ensures { checked_by E.numbered result ≡ earlier (checked_by E.numbered refusal) (checked_by E.numbered later) }
 {
-    refusal.and(later)
+    if quantity::status_of(refusal) == 0 {
+        later
+    } else {
+        refusal
+    }
 }
 
 // What is stored of an angle, its bits: those of 0.0 where its place is refused.
-fn stored_bits(refusal: Result<(), Refusal>, x: f64) -> u64
-    ensures { result ≡ cond (eqb (checked refusal) 0) (pattern_of x) (pattern_of zero) }
+fn stored_bits<E: Numbered>(refusal: Result<(), E>, x: f64) -> u64
+    ensures { result ≡ cond (eqb (checked_by E.numbered refusal) 0) (pattern_of x) (pattern_of zero) }
 {
-    match refusal {
-        Ok(()) => double::pattern(x),
-        Err(_) => 0,
+    if quantity::status_of(refusal) == 0 {
+        double::pattern(x)
+    } else {
+        0
     }
 }
 
 // One star's status and the bits of its angles at its place in what is lent.
-fn put_star(
+fn put_star<E: Numbered>(
     status: &mut [u8],
     asc: &mut [u64],
     dec: &mut [u64],
     i: usize,
-    refusal: Result<(), Refusal>,
+    refusal: Result<(), E>,
     a: f64,
     d: f64,
 )
@@ -68,7 +73,7 @@ fn put_star(
     requires i_in_bounds { i < length status.old }
     requires i_in_bounds_2 { i < length asc.old }
     requires i_in_bounds_3 { i < length dec.old }
-    ensures { Placed i (unless (checked refusal) (answered (pair a d))) status.old asc.old dec.old
+    ensures { Placed i (unless (checked_by E.numbered refusal) (answered (pair a d))) status.old asc.old dec.old
         status.new asc.new dec.new }
 {
     status[i] = quantity::status_of(refusal);
@@ -77,12 +82,12 @@ fn put_star(
 }
 
 // The same, and the tally raised by the status.
-pub fn store_star(
+pub fn store_star<E: Numbered>(
     status: &mut [u8],
     asc: &mut [u64],
     dec: &mut [u64],
     i: usize,
-    refusal: Result<(), Refusal>,
+    refusal: Result<(), E>,
     a: f64,
     d: f64,
     tally: Tally,
@@ -91,7 +96,7 @@ pub fn store_star(
     requires i_in_bounds { i < length status.old }
     requires i_in_bounds_2 { i < length asc.old }
     requires i_in_bounds_3 { i < length dec.old }
-    ensures { StarStored i (unless (checked refusal) (answered (pair a d))) tally status.old asc.old dec.old result
+    ensures { StarStored i (unless (checked_by E.numbered refusal) (answered (pair a d))) tally status.old asc.old dec.old result
         status.new asc.new dec.new }
 {
     put_star(status, asc, dec, i, refusal, a, d);
@@ -100,13 +105,13 @@ pub fn store_star(
 }
 
 // The same with the counts of a tally that are raised where they stand: one that goes by value is copied whole, and waited for.
-pub fn store_star_in(
+pub fn store_star_in<E: Numbered>(
     status: &mut [u8],
     asc: &mut [u64],
     dec: &mut [u64],
     counts: &mut [u32; 20],
     i: usize,
-    refusal: Result<(), Refusal>,
+    refusal: Result<(), E>,
     a: f64,
     d: f64,
 )
@@ -114,7 +119,7 @@ pub fn store_star_in(
     requires i_in_bounds { i < length status.old }
     requires i_in_bounds_2 { i < length asc.old }
     requires i_in_bounds_3 { i < length dec.old }
-    ensures { StarStored i (unless (checked refusal) (answered (pair a d))) (record { counts = counts.entry.now }) status.old
+    ensures { StarStored i (unless (checked_by E.numbered refusal) (answered (pair a d))) (record { counts = counts.entry.now }) status.old
         asc.old dec.old (record { counts = counts.exit.now }) status.new asc.new dec.new }
 {
     put_star(status, asc, dec, i, refusal, a, d);

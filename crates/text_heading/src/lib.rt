@@ -3,7 +3,7 @@
 #![tactic(auto)]
 
 ghost use Rattle.std.specs.Prelude.{◌≡◌};
-ghost use Rattle.quantity.specs.rules.Answer.{shown};
+ghost use Rattle.quantity.specs.rules.Answer.{shown_by};
 ghost use Rattle.lent.specs.rules.Writing.{Wrote};
 ghost use Rattle.text_heading.specs.rules.Angle.{tenths, tenths_of, circle_tenths, arc_text, pad_text, lead_of, column_text, angle_text, circle_text, mark_text};
 ghost use Rattle.text_heading.specs.rules.Place.{hundredths, side_of, parts_text, coordinate_text, place_text};
@@ -12,7 +12,7 @@ ghost use Rattle.text_heading.specs.rules.Altitude.{seen_at, seen_text, remark_t
 ghost use Rattle.text_heading.specs.rules.Refusal.{sight_words, mark_words, sight_refusal_text, mark_refusal_text};
 
 use edition::Edition;
-use quantity::{Deg, Refusal};
+use quantity::{Deg, Numbered};
 
 // ---- an angle
 
@@ -175,8 +175,8 @@ fn put_seen_at(out: &mut [u8], at: usize, x: Deg) -> usize
 }
 
 // The same where refraction is defined.
-fn put_seen(out: &mut [u8], at: usize, seen: Result<Deg, Refusal>) -> usize
-    ensures { Wrote out.old at (seen_text (shown seen)) out.new result }
+fn put_seen<E: Numbered>(out: &mut [u8], at: usize, seen: Result<Deg, E>) -> usize
+    ensures { Wrote out.old at (seen_text (shown_by E.numbered seen)) out.new result }
 {
     match seen {
         Ok(x) => put_seen_at(out, at, x),
@@ -202,8 +202,8 @@ fn put_remark(out: &mut [u8], at: usize, alt: Deg) -> usize
 }
 
 // All that is said of it, and of the one at which the star is seen.
-pub fn put_altitude(out: &mut [u8], at: usize, alt: Deg, seen: Result<Deg, Refusal>) -> usize
-    ensures { Wrote out.old at (altitude_text alt (shown seen)) out.new result }
+pub fn put_altitude<E: Numbered>(out: &mut [u8], at: usize, alt: Deg, seen: Result<Deg, E>) -> usize
+    ensures { Wrote out.old at (altitude_text alt (shown_by E.numbered seen)) out.new result }
 {
     let a = put_angle(out, at, alt);
     let b = put_seen(out, a, seen);

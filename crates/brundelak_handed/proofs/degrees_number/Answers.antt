@@ -5,8 +5,8 @@ use Rattle.brundelak_handed.proofs.degrees_number.Goals as goal
 
 pub returns-in_err-x : goal.returns-in_err-x
 unfolding number_of_degrees
-returns-in_err-x c = search rules
+returns-in_err-x g c = search rules
 
 pub returns : goal.returns
 unfolding number_of_degrees
-returns c = search rules
+returns g c = search rules

@@ -5,8 +5,8 @@ use Rattle.brundelak_handed.proofs.point_numbers.Goals as goal
 
 pub returns-in_err-p : goal.returns-in_err-p
 unfolding numbers_of_point
-returns-in_err-p c = search rules
+returns-in_err-p g c = search rules
 
 pub returns : goal.returns
 unfolding numbers_of_point
-returns c = search rules
+returns g c = search rules

@@ -6,19 +6,19 @@ use Rattle.quantity.specs.declared.Deg.{Deg}
 use Rattle.quantity.specs.declared.Rad.{Rad}
 use Rattle.quantity.specs.declared.EqPoint.{EqPoint}
 use Rattle.quantity.specs.declared.EclPoint.{EclPoint}
-use Rattle.quantity.specs.declared.Refusal.{Refusal}
-use Rattle.quantity.specs.rules.Answer.{Answer, answered, refused, Pair, Triple, with, status_of, number, shown, shown_two, shown_three}
+use Rattle.quantity.specs.rules.Answer.{Answer, answered, refused, Pair, Triple, with, status_of, shown_by, shown_two_by, shown_three_by}
 use Rattle.atmos.specs.declared.Arcmin.{Arcmin}
 use Rattle.brundelak_handed.specs.rules.Boundary.{kept, Handed, HandedBits, HandedTwo, HandedThree, number_of_degrees, number_of_radians}
 use Rattle.brundelak_handed.specs.rules.Boundary.{number_of_arcminutes, numbers_of_point, numbers_of_ecliptic}
 
 -- ---- one float
 
-pub handed_answer : {r : Result Float Refusal} {x : Float} {b old : ℕ} → r ≡ Ok x → b ≡ pattern_of x → Handed (shown r) 0 old b
-handed_answer e p = rw e (record { answers = refl; leaves = p })
+pub handed_answer : {E : Type 0} (f : E → ℕ) {r : Result Float E} {x : Float} {b old : ℕ} → r ≡ Ok x → b ≡ pattern_of x
+    → Handed (shown_by f r) 0 old b
+handed_answer f e p = rw e (record { answers = refl; leaves = p })
 
-pub handed_refusal : {r : Result Float Refusal} {n : Refusal} {old : ℕ} → r ≡ Err n → Handed (shown r) (number n) old old
-handed_refusal e = rw e (record { answers = refl; leaves = refl })
+pub handed_refusal : {E : Type 0} (f : E → ℕ) {r : Result Float E} {n : E} {old : ℕ} → r ≡ Err n → Handed (shown_by f r) (f n) old old
+handed_refusal f e = rw e (record { answers = refl; leaves = refl })
 
 pub handed : {n : ℕ} {old new : ℕ} {a b : Answer Float} → a ≡ b → Handed a n old new → Handed b n old new
 handed {n = n} {old = old} {new = new} p t = subst (λ (a : Answer Float). Handed a n old new) p t
@@ -44,12 +44,13 @@ handed_arcminutes p t = handed (ap number_of_arcminutes p) t
 
 -- ---- two
 
-pub handed_two_answers : {r : Result (Float × Float) Refusal} {x y : Float} {b c old1 old2 : ℕ} → r ≡ Ok (x, y) → b ≡ pattern_of x → c ≡ pattern_of y
-    → HandedTwo (shown_two r) 0 old1 old2 b c
-handed_two_answers e p q = rw e (record { answers = refl; leaves1 = p; leaves2 = q })
+pub handed_two_answers : {E : Type 0} (f : E → ℕ) {r : Result (Float × Float) E} {x y : Float} {b c old1 old2 : ℕ} → r ≡ Ok (x, y)
+    → b ≡ pattern_of x → c ≡ pattern_of y → HandedTwo (shown_two_by f r) 0 old1 old2 b c
+handed_two_answers f e p q = rw e (record { answers = refl; leaves1 = p; leaves2 = q })
 
-pub handed_two_refusal : {r : Result (Float × Float) Refusal} {n : Refusal} {old1 old2 : ℕ} → r ≡ Err n → HandedTwo (shown_two r) (number n) old1 old2 old1 old2
-handed_two_refusal e = rw e (record { answers = refl; leaves1 = refl; leaves2 = refl })
+pub handed_two_refusal : {E : Type 0} (f : E → ℕ) {r : Result (Float × Float) E} {n : E} {old1 old2 : ℕ} → r ≡ Err n
+    → HandedTwo (shown_two_by f r) (f n) old1 old2 old1 old2
+handed_two_refusal f e = rw e (record { answers = refl; leaves1 = refl; leaves2 = refl })
 
 pub handed_two : {n : ℕ} {old1 old2 new1 new2 : ℕ} {a b : Answer Pair} → a ≡ b → HandedTwo a n old1 old2 new1 new2
     → HandedTwo b n old1 old2 new1 new2
@@ -68,13 +69,13 @@ handed_ecliptic p t = handed_two (ap numbers_of_ecliptic p) t
 
 -- ---- three
 
-pub handed_three_answers : {r : Result (Float × Float × Float) Refusal} {x y z : Float} {b c d old1 old2 old3 : ℕ} → r ≡ Ok (x, y, z)
-    → b ≡ pattern_of x → c ≡ pattern_of y → d ≡ pattern_of z → HandedThree (shown_three r) 0 old1 old2 old3 b c d
-handed_three_answers e p q t = rw e (record { answers = refl; leaves1 = p; leaves2 = q; leaves3 = t })
+pub handed_three_answers : {E : Type 0} (f : E → ℕ) {r : Result (Float × Float × Float) E} {x y z : Float} {b c d old1 old2 old3 : ℕ}
+    → r ≡ Ok (x, y, z) → b ≡ pattern_of x → c ≡ pattern_of y → d ≡ pattern_of z → HandedThree (shown_three_by f r) 0 old1 old2 old3 b c d
+handed_three_answers f e p q t = rw e (record { answers = refl; leaves1 = p; leaves2 = q; leaves3 = t })
 
-pub handed_three_refusal : {r : Result (Float × Float × Float) Refusal} {n : Refusal} {old1 old2 old3 : ℕ} → r ≡ Err n
-    → HandedThree (shown_three r) (number n) old1 old2 old3 old1 old2 old3
-handed_three_refusal e = rw e (record { answers = refl; leaves1 = refl; leaves2 = refl; leaves3 = refl })
+pub handed_three_refusal : {E : Type 0} (f : E → ℕ) {r : Result (Float × Float × Float) E} {n : E} {old1 old2 old3 : ℕ} → r ≡ Err n
+    → HandedThree (shown_three_by f r) (f n) old1 old2 old3 old1 old2 old3
+handed_three_refusal f e = rw e (record { answers = refl; leaves1 = refl; leaves2 = refl; leaves3 = refl })
 
 pub handed_three : {n : ℕ} {old1 old2 old3 new1 new2 new3 : ℕ} {a b : Answer Triple} → a ≡ b
     → HandedThree a n old1 old2 old3 new1 new2 new3

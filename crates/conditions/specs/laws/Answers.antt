@@ -10,6 +10,8 @@ use Rattle.quantity.specs.rules.Answer.{Answer, answered, refused, Pair, Triple,
 use Rattle.quantity.specs.laws.Answer.{carried, unique, shown_loses_nothing, shown_two_loses_nothing, shown_three_loses_nothing}
 use Rattle.quantity.specs.laws.Answer.{shown_loses_nothing}
 use Rattle.atmos.specs.declared.Arcmin.{Arcmin}
+use Rattle.transit.specs.rules.Clock.{shown_plan}
+use Rattle.transit.specs.laws.Plan.{shown_plan_loses_nothing}
 
 -- ---- a contract holds of one answer only, whatever the function and its rule's answer a
 
@@ -21,6 +23,10 @@ one_pair = unique shown_two shown_two_loses_nothing
 
 pub one_triple : {a : Answer Triple} (r s : Result (Float × Float × Float) Refusal) → shown_three r ≡ a → shown_three s ≡ a → r ≡ s
 one_triple = unique shown_three shown_three_loses_nothing
+
+-- a plan's refusal is any status, as it was given
+pub one_plan : {a : Answer Triple} (r s : Result (Float × Float × Float) ℕ) → shown_plan r ≡ a → shown_plan s ≡ a → r ≡ s
+one_plan = unique shown_plan shown_plan_loses_nothing
 
 -- ---- an answer in code is its rule's
 

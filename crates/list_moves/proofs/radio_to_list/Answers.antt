@@ -12,8 +12,8 @@ returns-in_err-n c =
 
 pub returns-in_err-m : goal.returns-in_err-m
 returns-in_err-m c =
-    let p = err_from_is_err_and c.from_residual-in_err-m.result c.from_residual-in_err-m.ensures.1 in
-    rw (p.1, p.2)
+    let q = err_from_is_err_and c.from_residual-in_err-m.result c.from_residual-in_err-m.ensures.1 in
+    rw (q.1, q.2)
     (put_refused _ _ _ _ (no_stars _ _ _ c.in_ok-n.ensures _ c.is_moving-moving.ensures _ c.in_err-m.ensures))
 
 pub returns-then-out-m : goal.returns-then-out-m
@@ -23,5 +23,5 @@ returns-then-out-m c =
 
 pub returns : goal.returns
 returns c =
-    let good : AllRead c.args.bytes.now c.is_moving-moving.result c.in_ok-n.n c.in_ok-n.first c.in_ok-m.m = all_stars _ _ _ c.in_ok-n.ensures _ c.is_moving-moving.ensures _ c.in_ok-m.ensures in
-    puts _ _ _ _ good.moved _ _ (omega (arith, good.long, c.if-out-m.false)) c.lay_stars.ensures
+    let read : AllRead c.args.bytes.now c.is_moving-moving.result c.in_ok-n.n c.in_ok-n.first c.in_ok-m.m = all_stars _ _ _ c.in_ok-n.ensures _ c.is_moving-moving.ensures _ c.in_ok-m.ensures in
+    puts _ _ _ _ read.moved _ _ (omega (arith, read.long, c.if-out-m.false)) c.lay_stars.ensures

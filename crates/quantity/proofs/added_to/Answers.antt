@@ -5,8 +5,8 @@ use Rattle.quantity.proofs.added_to.Goals as goal
 
 pub returns-in_err-x : goal.returns-in_err-x
 unfolding added_to
-returns-in_err-x c = search rules
+returns-in_err-x g c = search rules
 
 pub returns : goal.returns
 unfolding added_to
-returns c = search rules
+returns g c = search rules

@@ -5,12 +5,12 @@ use Rattle.quantity.proofs.both.Goals as goal
 
 pub returns-in_err-x : goal.returns-in_err-x
 unfolding both
-returns-in_err-x c = search rules
+returns-in_err-x g c = search rules
 
 pub returns : goal.returns
 unfolding both
-returns c = search rules
+returns g c = search rules
 
 pub returns-in_err-y : goal.returns-in_err-y
 unfolding both
-returns-in_err-y c = search rules
+returns-in_err-y g c = search rules

@@ -5,8 +5,8 @@ use Rattle.quantity.proofs.plus.Goals as goal
 
 pub returns-in_err-x : goal.returns-in_err-x
 unfolding plus
-returns-in_err-x c = search rules
+returns-in_err-x g c = search rules
 
 pub returns : goal.returns
 unfolding plus
-returns c = search rules
+returns g c = search rules

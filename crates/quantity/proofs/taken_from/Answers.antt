@@ -5,8 +5,8 @@ use Rattle.quantity.proofs.taken_from.Goals as goal
 
 pub returns-in_err-x : goal.returns-in_err-x
 unfolding taken_from
-returns-in_err-x c = search rules
+returns-in_err-x g c = search rules
 
 pub returns : goal.returns
 unfolding taken_from
-returns c = search rules
+returns g c = search rules

@@ -5,5 +5,5 @@ use Rattle.text_heading.proofs.put_altitude.Goals as goal
 
 pub returns : goal.returns
 unfolding altitude_text
-returns c =
+returns g c =
     after c.put_angle-a.ensures (after c.put_seen-b.ensures (after c.put_remark-c.ensures c.put_byte.ensures))
