@@ -4,12 +4,12 @@
 #![tactic(auto)]
 
 ghost use Rattle.std.specs.Prelude.{◌≡◌};
-ghost use Rattle.quantity.specs.rules.Answer.{checked, shown_two};
+ghost use Rattle.quantity.specs.rules.Answer.{answered, checked, checked_by, shown_by, shown_two, shown_two_by, unless, lanes_by};
 ghost use Rattle.precess_angles.specs.rules.Days.{place_refusal};
 ghost use Rattle.chain.specs.rules.Obliquity.{mean_obliquity, mean_obliquity_of, true_obliquity};
 ghost use Rattle.chain.specs.rules.Chain.{point_refusal, angles_refusal, chain_rule};
-ghost use Rattle.chain.specs.rules.Night.{night_from, night_of, moved, moved_under, point_under, place_under};
-ghost use Rattle.chain.specs.rules.Two.{next_refusal, two_places_under};
+ghost use Rattle.chain.specs.rules.Night.{night_from, night_of, moved, moved_under, point_under_by, place_under_by};
+ghost use Rattle.chain.specs.rules.Two.{next_refusal, two_places_under_by};
 
 use aberr_args::Velocity;
 use edition::Edition;
@@ -17,7 +17,7 @@ use elementary::Direction;
 use helpers::{angle, time};
 use nutation_args::Nutations;
 use precess_angles::EqPrecession;
-use quantity::{Deg, EqPoint, Places, Rad, Refusal, Shift};
+use quantity::{Deg, EqPoint, Numbered, Places, Rad, Refusal, Shift};
 
 // ---- the obliquity
 
@@ -47,16 +47,16 @@ pub fn true_obliquity(mean: Rad, nut_in_oblq: Rad) -> Rad
 
 // ---- the night
 
-// All that two days fix: precession, nutation, the sine and cosine of the true obliquity, the Earth's velocity, and whether the
-// three angles that nutation goes by are refused.
+// All that two days fix: precession, nutation, the sine and cosine of the true obliquity, the Earth's velocity, and what refuses the
+// three angles that nutation goes by: refusals of the table, or any that have numbers, of which 0 refuses nothing.
 #[derive(Clone, Copy)]
-pub struct Night {
+pub struct Night<E = Refusal> {
     pub precession: EqPrecession,
     pub nutation: Nutations,
     pub sin_oblq: f64,
     pub cos_oblq: f64,
     pub velocity: Velocity,
-    pub check: Result<(), Refusal>,
+    pub check: Result<(), E>,
 }
 
 // Refusals of nutation in longitude and in obliquity and of the obliquity: 1; 3.
@@ -131,7 +131,7 @@ fn moved(p: EqPoint, n: Shift, a: Shift) -> EqPoint
 }
 
 // A precessed point moved under a night, from its direction.
-fn moved_under(p: EqPoint, d: Direction, night: Night) -> EqPoint
+fn moved_under<E: Numbered>(p: EqPoint, d: Direction, night: Night<E>) -> EqPoint
     ensures { result ≡ moved_under p d night }
 {
     let nutations = night.nutation;
@@ -143,47 +143,81 @@ fn moved_under(p: EqPoint, d: Direction, night: Night) -> EqPoint
     )
 }
 
-// A precessed point under a night. Refusals: 4.
-fn point_under(p: EqPoint, night: Night) -> Result<(f64, f64), Refusal>
-    ensures { shown_two result ≡ point_under p night }
+// The same check, with its refusal in the night's type.
+fn as_in_night<E: Numbered>(check: Result<(), Refusal>) -> Result<(), E>
+    ensures { checked_by E.numbered result ≡ checked check }
 {
-    quantity::lower(point_refusal(p), night.check)?;
+    match check {
+        Ok(()) => Ok(()),
+        Err(refusal) => Err(E::of(refusal)),
+    }
+}
+
+// The check, or `Ok` where its refusal has the number 0.
+fn none_at_nought<E: Numbered>(check: Result<(), E>) -> Result<(), E>
+    ensures { shown_by E.numbered result ≡ unless (checked_by E.numbered check) (answered tt) }
+{
+    match check {
+        Ok(()) => Ok(()),
+        Err(refusal) => {
+            if refusal.numbered() == 0 {
+                Ok(())
+            } else {
+                Err(refusal)
+            }
+        }
+    }
+}
+
+// A precessed point under a night. Refusals: the lowest of 1, 3, 4 and the night's.
+fn point_under<E: Numbered>(p: EqPoint, night: Night<E>) -> Result<(f64, f64), E>
+    ensures { shown_two_by E.numbered result ≡ point_under_by E.numbered p night }
+{
+    none_at_nought(quantity::lower(as_in_night(point_refusal(p)), night.check))?;
     let m = moved_under(p, elementary::toward(p), night);
     Ok((m.asc, m.dec))
 }
 
-// A star's place under a night, of a place that is not refused. Refusals: 14; 7; 4.
-pub fn place_under(asc: Rad, dec: Rad, night: Night) -> Result<(f64, f64), Refusal>
-    ensures { shown_two result ≡ place_under asc dec night }
+// A star's place under a night, of a place that is not refused. Refusals: those of its precession; then the lowest of 1, 3, 4 and the
+// night's.
+pub fn place_under<E: Numbered>(asc: Rad, dec: Rad, night: Night<E>) -> Result<(f64, f64), E>
+    ensures { shown_two_by E.numbered result ≡ place_under_by E.numbered asc dec night }
 {
     let precession = night.precession;
-    let (a, d) = precess::precessed_in(asc, dec, precession)?;
-    point_under(EqPoint { asc: a, dec: d }, night)
+    match precess::precessed_in(asc, dec, precession) {
+        Ok((a, d)) => point_under(EqPoint { asc: a, dec: d }, night),
+        Err(refusal) => Err(E::of(refusal)),
+    }
 }
 
 // ---- two stars side by side under a night: both are worked out to the end, whatever is refused
 
 // A star's refusal: its place's, or else that of its precessed point or of the night.
-fn next_refusal(
+fn next_refusal<E: Numbered>(
     place: Result<(), Refusal>,
     p: EqPoint,
-    night: Result<(), Refusal>,
-) -> Result<(), Refusal>
-    ensures { checked result ≡ next_refusal (checked place) p (checked night) }
+    night: Result<(), E>,
+) -> Result<(), E>
+    ensures { checked_by E.numbered result
+        ≡ next_refusal (checked place) p (checked_by E.numbered night) }
 {
-    place?;
-    quantity::lower(point_refusal(p), night)
+    match place {
+        Ok(()) => quantity::lower(as_in_night(point_refusal(p)), night),
+        Err(refusal) => Err(E::of(refusal)),
+    }
 }
 
-// Two stars' places under a night, side by side, of places that are not refused. Refusals of each: 14; 7; 4.
-pub fn two_places_under(
+// Two stars' places under a night, side by side, of places that are not refused. Refusals of each: those of its precession; then the
+// lowest of 1, 3, 4 and the night's.
+pub fn two_places_under<E: Numbered>(
     first_asc: Rad,
     first_dec: Rad,
     second_asc: Rad,
     second_dec: Rad,
-    night: Night,
-) -> Places
-    ensures { result ≡ two_places_under first_asc first_dec second_asc second_dec night }
+    night: Night<E>,
+) -> Places<E>
+    ensures { lanes_by E.numbered result
+        ≡ two_places_under_by E.numbered first_asc first_dec second_asc second_dec night }
 {
     let precession = night.precession;
     let night_check = night.check;

@@ -28,7 +28,7 @@ returns-in_err-store_refusal c =
     (refused_stores_nothing a.bytes.now a.day1 a.day2 a.status.now a.asc.now a.dec.now _ c.in_err-store_refusal.ensures)
 
 -- a call that was accepted, under its night, after its years
-begun : (edition : Edition) (s : List ℕ) (day1 day2 : Float) (status asc dec : List ℕ) {night : Night} (years : Float)
+begun : (edition : Edition) (s : List ℕ) (day1 day2 : Float) (status asc dec : List ℕ) {night : Night Refusal} (years : Float)
     → store_refusal s day1 day2 (length status) (length asc) (length dec) ≡ 0 → night ≡ night_of edition day1 day2
     → Begun (under night years) s day1 day2 status asc dec
 begun edition s day1 day2 status asc dec years none e =

@@ -4,4 +4,4 @@ use Rattle.chain.proofs.moved_under.Goals as goal
 
 pub returns : goal.returns
 unfolding moved_under
-returns c = rw (c.aberr_at.ensures, c.nutation_at.ensures) at c.moved.ensures
+returns g c = rw (c.aberr_at.ensures, c.nutation_at.ensures) at c.moved.ensures

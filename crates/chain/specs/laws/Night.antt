@@ -19,7 +19,7 @@ use Rattle.aberr.specs.rules.Star.{stell_aberr_in_eq_coords_rule, stell_aberr_in
 use Rattle.chain.specs.rules.Obliquity.{mean_obliquity_of, true_obliquity}
 use Rattle.chain.specs.rules.Chain.{point, sum, from_point, chain_rule, point_refusal, angles_refusal}
 use Rattle.chain.specs.laws.Point.{angles_named}
-use Rattle.chain.specs.rules.Night.{night_from, night_of, moved, moved_under, point_under, place_under}
+use Rattle.chain.specs.rules.Night.{night_from, night_of, moved, moved_under, point_under_by, point_under, place_under_by, place_under}
 
 unless_none : {A : Type 0} (n : ℕ) (a : Answer A) → n ≡ 0 → unless n a ≡ a
 unless_none n a e = rw e
@@ -48,7 +48,7 @@ module _ (edition : Edition) (asc dec : Rad) (day1 day2 : Float) where
 
   -- at a precessed point, the second day being accepted
   at_point : (p : Pair) → day_refusal day2 ≡ 0 → from_point p nutations day2 ≡ point_under (point p) (night_of edition day1 day2)
-  unfolding nutation_in_eq_coords_rule stell_aberr_in_eq_coords_rule nutation_in_eq_coords_in stell_aberr_in_eq_coords_in point_under moved_under moved night_of night_from
+  unfolding nutation_in_eq_coords_rule stell_aberr_in_eq_coords_rule nutation_in_eq_coords_in stell_aberr_in_eq_coords_in point_under_by moved_under moved night_of night_from
   at_point p ok =
       two_steps (point_refusal (point p)) (angles_refusal (nutation_of day2) oblq) (day_refusal day2)
       (pair (nutation_in_eq_coords_in (point p) (rad (first nutations)) (rad (second nutations)) oblq).asc.0
@@ -83,7 +83,7 @@ module _ (edition : Edition) (asc dec : Rad) (day1 day2 : Float) where
       ∙ at_point p ok
 
   pub chain_under_a_night : chain_rule edition asc dec day1 day2 ≡ unless (place_refusal asc dec day1 day2) (place_under asc dec (night_of edition day1 day2))
-  unfolding chain_rule place_under night_of night_from
+  unfolding chain_rule place_under_by night_of night_from
   chain_under_a_night =
       then_unless (place_refusal asc dec day1 day2) (precessed_in asc dec (eq_precession_of edition day1 day2)) steps
       ∙ unless_cong (place_refusal asc dec day1 day2) (then (precessed_in asc dec (eq_precession_of edition day1 day2)) steps)

@@ -7,6 +7,7 @@ use Rattle.double.specs.notions.Greatest.{greatest}
 use Rattle.double.specs.notions.Code.{of_number}
 use Rattle.double.specs.laws.Apart.{apart}
 use Rattle.quantity.specs.declared.Shift.{Shift}
+use Rattle.quantity.specs.declared.Refusal.{Refusal}
 use Rattle.quantity.specs.rules.Angle.{rad}
 use Rattle.quantity.specs.rules.Refusal.{epoch}
 use Rattle.quantity.specs.declared.EqPoint.{EqPoint}
@@ -48,12 +49,12 @@ nutation_taken_away_excluded = apart of_rad refl
 
 pub night_of_one_day_excluded : (edition : Edition) → night_of_one_day edition epoch later ≢ night_of edition epoch later
 unfolding computed
-night_of_one_day_excluded edition = apart (λ (n : Night). of_rad n.precession.xi) refl
+night_of_one_day_excluded edition = apart (λ (n : Night Refusal). of_rad n.precession.xi) refl
 
 -- an edition ignored, over the century that ends at 2451545.0
 pub night_by_edition : night_of Published earlier epoch ≢ night_of Crate earlier epoch
 unfolding computed
-night_by_edition = apart (λ (n : Night). of_rad n.precession.zeta) refl
+night_by_edition = apart (λ (n : Night Refusal). of_rad n.precession.zeta) refl
 
 -- ---- a star under a night
 

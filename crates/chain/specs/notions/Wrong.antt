@@ -3,6 +3,7 @@ use Rattle.std.specs.Prelude.{ℕ, Float}
 use Rattle.double.specs.rules.Operations.{◌⊕◌, ◌⊖◌, ◌⊗◌}
 use Rattle.quantity.specs.declared.Deg.{Deg}
 use Rattle.quantity.specs.declared.Rad.{Rad}
+use Rattle.quantity.specs.declared.Refusal.{Refusal}
 use Rattle.quantity.specs.declared.EqPoint.{EqPoint}
 use Rattle.quantity.specs.declared.Shift.{Shift}
 use Rattle.quantity.specs.rules.Angle.{deg, rad}
@@ -49,7 +50,7 @@ chain_by obliquity edition asc dec day1 day2 =
     (λ (dn : Pair). then (stell_aberr_in_eq_coords_rule (point p) day2) (λ (da : Pair). answered (sum p dn da)))))
 
 -- precession from the first day to itself
-abbrev pub night_of_one_day : Edition → Float → Float → Night
+abbrev pub night_of_one_day : Edition → Float → Float → Night Refusal
 night_of_one_day edition day1 day2 =
     let n = nutation_of day2 in
     night_from (eq_precession_of edition day1 day1) n (true_obliquity (mean_obliquity_of day2) n.oblq) (velocity_of day2)
@@ -62,7 +63,7 @@ precessed_point_not_steep p = lower (angle_refusal (rad p.asc)) (steep_refusal (
 abbrev pub aberration_added_first : EqPoint → Shift → Shift → EqPoint
 aberration_added_first p n a = record { asc = (p.asc ⊕ a.asc.0) ⊕ n.asc.0; dec = (p.dec ⊕ n.dec.0) ⊕ a.dec.0 }
 
-abbrev pub angles_of_the_night_not_tested : EqPoint → Night → Answer Pair
+abbrev pub angles_of_the_night_not_tested : EqPoint → Night Refusal → Answer Pair
 angles_of_the_night_not_tested p night =
     unless (point_refusal p)
     (answered (pair_of (moved_under p (direction_of p) night)))

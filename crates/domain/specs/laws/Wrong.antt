@@ -37,7 +37,7 @@ use Rattle.chain.specs.notions.Still.{still}
 use Rattle.list.specs.declared.Star.{Star}
 use Rattle.list.specs.rules.Record.{quarter, in_range}
 use Rattle.star_store.specs.rules.Star.{star_refusal}
-use Rattle.batch.specs.rules.Star.{star_under}
+use Rattle.batch.specs.rules.Star.{star_under_by, star_under}
 use Rattle.domain_accepted.specs.notions.Within.{Within}
 use Rattle.domain.specs.notions.Nutation.{Moon, MoonNear}
 use Rattle.domain.specs.notions.Wrong.{StatusFiveForFour, StatusThreeLeftOut}
@@ -104,7 +104,7 @@ abbrev pole : Star
 pole = record { number = 0; asc = 0; dec = pos quarter; asc_rate = pos 0; dec_rate = pos 0 }
 
 pub status_five_for_four_excluded : ¬ StatusFiveForFour (status_of (star_under pole (still 0) zero))
-unfolding computed star_under star_refusal in_range
+unfolding computed star_under_by star_refusal in_range
 status_five_for_four_excluded (inl e) = apart of_number refl e
 status_five_for_four_excluded (inr (inl e)) = apart of_number refl e
 status_five_for_four_excluded (inr (inr (inl e))) = apart of_number refl e
@@ -117,7 +117,7 @@ abbrev past_the_pole : Star
 past_the_pole = record { number = 0; asc = 0; dec = pos quarter; asc_rate = pos 0; dec_rate = pos 1 }
 
 pub status_three_left_out_excluded : ¬ StatusThreeLeftOut (status_of (star_under past_the_pole (still 0) one))
-unfolding computed star_under star_refusal in_range
+unfolding computed star_under_by star_refusal in_range
 status_three_left_out_excluded (inl e) = apart of_number refl e
 status_three_left_out_excluded (inr (inl e)) = apart of_number refl e
 status_three_left_out_excluded (inr (inr (inl e))) = apart of_number refl e

@@ -3,6 +3,7 @@ use Rattle.std.proofs.Common.{rules}
 use mathlib.Core.Path.{ap, ◌∙◌}
 use Rattle.quantity.specs.rules.Answer.{then}
 use Rattle.quantity.specs.laws.Answer.{then_two_answered}
+use Rattle.quantity.specs.declared.Refusal.{Refusal}
 use Rattle.chain.specs.declared.Night.{Night}
 use Rattle.chain.specs.rules.Obliquity.{mean_obliquity_of}
 use Rattle.sidereal.specs.rules.Mean.{mean_of}
@@ -21,7 +22,7 @@ returns c =
     let a = c.args in
     let sidereal-time =
     c.sidereal_with.ensures
-    ∙ ap (λ (night : Night). apparent_from (mean_of a.day2) night.nutation (mean_obliquity_of a.day2)) c.night_of-night.ensures
+    ∙ ap (λ (night : Night Refusal). apparent_from (mean_of a.day2) night.nutation (mean_obliquity_of a.day2)) c.night_of-night.ensures
     ∙ apparent_of_a_night a.edition a.day1 a.day2
     in
     then_two_answered _ (rw (c.years_between.ensures, c.night_of-night.ensures) at c.star_under.ensures) c.in_ok-a.was

@@ -22,7 +22,7 @@ use Rattle.list.specs.declared.Star.{Star}
 use Rattle.list.specs.rules.Record.{in_range}
 use Rattle.star_store.specs.rules.Star.{star_refusal}
 use Rattle.star_store.specs.notions.Stated.{moving}
-use Rattle.batch.specs.rules.Star.{star_rule, star_under}
+use Rattle.batch.specs.rules.Star.{star_rule, star_under_by, star_under}
 use Rattle.batch.specs.laws.Star.{star_under_a_night}
 use Rattle.sidereal.specs.rules.Mean.{mean_of}
 use Rattle.sidereal.specs.rules.Apparent.{apparent_of}
@@ -61,11 +61,11 @@ abbrev of_staying : Triple
 of_staying = triple (bits 0x4041abdfde719e84) (bits 0xc06215080863985f) (bits 0xc034612451b61fac)
 
 moving_worked_out : heading_from Crate moving r0 r½ nutation velocity ≡ answered of_moving
-unfolding computed sidereal.computed star_under star_refusal in_range
+unfolding computed sidereal.computed star_under_by star_refusal in_range
 moving_worked_out = refl
 
 staying_worked_out : heading_from Crate (stays moving) r0 r½ nutation velocity ≡ answered of_staying
-unfolding computed sidereal.computed star_under star_refusal in_range
+unfolding computed sidereal.computed star_under_by star_refusal in_range
 staying_worked_out = refl
 
 moving_in : heading_in Crate moving earlier epoch r0 r½ ≡ answered of_moving
@@ -105,7 +105,7 @@ rates_forgotten_excluded e = apart_by_rates (sym moving_in ∙ sym e ∙ staying
 -- Meeus's precession, by which the heading is 34.5794928923107
 published_worked_out : heading_from Published moving r0 r½ nutation velocity
     ≡ answered (triple (bits 0x40414a2cd2b65e94) (bits 0xc0622d74cb52685b) (bits 0xc0343730a63ea8c3))
-unfolding computed sidereal.computed star_under star_refusal in_range
+unfolding computed sidereal.computed star_under_by star_refusal in_range
 published_worked_out = refl
 
 apart_by_edition : answered of_moving ≢ answered (triple (bits 0x40414a2cd2b65e94) (bits 0xc0622d74cb52685b) (bits 0xc0343730a63ea8c3))
@@ -126,7 +126,7 @@ mean_worked_out =
     (place_from_them Crate moving ∙ (λ i. place_from Crate moving (nutation_of_the_epoch i) (velocity_of_the_epoch i)))
 
 apart_by_nutation : mean_from ≢ answered of_moving
-unfolding computed sidereal.computed star_under star_refusal in_range
+unfolding computed sidereal.computed star_under_by star_refusal in_range
 apart_by_nutation = apart (of_answer of_triple) refl
 
 pub mean_for_apparent_excluded : mean_for_apparent Crate moving earlier epoch r0 r½ ≢ heading_in Crate moving earlier epoch r0 r½

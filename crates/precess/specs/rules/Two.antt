@@ -3,6 +3,7 @@
 use Rattle.double.specs.rules.Operations.{◌⊕◌}
 use Rattle.quantity.specs.declared.Rad.{Rad}
 use Rattle.quantity.specs.declared.Places.{Places}
+use Rattle.quantity.specs.declared.Refusal.{Refusal}
 use Rattle.root.specs.rules.Root.{root_of}
 use Rattle.elementary.specs.declared.Direction.{Direction}
 use Rattle.elementary.specs.rules.Direction.{direction_of}
@@ -11,7 +12,7 @@ use Rattle.precess_angles.specs.declared.EqPrecession.{EqPrecession}
 use Rattle.precess_arcs.specs.rules.Arcs.{arcs_check, arcs_two}
 use Rattle.precess.specs.rules.Equatorial.{arcs_of}
 
-unfoldable pub precessed_two_from : Direction → Direction → EqPrecession → Places
+unfoldable pub precessed_two_from : Direction → Direction → EqPrecession → Places Refusal
 precessed_two_from d e precession =
     let a = arcs_of d precession in
     let b = arcs_of e precession in
@@ -25,7 +26,7 @@ precessed_two_from d e precession =
       second_check = arcs_check b.up b.across b.height;
     }
 
-unfoldable pub precessed_two : Rad → Rad → Rad → Rad → EqPrecession → Places
+unfoldable pub precessed_two : Rad → Rad → Rad → Rad → EqPrecession → Places Refusal
 unfolding precessed_two_from
 precessed_two asc dec asc2 dec2 precession =
     precessed_two_from (direction_of (record { asc = asc.0 ⊕ precession.xi.0; dec = dec.0 }))

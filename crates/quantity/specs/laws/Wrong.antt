@@ -6,6 +6,7 @@ use Rattle.double.specs.rules.Table.{decimal}
 use Rattle.double.specs.notions.Code.{of_number}
 use Rattle.double.specs.laws.Apart.{apart}
 use Rattle.quantity.specs.declared.Places.{Places}
+use Rattle.quantity.specs.declared.Refusal.{Refusal}
 use Rattle.quantity.specs.declared.Refusal.TheVariants.{Arcsine}
 use Rattle.quantity.specs.rules.Angle.{rad}
 use Rattle.quantity.specs.rules.Answer.{answered, first_place, second_place, plus, added_to, taken_from, both}
@@ -21,7 +22,7 @@ use Rattle.quantity.specs.notions.Stated.{r1, r2}
 
 -- ---- two places side by side: the first is refused, the second is not
 
-abbrev beside : Places
+abbrev beside : Places Refusal
 beside =
     record {
       first_asc = one;

@@ -5,6 +5,7 @@ use Rattle.double.specs.rules.Operations.{bits, zero, ◌⊖◌}
 use Rattle.double.specs.rules.Sign.{size, is_finite}
 use Rattle.quantity.specs.declared.Rad.{Rad}
 use Rattle.quantity.specs.declared.Places.{Places}
+use Rattle.quantity.specs.declared.Refusal.{Refusal}
 use Rattle.quantity.specs.rules.Angle.{rad}
 use Rattle.quantity.specs.rules.Answer.{Answer, answered, refused, checked, Pair, pair, unless, with, then}
 use Rattle.quantity.specs.rules.Refusal.{lower, past, outside, epoch, farthest, most_distance, most_height, latitude_refusal}
@@ -12,15 +13,15 @@ use Rattle.quantity.specs.rules.Refusal.{lower, past, outside, epoch, farthest, 
 -- ---- two places side by side
 
 -- whatever its number
-abbrev pub refused_place_answered : Places → Answer Pair
+abbrev pub refused_place_answered : Places Refusal → Answer Pair
 refused_place_answered p = answered (pair p.first_asc p.first_dec)
 
 -- refused by the other's number
-abbrev pub refused_by_the_other : Places → Answer Pair
+abbrev pub refused_by_the_other : Places Refusal → Answer Pair
 refused_by_the_other p = unless (checked p.second_check) (answered (pair p.first_asc p.first_dec))
 
 -- with the other's declination
-abbrev pub places_mixed : Places → Answer Pair
+abbrev pub places_mixed : Places Refusal → Answer Pair
 places_mixed p = unless (checked p.second_check) (answered (pair p.second_asc p.first_dec))
 
 -- ---- what is done with answers

@@ -5,6 +5,7 @@ use Rattle.double.specs.rules.Operations.{zero, one, ◌⊕◌, ◌⊗◌}
 use Rattle.double.specs.rules.Sign.{size}
 use Rattle.quantity.specs.declared.Rad.{Rad}
 use Rattle.quantity.specs.declared.Places.{Places}
+use Rattle.quantity.specs.declared.Refusal.{Refusal}
 use Rattle.quantity.specs.rules.Angle.{rad}
 use Rattle.quantity.specs.rules.Answer.{Answer, Pair, pair, first, second, with, both, second_place}
 use Rattle.edition.specs.declared.Edition.{Edition}
@@ -102,7 +103,7 @@ abbrev pub arguments_traded : Vector → Answer Pair
 arguments_traded v = both (arctangent_in (part v 0) (part v 1)) (arcsine_in (part v 2))
 
 -- the second place for the first
-abbrev pub lanes_traded : Places → Answer Pair
+abbrev pub lanes_traded : Places Refusal → Answer Pair
 lanes_traded = second_place
 
 -- ---- not promised

@@ -4,6 +4,7 @@ use Rattle.std.specs.Prelude.{[], ◌∷◌}
 use Rattle.double.specs.rules.Operations.{◌⊗◌}
 use Rattle.quantity.specs.declared.Rad.{Rad}
 use Rattle.quantity.specs.declared.Places.{Places}
+use Rattle.quantity.specs.declared.Refusal.{Refusal}
 use Rattle.quantity.specs.rules.Answer.{Answer, Pair, both}
 use Rattle.root.specs.rules.Root.{root_of}
 use Rattle.elementary.specs.declared.Direction.{Direction}
@@ -41,7 +42,7 @@ unfoldable pub rotated_in : Matrix → Rad → Rad → Answer Pair
 rotated_in m asc dec = place_along (turned m asc dec)
 
 -- two places side by side, from their directions, every float of both fixed whatever is refused
-unfoldable pub rotated_two : Matrix → Direction → Direction → Places
+unfoldable pub rotated_two : Matrix → Direction → Direction → Places Refusal
 rotated_two m d e =
     let v = vector_under m d in
     let w = vector_under m e in

@@ -9,6 +9,7 @@ use Rattle.star_store.specs.laws.Known.{known_both, known_arctangent, known_arcs
 use Rattle.star_store.specs.laws.Star.{earlier_named, star_named, in_its_lane}
 use Rattle.star_store.specs.rules.Star.{star_refusal, earlier}
 use Rattle.quantity.specs.declared.Places.{Places}
+use Rattle.quantity.specs.declared.Refusal.{Refusal}
 use Rattle.quantity.specs.laws.Answer.{named_of_check}
 use Rattle.rotation.specs.rules.Matrix.{Matrix}
 use Rattle.rotation.specs.rules.Place.{place_along, toward, rotated_in, rotated_two}
@@ -16,7 +17,7 @@ use Rattle.rotation.specs.laws.Two.{first_rotated, second_rotated}
 use Rattle.rotation_list.specs.rules.Rotate.{rotated_star, two_stars_rotated}
 
 module _ (m : Matrix) (years : Float) (a b : Star) where
-  abbrev places : Places
+  abbrev places : Places Refusal
   places = rotated_two m (toward (asc_of a years) (dec_of a years)) (toward (asc_of b years) (dec_of b years))
 
   pub first_lane : unless (earlier (star_refusal a years) (checked places.first_check)) (answered (pair places.first_asc places.first_dec)) ≡ rotated_star m years a
@@ -29,7 +30,7 @@ module _ (m : Matrix) (years : Float) (a b : Star) where
   unfolding two_stars_rotated
   first_star =
       ap (λ (n : ℕ). unless n (answered (pair places.first_asc places.first_dec)))
-      (earlier_named (star_refusal a years) places.first_check (star_named a years) (named_of_check places.first_check))
+      (earlier_named (star_refusal a years) (checked places.first_check) (star_named a years) (named_of_check places.first_check))
       ∙ first_lane
 
   pub second_lane : unless (earlier (star_refusal b years) (checked places.second_check)) (answered (pair places.second_asc places.second_dec)) ≡ rotated_star m years b
@@ -42,7 +43,7 @@ module _ (m : Matrix) (years : Float) (a b : Star) where
   unfolding two_stars_rotated
   second_star =
       ap (λ (n : ℕ). unless n (answered (pair places.second_asc places.second_dec)))
-      (earlier_named (star_refusal b years) places.second_check (star_named b years) (named_of_check places.second_check))
+      (earlier_named (star_refusal b years) (checked places.second_check) (star_named b years) (named_of_check places.second_check))
       ∙ second_lane
 
 -- so a star has one place, whatever star it stands beside and on whichever side

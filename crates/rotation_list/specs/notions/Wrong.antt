@@ -1,6 +1,7 @@
 -- Wrong variants of a star under a rotation.
 use Rattle.std.specs.Prelude.{Float}
 use Rattle.quantity.specs.declared.Places.{Places}
+use Rattle.quantity.specs.declared.Refusal.{Refusal}
 use Rattle.quantity.specs.rules.Angle.{rad}
 use Rattle.quantity.specs.rules.Answer.{Answer, Pair, pair, first, second, unless, with, second_place}
 use Rattle.list.specs.declared.Star.{Star}
@@ -23,5 +24,5 @@ rates_after_the_turn m years star =
     (rotated_in m (record_asc star) (record_dec star)))
 
 -- the second star's place for the first's
-abbrev pub lanes_traded : Places → Answer Pair
+abbrev pub lanes_traded : Places Refusal → Answer Pair
 lanes_traded = second_place

@@ -24,7 +24,7 @@ rotated_star m years star = unless (star_refusal star years) (rotated_in m (asc_
 
 -- two stars side by side, every float of both fixed whatever is refused; `first_star` and `second_star` in laws/Star say that each has
 -- the place that it has alone
-unfoldable pub two_stars_rotated : Matrix → Float → Star → Star → Places
+unfoldable pub two_stars_rotated : Matrix → Float → Star → Star → Places Refusal
 two_stars_rotated m years a b =
     let p = rotated_two m (toward (asc_of a years) (dec_of a years)) (toward (asc_of b years) (dec_of b years)) in
     record {

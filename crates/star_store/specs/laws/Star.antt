@@ -1,15 +1,14 @@
 -- A star's own refusals: they come before those of its place, alone or beside another star; and what holds of a star that they let pass.
-use Rattle.std.specs.Prelude.{ℕ, suc, ◌≡◌, refl, Bool, true, false, cond, pos, eqb, ⊤, Float, Result}
+use Rattle.std.specs.Prelude.{ℕ, suc, ◌≡◌, refl, Bool, true, false, cond, pos, eqb, Float}
 use Rattle.std.proofs.Common.{arith, ap, ◌∙◌}
 use Rattle.std.proofs.Math.Dec.{eqb-suc-zero}
 use Rattle.std.specs.Float.Ieee.{neg}
 use Rattle.double.specs.rules.Order.{Between}
 use Rattle.double.specs.rules.Table.{over}
 use Rattle.quantity.specs.rules.Angle.{HALF}
-use Rattle.quantity.specs.declared.Refusal.{Refusal}
 use Rattle.quantity.specs.notions.Named.{IsNamed}
 use Rattle.quantity.specs.laws.Answer.{named_latitude}
-use Rattle.quantity.specs.rules.Answer.{Answer, answered, refused, checked, named, Pair, unless}
+use Rattle.quantity.specs.rules.Answer.{Answer, answered, refused, Pair, unless}
 use Rattle.quantity.specs.rules.Refusal.{day_refusal, angle_refusal, latitude_refusal}
 use Rattle.quantity.specs.laws.Refusal.{past_none, finite_half}
 use Rattle.quantity.specs.laws.Accepted.{lower_none}
@@ -43,10 +42,10 @@ star_named star years = by_case (is_kept star) (in_range star)
     by_case true false = refl
     by_case false b = refl
 
-pub earlier_named : (m : ℕ) (c : Result ⊤ Refusal) → IsNamed m → IsNamed (checked c) → checked (named (earlier m (checked c))) ≡ earlier m (checked c)
-earlier_named m c h k = by_case (eqb m 0)
+pub earlier_named : (m n : ℕ) → IsNamed m → IsNamed n → IsNamed (earlier m n)
+earlier_named m n h k = by_case (eqb m 0)
   where
-    by_case : (b : Bool) → IsNamed (cond b (checked c) m)
+    by_case : (b : Bool) → IsNamed (cond b n m)
     by_case true = k
     by_case false = h
 
