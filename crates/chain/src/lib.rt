@@ -47,8 +47,8 @@ pub fn true_obliquity(mean: Rad, nut_in_oblq: Rad) -> Rad
 
 // ---- the night
 
-// All that two days fix: precession, nutation, the sine and cosine of the true obliquity, the Earth's velocity, and what refuses the
-// three angles that nutation goes by: refusals of the table, or any that have numbers, of which 0 refuses nothing.
+// Constants derived from two dates: precession, nutation, the sine and cosine of the true obliquity, the Earth's velocity, and the check
+// of the three angles that nutation goes by. Its refusals are the table's, or any that have numbers; the number 0 refuses nothing.
 #[derive(Clone, Copy)]
 pub struct Night<E = Refusal> {
     pub precession: EqPrecession,
@@ -143,7 +143,7 @@ fn moved_under<E: Numbered>(p: EqPoint, d: Direction, night: Night<E>) -> EqPoin
     )
 }
 
-// The same check, with its refusal in the night's type.
+// Converts a check whose refusals are the table's to one whose refusals are a night's; the number stays.
 fn as_in_night<E: Numbered>(check: Result<(), Refusal>) -> Result<(), E>
     ensures { checked_by E.numbered result ≡ checked check }
 {
@@ -153,7 +153,7 @@ fn as_in_night<E: Numbered>(check: Result<(), Refusal>) -> Result<(), E>
     }
 }
 
-// The check, or `Ok` where its refusal has the number 0.
+// Passes a check on; a refusal with the number 0 becomes `Ok`.
 fn none_at_nought<E: Numbered>(check: Result<(), E>) -> Result<(), E>
     ensures { shown_by E.numbered result ≡ unless (checked_by E.numbered check) (answered tt) }
 {

@@ -30,7 +30,7 @@ use Rattle.batch.specs.laws.Known.{known_under}
 
 -- ---- side by side
 
--- each of two stars side by side has the place that it has alone, under a night whose refusals have numbers by f
+-- each of two stars side by side has the place that it has alone, under a night whose refusals f numbers
 module _ {E : Type 0} (f : E → ℕ) (a b : Star) (night : Night E) (years : Float) where
   pub first_star_by : first_answer (two_stars_under_by f a b night years) ≡ star_under_by f a night years
   unfolding two_stars_under_by star_under_by
@@ -46,7 +46,7 @@ module _ {E : Type 0} (f : E → ℕ) (a b : Star) (night : Night E) (years : Fl
       in_its_lane b years p.second_refusal (pair p.second_asc p.second_dec) _
       (second_under_by f (asc_of a years) (dec_of a years) (asc_of b years) (dec_of b years) night)
 
--- under one whose refusals are the table's
+-- each of two stars side by side has the place that it has alone, under a night whose refusals are the table's
 module _ (a b : Star) (night : Night Refusal) (years : Float) where
   abbrev lanes : Lanes
   lanes = two_stars_under_by number a b night years

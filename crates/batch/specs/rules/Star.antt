@@ -18,7 +18,8 @@ star_rule edition star day1 day2 =
     let years = years_between day1 day2 in
     unless (star_refusal star years) (chain_rule edition (asc_of star years) (dec_of star years) day1 day2)
 
--- the same under a night whose refusals have numbers by f, and whose days are not refused; the right ascension of a star in range never is
+-- a star's answer under a night whose days are not refused; f numbers the night's refusals
+-- the right ascension of a star in range is never refused
 unfoldable pub star_under_by : {E : Type 0} → (E → ℕ) → Star → Night E → Float → Answer Pair
 star_under_by f star night years = unless (star_refusal star years) (place_under_by f (asc_of star years) (dec_of star years) night)
 
@@ -36,7 +37,7 @@ two_stars_under_by f a b night years =
       second_refusal = earlier (star_refusal b years) p.second_refusal;
     }
 
--- both under one whose refusals are the table's
+-- the answer of a star, and of two side by side, under a night whose refusals are the table's
 abbrev pub star_under : Star → Night Refusal → Float → Answer Pair
 star_under star night years = star_under_by number star night years
 

@@ -34,7 +34,7 @@ next_named n p k h i = by_case (eqb n 0)
     by_case true = named_lower (point_refusal p) k (point_named p) i
     by_case false = h
 
--- from the precessed place, which n refuses where it is not 0
+-- a star's reduction from its precessed place, which n refuses where it is not 0
 under_in_steps : {E : Type 0} (f : E → ℕ) (asc dec : Rad) (night : Night E) (n : ℕ) (p : EqPoint)
     → unless n (answered (pair_of p)) ≡ precessed_in asc dec night.precession
     → unless (next_refusal n p (checked_by f night.check)) (answered (pair_of (moved_under p (direction_of p) night))) ≡ place_under_by f asc dec night
@@ -45,7 +45,7 @@ under_in_steps f asc dec night n p place =
     ∙ sym (then_unless n (answered (pair_of p)) under)
     ∙ ap (λ (a : Answer Pair). then a under) place
 
--- under a night whose refusals have numbers by f
+-- each of two stars side by side is reduced as it is alone, under a night whose refusals f numbers
 module _ {E : Type 0} (f : E → ℕ) (asc dec asc2 dec2 : Rad) (night : Night E) where
   pub first_under_by : first_answer (two_places_under_by f asc dec asc2 dec2 night) ≡ place_under_by f asc dec night
   unfolding two_places_under_by
@@ -61,7 +61,7 @@ module _ {E : Type 0} (f : E → ℕ) (asc dec asc2 dec2 : Rad) (night : Night E
       under_in_steps f asc2 dec2 night (checked t.second_check) (record { asc = t.second_asc; dec = t.second_dec })
       (second_precessed asc dec asc2 dec2 night.precession)
 
--- under one whose refusals are the table's: each lane's is a number of the table, and each lane the star's reduction alone
+-- under a night whose refusals are the table's, each lane's refusal is a number of the table, and each lane is the star's reduction alone
 module _ (asc dec asc2 dec2 : Rad) (night : Night Refusal) where
   abbrev lanes : Lanes
   lanes = two_places_under_by number asc dec asc2 dec2 night

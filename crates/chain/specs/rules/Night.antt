@@ -36,14 +36,14 @@ night_of edition day1 day2 =
 unfoldable pub moved : EqPoint → Shift → Shift → EqPoint
 moved p n a = record { asc = (p.asc ⊕ n.asc.0) ⊕ a.asc.0; dec = (p.dec ⊕ n.dec.0) ⊕ a.dec.0 }
 
--- from its direction
+-- a precessed point moved by nutation and aberration under a night, from its direction
 unfoldable pub moved_under : {E : Type 0} → EqPoint → Direction → Night E → EqPoint
 moved_under p d night = moved p (nutation_at d night.nutation night.sin_oblq night.cos_oblq) (aberr_at d night.velocity)
 
 abbrev pub pair_of : EqPoint → Pair
 pair_of p = pair p.asc p.dec
 
--- under a night whose refusals have numbers by f, 0 being none
+-- a precessed point, and a star's place, reduced under a night; f numbers the night's refusals, 0 being none
 unfoldable pub point_under_by : {E : Type 0} → (E → ℕ) → EqPoint → Night E → Answer Pair
 point_under_by f p night =
     unless (lower (point_refusal p) (checked_by f night.check)) (answered (pair_of (moved_under p (direction_of p) night)))
@@ -51,7 +51,7 @@ point_under_by f p night =
 unfoldable pub place_under_by : {E : Type 0} → (E → ℕ) → Rad → Rad → Night E → Answer Pair
 place_under_by f asc dec night = then (precessed_in asc dec night.precession) (λ (p : Pair). point_under_by f (point p) night)
 
--- under one whose refusals are the table's
+-- a precessed point, and a star's place, reduced under a night whose refusals are the table's
 abbrev pub point_under : EqPoint → Night Refusal → Answer Pair
 point_under p night = point_under_by number p night
 

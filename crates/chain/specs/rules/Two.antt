@@ -17,7 +17,7 @@ use Rattle.chain.specs.rules.Night.{moved_under}
 abbrev pub next_refusal : ℕ → EqPoint → ℕ → ℕ
 next_refusal n p nightRefusal = cond (eqb n 0) (lower (point_refusal p) nightRefusal) n
 
--- from both precessed places
+-- two stars reduced under a night from their precessed places
 unfoldable pub reduced_from : {E : Type 0} → (E → ℕ) → Lanes → Night E → Lanes
 reduced_from f t night =
     let p : EqPoint = record { asc = t.first_asc; dec = t.first_dec } in
@@ -33,11 +33,11 @@ reduced_from f t night =
       second_refusal = next_refusal t.second_refusal q (checked_by f night.check);
     }
 
--- under a night whose refusals have numbers by f, 0 being none
+-- two stars reduced side by side under a night; f numbers the night's refusals, 0 being none
 unfoldable pub two_places_under_by : {E : Type 0} → (E → ℕ) → Rad → Rad → Rad → Rad → Night E → Lanes
 unfolding reduced_from
 two_places_under_by f asc dec asc2 dec2 night = reduced_from f (lanes_by number (precessed_two asc dec asc2 dec2 night.precession)) night
 
--- under one whose refusals are the table's
+-- two stars reduced side by side under a night whose refusals are the table's
 abbrev pub two_places_under : Rad → Rad → Rad → Rad → Night Refusal → Places Refusal
 two_places_under asc dec asc2 dec2 night = named_lanes (two_places_under_by number asc dec asc2 dec2 night)
